@@ -1,4 +1,4 @@
--- The same build again: after a successful build, it starts no child for a unit.
+-- Law: after a successful build, the same build starts no child for a unit.
 use Rattle.std.specs.Prelude.{◌≡◌, [], ℕ, true, List, Ok}
 use Rattle.pb_build_result.specs.declared.summary.Summary.{Summary}
 use Rattle.pb_run_flight.specs.declared.turn.Step.{Step}
@@ -9,8 +9,9 @@ use Rattle.pb_build_turns.specs.Executor.{BuildState}
 use Rattle.pb_build.specs.Ending.{Builds}
 use Rattle.pb_build.specs.Headline.{RestsOn}
 
--- A build over true records with an honest child succeeded. In the world that it left, the same
--- build reports no unit as started, whichever turn it uses, unless a fault ends it.
+-- A build over true records, with an honest child, has succeeded. Then the same build starts no
+-- child for a unit in the world that was left, whichever turn decides its steps. A fault may still
+-- end it.
 abbrev pub SameBuildStartsNone : {S T : Type 0} → (S → List ℕ → List ℕ → Step → S → Type 0) → (T → List ℕ → List ℕ → Step → T → Type 0) → Type 0
 SameBuildStartsNone {S} {T} Turns OtherTurns = (child : Answers) (options : Options) (from last : S) (again end : T) (summary other : Summary) (first second third fourth : BuildState)
     → RestsOn TrustedRecords child options first.world → Builds true child Turns options from last (Ok summary) first second → summary.success ≡ true

@@ -1,5 +1,5 @@
--- A build of a given plan, whatever the plan's moment and options are. The plan need not be a plan
--- of this world.
+-- A build of a given plan. The plan may come from another moment and from other options, so it need
+-- not be a plan of this world.
 use Rattle.std.specs.Prelude.{◌≡◌, ◌⊎◌, ℕ, Bool, max, List, Some, None, IsTrue, Result, Ok, Err}
 use Rattle.pb_build_result.specs.declared.fault.BuildFault.{BuildFault}
 use Rattle.pb_build_result.specs.declared.fault.BuildFault.TheVariants.{Toolchain}
@@ -26,9 +26,9 @@ use Rattle.pb_build.specs.declared.builder.BuildPlan.{BuildPlan}
 use Rattle.pb_build.specs.declared.builder.Prepared.{Prepared}
 use Rattle.pb_build.specs.declared.environment.Environment.{Environment}
 
--- what the units of this project start from: the project; its setup by these options, this
--- environment and the compiler's version in this world; and the next run number, one above the
--- greatest number that the project's records have or name
+-- What the units of this project start from: the project, its setup and the next run number. The
+-- setup comes from these options, this environment, and the version that the compiler reports in
+-- this world. The run number is one above the greatest that the project's records have or name.
 pub record IsReadyFor (child : Answers) (options : Options) (environment : Environment) (project : Project) (w : World) (prepared : Prepared) : Type 0 where
   pub toolchain : List ℕ
   pub says : toolchain_of child environment project (from_nothing project.workspace.target w) ≡ Some toolchain
@@ -36,13 +36,13 @@ pub record IsReadyFor (child : Answers) (options : Options) (environment : Envir
   pub project_is : prepared.project ≡ project
   pub next : prepared.store.next ≡ next_in (records_folder project) w
 
--- the fault is `Toolchain` only if the compiler does not report its version
+-- if the fault is `Toolchain`, the compiler does not report its version
 abbrev pub IsSilentFault : Answers → Environment → Project → World → BuildFault → Type 0
 IsSilentFault child environment project w Toolchain = toolchain_of child environment project (from_nothing project.workspace.target w) ≡ None
 IsSilentFault child environment project w _ = Unit {0}
 
--- the units of a plan were prepared, with the plan's own environment and project: the compiler
--- answered the query, the project's records were opened, and nothing was changed or written
+-- The units of a plan were prepared, with the plan's own environment and project. The compiler
+-- answered the query, and the project's records were opened. Nothing was changed or written.
 pub record IsReadied (is_modelled : Bool) (child : Answers) (options : Options) (plan : BuildPlan) (prepared : Prepared) (old new : BuildState) : Type 0 where
   pub ready : IsTrue is_modelled → IsReadyFor child options plan.environment plan.project old.world prepared
   pub project : prepared.project ≡ plan.project
@@ -54,8 +54,8 @@ pub record IsReadied (is_modelled : Bool) (child : Answers) (options : Options) 
   pub most : new.most ≡ max old.most 1
   pub heard : new.heard ≡ old.heard
 
--- the preparation ended with a fault of the query or of opening the records; nothing was changed or
--- written
+-- The units of a plan could not be prepared, because of a fault of the query or of opening the
+-- records. Nothing was changed or written.
 pub record IsUnready (is_modelled : Bool) (child : Answers) (plan : BuildPlan) (fault : BuildFault) (old new : BuildState) : Type 0 where
   pub silent : IsTrue is_modelled → IsSilentFault child plan.environment plan.project old.world fault
   pub may : MayReady fault old.counts.starts new.counts.starts
@@ -66,28 +66,28 @@ pub record IsUnready (is_modelled : Bool) (child : Answers) (plan : BuildPlan) (
   pub most : (new.most ≡ old.most) ⊎ (new.most ≡ max old.most 1)
   pub heard : new.heard ≡ old.heard
 
--- if the planning failed, its fault is returned and nothing is done; else the plan's units are
--- prepared, or the preparation fails
+-- If the planning failed, its fault is returned and nothing is done. Otherwise the units of the
+-- plan are prepared, or cannot be prepared.
 abbrev pub Readies : Bool → Answers → Options → Result BuildPlan BuildFault → Result Prepared BuildFault → BuildState → BuildState → Type 0
 Readies is_modelled child options (Err fault) result old new = (result ≡ Err fault) × (new ≡ old)
 Readies is_modelled child options (Ok plan) (Err fault) old new = IsUnready is_modelled child plan fault old new
 Readies is_modelled child options (Ok plan) (Ok prepared) old new = IsReadied is_modelled child options plan prepared old new
 
--- either no unit began and the turn was not asked; or the units were prepared and then ended
+-- Either no unit began, and the turn decided nothing. Or the units were prepared, began, and then ended.
 pub data WorksOn {S : Type 0} (is_modelled : Bool) (child : Answers) (Turns : S → List ℕ → List ℕ → Step → S → Type 0) (options : Options) (plan : Result BuildPlan BuildFault) (from : S) : S → Result Summary BuildFault → BuildState → BuildState → Type 0 where
   stopped : (fault : BuildFault) (old new : BuildState) (unready : Readies is_modelled child options plan (Err fault) old new) → WorksOn is_modelled child Turns options plan from from (Err fault) old new
   worked : (prepared : Prepared) (last : S) (result : Result Summary BuildFault) (old mid new : BuildState) (ready : Readies is_modelled child options plan (Ok prepared) old mid) (ends : TurnsEnd is_modelled child Turns prepared.setup prepared.project prepared.store.next from last result mid new)
       → WorksOn is_modelled child Turns options plan from last result old new
 
--- a build of a plan: how its work ended, and what was written after it
+-- The work of a build of a plan has ended with `inner`, and then the finish line was due.
 pub record BuildsOn {S : Type 0} (is_modelled : Bool) (child : Answers) (Turns : S → List ℕ → List ℕ → Step → S → Type 0) (options : Options) (plan : Result BuildPlan BuildFault) (from last : S) (result : Result Summary BuildFault) (old new : BuildState) : Type 0 where
   pub inner : Result Summary BuildFault
   pub heard : SinkState
   pub works : WorksOn is_modelled child Turns options plan from last inner old record new { heard = heard }
   pub closes : Closes inner result heard new.heard
 
--- a build of a plan with the options' number of units in flight, in which the first unit in plan
--- order that may begin does so
+-- a build of a plan with the options' number of jobs; of the units that may begin, the first in
+-- plan order begins next
 abbrev pub BuildsOnFirst : Bool → Answers → Options → Result BuildPlan BuildFault → Result Summary BuildFault → BuildState → BuildState → Type 0
 BuildsOnFirst is_modelled child options plan result old new =
     (from : Jobs First) × (from.jobs ≡ options.jobs) × (last : Jobs First) × BuildsOn is_modelled child (TurnsOfJobs PicksFirstOf) options plan from last result old new

@@ -1,5 +1,5 @@
--- How many children a build has started before its units, which calls it
--- has made, which fault may end it there, and what such a fault names.
+-- What a build does before its units begin. The build starts a child and makes calls. Some faults
+-- may end the build there, and such a fault names its call.
 use Rattle.std.specs.Prelude.{◌≡◌, ◌⊎◌, ◌+◌, ◌++◌, ◌∷◌, codes, length, max, List, [], Result, MatchResult, OnErr, OnOk, ℕ}
 use Rattle.pb_place_types.specs.At.{At}
 use Rattle.pb_place_types.specs.CallsInTurn.{past_calls}
@@ -21,7 +21,7 @@ use Rattle.pb_build_result.specs.declared.fault.BuildFault.TheVariants.{Plan, To
 use Rattle.pb_place_types.specs.declared.place.StartFault.{StartFault}
 use Rattle.pb_place_types.specs.declared.place.StartFault.TheVariants as start
 
--- the faults that may end the planning, which comes before the query
+-- the faults with which the planning may end; it comes before the query of the compiler's version
 abbrev pub MayPlan : BuildFault → Starts → Starts → Type 0
 MayPlan (Plan why) old new = new ≡ old
 MayPlan Toolchain old new = ⊥
@@ -31,14 +31,14 @@ MayPlan (Device unit device.NumbersSpent) old new = ⊥
 MayPlan Sink old new = ⊥
 MayPlan OutOfMemory old new = new ≡ old
 
--- the faults that may end the query
+-- the faults with which the query of the compiler's version may end
 abbrev pub MayAsk : BuildFault → Starts → Starts → Type 0
 MayAsk Toolchain old new = new ≡ up_starts old
 MayAsk (Child unit fault) old new = (unit ≡ codes "-vV") × (new ≡ up_starts old)
 MayAsk OutOfMemory old new = (new ≡ old) ⊎ (new ≡ up_starts old)
 MayAsk _ old new = ⊥
 
--- the faults that may end the query, or the calls after it that look at the folder of the records
+-- the faults with which the query may end, or the calls after it that open the records
 abbrev pub MayReady : BuildFault → Starts → Starts → Type 0
 MayReady (Plan why) old new = ⊥
 MayReady Toolchain old new = new ≡ up_starts old
@@ -48,7 +48,7 @@ MayReady (Device unit device.NumbersSpent) old new = ⊥
 MayReady Sink old new = ⊥
 MayReady OutOfMemory old new = (new ≡ old) ⊎ (new ≡ up_starts old)
 
--- a fault of a call on this path or variable contains its name
+-- If the fault is that of a call on files or variables, it has the path or the name to which this call applied.
 abbrev pub Names : BuildFault → Counts → Type 0
 Names (Device name fault) new = named_in new ≡ name
 Names _ new = Unit {0}
@@ -62,90 +62,90 @@ abbrev pub child_fault : List ℕ → StartFault → BuildFault
 child_fault unit start.OutOfMemory = OutOfMemory
 child_fault unit fault = Child unit fault
 
--- how a step moves the counters:
--- - if it succeeds, no call failed, and it started the children that `Begins` says
--- - if it fails, `May` allows the fault after these starts, and the fault has its cause
+-- How a step changes the counters.
+-- - If the step succeeds, no call has failed, and it has started the children that `Begins` says.
+-- - If the step fails, `May` allows the fault with these starts, and the fault has its cause.
 abbrev pub CountsAs : {T : Type 0} → (T → Starts → Starts → Type 0) → (BuildFault → Starts → Starts → Type 0) → Result T BuildFault → Counts → Counts → Type 0
 CountsAs Begins May result old new = MatchResult result (λ x. (new.failures ≡ old.failures) × Begins x old.starts new.starts) (λ e. May e old.starts new.starts × HasCause e old new)
 
 abbrev pub OneStart : {T : Type 0} → T → Starts → Starts → Type 0
 OneStart x old new = new ≡ up_starts old
 
--- the faults that may end a step that starts a child of this name
+-- the faults with which a step may end that starts a child of this name
 abbrev pub MayStart : List ℕ → BuildFault → Starts → Starts → Type 0
 MayStart name (Child unit fault) old new = (unit ≡ name) × (new ≡ up_starts old)
 MayStart name OutOfMemory old new = (new ≡ old) ⊎ (new ≡ up_starts old)
 MayStart name _ old new = ⊥
 
--- a child was started and has ended, by one call
+-- one call has started a child, which has ended
 abbrev pub RunsOnce : {T : Type 0} → T → Counts → Counts → Type 0
 RunsOnce x old new = new ≡ past_call (one_start old)
 
--- the one call, which spawns a child, failed, or the end of this child failed; if memory ran out,
--- the call may or may not have been made
+-- The one call, which spawns a child, failed, or the wait for the child's end failed. If memory ran
+-- out, the call may have been made.
 abbrev pub SpawnEnds : BuildFault → Counts → Counts → Type 0
 SpawnEnds (Child unit fault) old new = new ≡ past_start_fault fault (one_start old)
 SpawnEnds OutOfMemory old new = (new ≡ old) ⊎ (new ≡ past_call (one_start old))
 SpawnEnds e old new = ⊥
 
--- What the work before the units does to the place.
+-- How the work before the units changes the place.
 
--- it only looks: only the counters change, a failed call is the last one, and the fault contains
--- the path or variable of this call
+-- The work only looks, so only the counters change. If a call failed, it was the last, and the
+-- fault names the path or the variable of this call.
 pub record OnlyLooks {T : Type 0} (May : BuildFault → Starts → Starts → Type 0) (result : Result T BuildFault) (old new : At) : Type 0 where
   pub world : new.world ≡ old.world
   pub most : new.most ≡ old.most
   pub takes : CountsAs NoStart May result old.counts new.counts
   pub names : NamesCall result new.counts
 
--- it starts one child and waits for its end; otherwise it only looks
+-- The work starts one child and waits for its end. Apart from that, it only looks.
 pub record OnlyAsks {T : Type 0} (May : BuildFault → Starts → Starts → Type 0) (result : Result T BuildFault) (old new : At) : Type 0 where
   pub world : new.world ≡ old.world
   pub most : OnOk result (new.most ≡ max old.most (length old.counts.starts.flying + 1))
   pub most_else : OnErr result ((new.most ≡ old.most) ⊎ (new.most ≡ max old.most (length old.counts.starts.flying + 1)))
   pub takes : CountsAs OneStart May result old.counts new.counts
 
--- Which calls are made before the units.
+-- Which calls are made before the units begin.
 
--- the variables that a build reads
+-- the calls that read the variables of a build
 abbrev pub variables_asked : List Call
 variables_asked = call.Variable (codes "RUSTC") ∷ call.Variable (codes "RUSTFLAGS") ∷ call.Variable (codes "CARGO_TARGET_DIR") ∷ []
 
--- the calls that plan a build: first those that read its variables, then those that read the
--- workspace
+-- the calls that plan a build: those that read its variables, and then those that read the workspace
 abbrev pub plan_called : Options → World → List Call
 plan_called options w = variables_asked ++ looked_at options.manifest (environment_of options w.variables).target w
 
--- if the plan is refused, all of these calls were made; else the calls stopped at one of them
+-- If the plan is refused, all of these calls were made. After any other fault, the calls stopped at
+-- one of them.
 abbrev pub PlanStopsAt : BuildFault → List Call → Counts → Counts → Type 0
 PlanStopsAt (Plan why) calls old new = new ≡ past_calls calls old
 PlanStopsAt e calls old new = StopsAt e calls old new
 
--- if there is a plan, exactly these calls were made, in this order; else the calls stopped as
--- `PlanStopsAt` requires
+-- If there is a plan, exactly these calls were made, in this order. If not, the calls stopped as
+-- `PlanStopsAt` states.
 abbrev pub PlansInTurn : {T : Type 0} → Result T BuildFault → List Call → Counts → Counts → Type 0
 PlansInTurn result calls old new = MatchResult result (λ x. new ≡ past_calls calls old) (λ e. PlanStopsAt e calls old new)
 
--- the query starts a child by one call, even if the compiler reports no host
+-- How the query ended. The query starts a child by one call, even if the compiler then reports no host.
 abbrev pub AskEnds : BuildFault → Counts → Counts → Type 0
 AskEnds Toolchain old new = new ≡ past_call (one_start old)
 AskEnds e old new = SpawnEnds e old new
 
--- the query is one call; after it the records are opened
+-- the counters after the query, which is one call, and after these calls, which open the records
 abbrev pub ready_called : List Call → Counts → Counts
 ready_called calls old = past_calls calls (past_call (one_start old))
 
--- the calls stopped at the query, or at one of the calls after it that open the records
+-- the calls stopped at the query, or at one of the calls after it, which open the records
 abbrev pub ReadyStopsAt : BuildFault → List Call → Counts → Counts → Type 0
 ReadyStopsAt e calls old new = AskEnds e old new ⊎ StopsAt e calls (past_call (one_start old)) new
 
--- if all is ready, exactly these calls were made, in this order; else the calls stopped as
--- `ReadyStopsAt` requires
+-- If all is prepared, the query and exactly these calls were made, in this order. If not, the calls
+-- stopped as `ReadyStopsAt` states.
 abbrev pub ReadiesInTurn : {T : Type 0} → Result T BuildFault → List Call → Counts → Counts → Type 0
 ReadiesInTurn result calls old new = MatchResult result (λ x. new ≡ ready_called calls old) (λ e. ReadyStopsAt e calls old new)
 
--- a build of this world stopped before its units: while it was planned, or
--- after all calls of the plan, while a project of this world was made ready
+-- Where a build of this world stopped before its units began. Either the planning stopped, or,
+-- after all calls of the planning, the preparation of the project.
 abbrev pub StopsBefore : Options → World → BuildFault → Counts → Counts → Type 0
 StopsBefore options w fault old new =
     PlanStopsAt fault (plan_called options w) old new

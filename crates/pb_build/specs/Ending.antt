@@ -1,4 +1,4 @@
--- How a build ends, by its answer.
+-- How a build may end.
 use Rattle.std.specs.Prelude.{◌≡◌, ◌⊎◌, ℕ, Bool, false, max, codes, List, [], Some, None, IsTrue, IfOk, IfErr, Result, Ok, Err}
 use Rattle.std.specs.Io.KnownBytes.{Appends}
 use Rattle.pb_build_result.specs.declared.fault.BuildFault.{BuildFault}
@@ -32,19 +32,19 @@ use Rattle.pb_build.specs.declared.builder.BuildPlan.{BuildPlan}
 use Rattle.pb_build.specs.declared.builder.Prepared.{Prepared}
 use Rattle.pb_store.specs.Calls.{FailedLast}
 
--- Before the units.
+-- Before the units begin.
 
--- nothing was changed
+-- the world is unchanged
 abbrev pub Stays : Bool → World → World → Type 0
 Stays is_modelled old new = IsTrue is_modelled → new ≡ old
 
--- the plan of a build of this world: the environment from its variables and options, and its
--- project
+-- The plan is that of a build of this world. The plan has the environment that the world's
+-- variables and the options determine, and the build's project.
 abbrev pub IsPlanOf : Options → World → BuildPlan → Type 0
 IsPlanOf options w plan = (plan.environment ≡ environment_of options w.variables) × IsProject options (environment_of options w.variables).target w plan.project
 
--- between two moments a build was planned and nothing else was done:
--- nothing was changed or written, no child was started, and only the plan's calls were made
+-- A build was planned, and nothing else was done. Nothing was changed or written, and no child was
+-- started. Only the calls of the planning were made.
 pub record PlansFrom (is_modelled : Bool) (options : Options) (plan : Result BuildPlan BuildFault) (old new : BuildState) : Type 0 where
   pub is : IsTrue is_modelled → IfOk plan (IsPlanOf options old.world)
   pub refused : IsTrue is_modelled → IfErr plan (IsToldRefusal options (environment_of options old.world.variables).target old.world)
@@ -60,9 +60,9 @@ abbrev pub IsSilent : Answers → Options → World → Type 0
 IsSilent child options w =
     (project : Project) × IsProject options (environment_of options w.variables).target w project × (toolchain_of child (environment_of options w.variables) project (from_nothing (environment_of options w.variables).target w) ≡ None)
 
--- why no unit began: a refusal; a compiler that does not report its version, or does not answer;
--- out of memory; or a call on this path or variable that failed, before the query, or after it as
--- the build looked at the folder of the records
+-- Why no unit began. The build may be refused. The compiler may not report its version, or not
+-- answer. Memory may run out. Or a call on a path or a variable failed, either in the planning or
+-- when the records were opened.
 abbrev pub FailsBefore : Bool → Answers → Options → BuildFault → World → Counts → Counts → Type 0
 FailsBefore is_modelled child options (Plan why) w old new = (IsTrue is_modelled → IsRefused options (environment_of options w.variables).target w why) × (new.starts ≡ old.starts) × (new.failures ≡ old.failures)
 FailsBefore is_modelled child options Toolchain w old new = (IsTrue is_modelled → IsSilent child options w) × (new.starts ≡ up_starts old.starts) × (new.failures ≡ old.failures)
@@ -72,8 +72,8 @@ FailsBefore is_modelled child options (Device name device.NumbersSpent) w old ne
 FailsBefore is_modelled child options Sink w old new = ⊥
 FailsBefore is_modelled child options OutOfMemory w old new = ((new.starts ≡ old.starts) ⊎ (new.starts ≡ up_starts old.starts)) × (new.failures ≡ old.failures)
 
--- what a build's units start from: the project of this world; its setup; and the next run number,
--- one above the greatest number that its records have or name
+-- What a build's units start from: the project of this world, its setup, and the next run number.
+-- This is one above the greatest number that the project's records have or name.
 pub record IsPrepared (child : Answers) (options : Options) (w : World) (prepared : Prepared) : Type 0 where
   pub toolchain : List ℕ
   pub says : toolchain_of child (environment_of options w.variables) prepared.project (from_nothing (environment_of options w.variables).target w) ≡ Some toolchain
@@ -81,8 +81,9 @@ pub record IsPrepared (child : Answers) (options : Options) (w : World) (prepare
   pub project : IsProject options (environment_of options w.variables).target w prepared.project
   pub next : prepared.store.next ≡ next_in (records_folder prepared.project) w
 
--- the units start after one query, which the compiler answered; the project is in order, and nothing was changed;
--- the calls were those of the plan, the query and the opening of the records, in this order
+-- The units are prepared. The compiler has answered the query, the project is in order, and nothing
+-- has changed. The calls were those of the planning, the query and the opening of the records, in
+-- this order.
 pub record Prepares (is_modelled : Bool) (child : Answers) (options : Options) (prepared : Prepared) (old new : World) (before now : Counts) (most : ℕ) (after : ℕ) : Type 0 where
   pub is : IsTrue is_modelled → IsPrepared child options old prepared
   pub order : IsInOrder prepared.project
@@ -94,7 +95,7 @@ pub record Prepares (is_modelled : Bool) (child : Answers) (options : Options) (
 
 -- The units.
 
--- the units were prepared and then ended
+-- the units were prepared, and then they ended
 pub record UnitsEnd {S : Type 0} (is_modelled : Bool) (child : Answers) (Turns : S → List ℕ → List ℕ → Step → S → Type 0) (options : Options) (from last : S) (result : Result Summary BuildFault) (old new : BuildState) : Type 0 where
   pub prepared : Prepared
   pub mid : BuildState
@@ -102,7 +103,7 @@ pub record UnitsEnd {S : Type 0} (is_modelled : Bool) (child : Answers) (Turns :
   pub prepares : Prepares is_modelled child options prepared old.world mid.world old.counts mid.counts old.most mid.most
   pub ends : TurnsEnd is_modelled child Turns prepared.setup prepared.project prepared.store.next from last result mid new
 
--- no unit began
+-- no unit began, for one of these reasons; nothing was changed or written
 pub record NoneBegan (is_modelled : Bool) (child : Answers) (options : Options) (result : Result Summary BuildFault) (old new : BuildState) : Type 0 where
   pub fault : BuildFault
   pub answer : result ≡ Err fault
@@ -112,56 +113,56 @@ pub record NoneBegan (is_modelled : Bool) (child : Answers) (options : Options) 
   pub heard : new.heard ≡ old.heard
   pub landed : new.counts.starts.flying ≡ []
 
--- no unit began, the calls stopped there, and the turn was not asked
+-- No unit began, and the turn decided nothing. The calls stopped as `StopsBefore` states.
 pub record StopsEarly {S : Type 0} (is_modelled : Bool) (child : Answers) (options : Options) (from last : S) (result : Result Summary BuildFault) (old new : BuildState) : Type 0 where
   pub none_began : NoneBegan is_modelled child options result old new
   pub unasked : last ≡ from
   pub calls : IsTrue is_modelled → StopsBefore options old.world none_began.fault old.counts new.counts
 
--- a build's work up to its finish line: the build stops before its units, or its units end
+-- the work of a build before its finish line: it stops before its units begin, or its units end
 abbrev pub Works : {S : Type 0} → Bool → Answers → (S → List ℕ → List ℕ → Step → S → Type 0) → Options → S → S → Result Summary BuildFault → BuildState → BuildState → Type 0
 Works is_modelled child Turns options from last result old new = StopsEarly is_modelled child options from last result old new ⊎ UnitsEnd is_modelled child Turns options from last result old new
 
 -- The finish line.
 
--- these bytes are written and this answer is returned; or the sink takes only the first of these
--- bytes and fails, and the answer is `Sink`
+-- Either these bytes are written and `inner` is returned. Or the sink takes only the first of these
+-- bytes and fails, and the fault `Sink` is returned.
 abbrev pub Finishes : List ℕ → Result Summary BuildFault → Result Summary BuildFault → SinkState → SinkState → Type 0
 Finishes bytes inner result old new =
     ((result ≡ inner) × Appends old.taken new.taken bytes × (new.faults ≡ old.faults)) ⊎ ((result ≡ Err Sink) × TakesPart bytes old.taken new.taken × (new.faults ≡ up old.faults))
 
--- the finish line is written, unless the build is refused or the sink has failed
+-- the finish line is written, unless the build is refused or the sink has already failed
 abbrev pub Closes : Result Summary BuildFault → Result Summary BuildFault → SinkState → SinkState → Type 0
 Closes (Ok summary) result old new = Finishes (finish_line summary.success) (Ok summary) result old new
 Closes (Err (Plan why)) result old new = (result ≡ Err (Plan why)) × (new ≡ old)
 Closes (Err Sink) result old new = (result ≡ Err Sink) × (new ≡ old)
 Closes (Err fault) result old new = Finishes (finish_line false) (Err fault) result old new
 
--- The whole.
+-- A build as a whole.
 
--- a build: how its work ended, and what was written after it
+-- the work of a build has ended with `inner`, and then the finish line was due
 pub record Builds {S : Type 0} (is_modelled : Bool) (child : Answers) (Turns : S → List ℕ → List ℕ → Step → S → Type 0) (options : Options) (from last : S) (result : Result Summary BuildFault) (old new : BuildState) : Type 0 where
   pub inner : Result Summary BuildFault
   pub heard : SinkState
   pub works : Works is_modelled child Turns options from last inner old record new { heard = heard }
   pub closes : Closes inner result heard new.heard
 
--- a build with the options' number of units in flight, in which the pick chooses
--- those that begin, along a chain of the pick's states from the first to the second
+-- A build with the options' number of jobs. The pick chooses which unit begins, and goes from its
+-- first state to its last.
 abbrev pub BuildsBy : {S : Type 0} → Bool → Answers → (S → List ℕ → ℕ → S → Type 0) → Options → S → S → Result Summary BuildFault → BuildState → BuildState → Type 0
 BuildsBy {S} is_modelled child Picks options pick picked result old new =
     let from : Jobs S = record { pick = pick; jobs = options.jobs } in
     let last : Jobs S = record { pick = picked; jobs = options.jobs } in
     Builds is_modelled child (TurnsOfJobs Picks) options from last result old new
 
--- the first in plan order of the units that may begin is picked
+-- the pick that chooses the first, in plan order, of the units that may begin
 abbrev pub PicksFirstOf : First → List ℕ → ℕ → First → Type 0
 PicksFirstOf old ready index new = PicksFirst ready index
 
 abbrev pub BuildsFirst : Bool → Answers → Options → Result Summary BuildFault → BuildState → BuildState → Type 0
 BuildsFirst is_modelled child options result old new = let pick : First = record {} in BuildsBy is_modelled child PicksFirstOf options pick pick result old new
 
--- the last in plan order of the units that may begin is picked
+-- the pick that chooses the last, in plan order, of the units that may begin
 abbrev pub PicksLastOf : Last → List ℕ → ℕ → Last → Type 0
 PicksLastOf old ready index new = PicksLast ready index
 

@@ -8,32 +8,32 @@ use Rattle.pb_place_types.specs.World.{Map}
 use Rattle.pb_workspace_types.specs.declared.options.Options.{Options}
 use Rattle.pb_build.specs.declared.environment.Environment.{Environment}
 
--- the text of a variable; an empty one counts as absent
+-- the text of a variable; an empty text counts as none
 abbrev pub set_text : Option (List ℕ) → Option (List ℕ)
 set_text None = None
 set_text (Some text) = if length text == 0 then None else Some text
 
--- the compiler: `RUSTC`, else `rustc`
+-- the compiler: the value of `RUSTC`, or else `rustc`
 abbrev pub rustc_of : Option (List ℕ) → List ℕ
 rustc_of found = unwrap_or found (codes "rustc")
 
--- the compiler's own arguments: the words of `RUSTFLAGS`, separated by spaces
+-- the user's own arguments for the compiler: the words of `RUSTFLAGS`, which spaces separate
 abbrev pub flags_of : Option (List ℕ) → List (List ℕ)
 flags_of None = []
 flags_of (Some text) = line.words_of text
 
--- a path, or the other path if the text contains byte 0
+-- the path that was found, or the other path if the text has byte 0
 abbrev pub path_or : List ℕ → Result (List ℕ) PathFault → List ℕ
 path_or other (Ok path) = path
 path_or other (Err fault) = other
 
--- the path that a text names, starting at the root if it is relative;
--- the other path if there is no text, or it contains byte 0
+-- The path that a text spells; a relative text starts at the root. If there is no text, or it has
+-- byte 0, it is the other path.
 abbrev pub told_or : List ℕ → List ℕ → Option (List ℕ) → List ℕ
 told_or root other None = other
 told_or root other (Some text) = path_or other (joined root text)
 
--- the target folder: `--target-dir`, else `CARGO_TARGET_DIR`, else `target` in the root
+-- the target folder: that of `--target-dir`, or else that of `CARGO_TARGET_DIR`, or else `target` in the root
 abbrev pub target_of : List ℕ → Option (List ℕ) → Option (List ℕ) → List ℕ
 target_of root asked variable = told_or root (told_or root (below root (codes "target")) variable) asked
 

@@ -1,4 +1,4 @@
--- The headline: what a build produces if it rests on true records and an honest child, or on no record.
+-- The headline: what a build produces over true records with an honest child, or over no records.
 use Rattle.std.specs.Prelude.{◌≡◌, ◌⊎◌, ◌∷◌, [], ℕ, Bool, true, false, Contains, List, length, take, Option, Some, None, IsTrue, Result, Ok, Err, slice_get}
 use Rattle.std.specs.Io.KnownBytes.{Appends}
 use Rattle.pb_build_result.specs.declared.fault.BuildFault.{BuildFault}
@@ -43,13 +43,14 @@ use Rattle.pb_build.specs.Environment.{environment_of}
 use Rattle.pb_build.specs.Planning.{IsProject}
 use Rattle.pb_build.specs.Result.{toolchain_of, setup_of}
 
--- What a build rests on.
+-- What a build assumes.
 
--- the folder in which a build keeps its records: the profile's folder in the target folder
+-- the folder in which a build keeps its records, which is the profile's folder in the target folder
 abbrev pub records_of : Options → Map → List ℕ
 records_of options variables = below (environment_of options variables).target (folder_of options.profile)
 
--- the units of a build: those of the project that it finds in a world, with the version that the compiler reports
+-- the units that a build has in a world: those of the project that it finds there, with the version
+-- that the compiler reports
 pub record UnitsOf (child : Answers) (options : Options) (w : World) : Type 0 where
   pub project : Project
   pub toolchain : List ℕ
@@ -59,52 +60,52 @@ pub record UnitsOf (child : Answers) (options : Options) (w : World) : Type 0 wh
 abbrev pub context_of : (premise : Premise) (child : Answers) (options : Options) (w : World) → UnitsOf child options w → BuildContext
 context_of premise child options w units = build_context premise child (setup_of options (environment_of options w.variables) units.toolchain) units.project (from_nothing (environment_of options w.variables).target w)
 
--- the child is honest on the units of a build, whatever units it finds in a world
+-- the child is honest on the units of a build, whichever units it finds in the world
 abbrev pub IsHonestBuild : Answers → Options → World → Type 0
 IsHonestBuild child options w = (units : UnitsOf child options w) → IsHonestOnUnits (context_of TrustedRecords child options w units)
 
--- either the records in its folder are true and its child is honest, or no text in this folder
--- counts as a record
+-- Either the records in the build's folder are true and the child is honest, or no text in this
+-- folder counts as a record.
 abbrev pub RestsOn : Premise → Answers → Options → World → Type 0
 RestsOn TrustedRecords child options w = Sound reading judge child (records_of options w.variables) w.files × IsHonestBuild child options w
 RestsOn NoRecords child options w = (key : List ℕ) → records (records_of options w.variables) w key ≡ None
 
--- The schedule: which events the units of a project may have.
+-- Schedules: which events the units of a project may have.
 
--- the events follow the steps that a turn chooses, along a chain of its states from this one
+-- the events are those of steps that the turn decides, from this state of the turn on
 abbrev pub ByTurns : {S : Type 0} → (S → List ℕ → List ℕ → Step → S → Type 0) → S → Project → List (Event BadUnit) → Type 0
 ByTurns {S} Turns from project es = (last : S) × Flies Turns (needs_of project) Anyhow Anything from es last
 
--- with the options' number of units in flight, in which the pick chooses those that begin
+-- the events are those of the options' number of jobs, in which this pick chooses which unit begins
 abbrev pub ByPick : {S : Type 0} → (S → List ℕ → ℕ → S → Type 0) → Options → S → Project → List (Event BadUnit) → Type 0
 ByPick {S} Picks options pick = let from : Jobs S = record { pick = pick; jobs = options.jobs } in ByTurns (TurnsOfJobs Picks) from
 
--- in which the first in plan order of the units that may begin is picked
+-- the events are those of jobs in which the first unit that may begin is picked, in plan order
 abbrev pub ByFirst : Options → Project → List (Event BadUnit) → Type 0
 ByFirst options = let pick : First = record {} in ByPick PicksFirstOf options pick
 
--- in which the last in plan order of the units that may begin is picked
+-- the events are those of jobs in which the last unit that may begin is picked, in plan order
 abbrev pub ByLast : Options → Project → List (Event BadUnit) → Type 0
 ByLast options = let pick : Last = record {} in ByPick PicksLastOf options pick
 
--- What it produces.
+-- What a build produces.
 
--- the outcome of each unit in a clean build, in plan order
+-- the outcome that each unit has in a clean build, in plan order
 abbrev pub outcomes_for : (child : Answers) (options : Options) (w : World) → UnitsOf child options w → List Outcome
 outcomes_for child options w units = outcomes child (setup_of options (environment_of options w.variables) units.toolchain) units.project (from_nothing (environment_of options w.variables).target w)
 
--- the units with their outcomes in a clean build, up to and including the first bad one
+-- the units with their outcomes in a clean build, up to and including the first bad unit
 abbrev pub rows_for : (child : Answers) (options : Options) (w : World) → UnitsOf child options w → List Row
 rows_for child options w units = rows_of child (setup_of options (environment_of options w.variables) units.toolchain) units.project (from_nothing (environment_of options w.variables).target w)
 
--- each unit that has answered is good or bad as in these outcomes, with the same fault
+-- each unit that has answered is good or bad as in these outcomes, and has the same fault
 abbrev pub AnswersAs : List Outcome → Project → List (Event BadUnit) → Type 0
 AnswersAs given project es =
     (index : ℕ) (answer : Answer BadUnit) → slice_get (states_in project es) index ≡ Some (Answered answer) → (outcome : Outcome) × (slice_get given index ≡ Some outcome) × (answer.fault ≡ fault_in outcome)
 
--- the units began and answered in events that the schedule allows, each good or bad as in a clean
--- build; one child was started for the query, and one for each unit that began with a child; the
--- first difference of each of these units is noted
+-- The units began and answered in events that the schedule allows. Each that answered is good or
+-- bad as in a clean build. One child was started for the query, and one for each unit that began
+-- with a child. The first difference of each unit is noted.
 pub record UnitsFly (child : Answers) (Schedule : Project → List (Event BadUnit) → Type 0) (options : Options) (old new : BuildState) : Type 0 where
   pub units : UnitsOf child options old.world
   pub es : List (Event BadUnit)
@@ -113,24 +114,26 @@ pub record UnitsFly (child : Answers) (Schedule : Project → List (Event BadUni
   pub starts : new.counts.starts.count ≡ upped (length (started_by es)) (up old.counts.starts.count)
   pub reasons : Reasons
 
--- all units have answered, or all up to and including the first bad one; later units may also have
--- been in flight
+-- All units have answered, or all up to and including the first bad unit have. Later units may have
+-- been in flight, too.
 pub record GivesAll (premise : Premise) (child : Answers) (Schedule : Project → List (Event BadUnit) → Type 0) (options : Options) (summary : Summary) (old new : BuildState) : Type 0 where
   pub flown : UnitsFly child Schedule options old new
   pub finished : is_finished (states_in flown.units.project flown.es) ≡ true
-  -- each unit that took a run number took the next one, beginning with the number after those of the records
+  -- each unit that took a run number took the next one; the first is above all numbers that the
+  -- records have or name
   pub numbers : (after : Option ℕ) × NumbersGiven (LacksNumber flown.units.project old.world) flown.es (next_in (records_of options old.world.variables) old.world) after
   pub unnoted : (index : ℕ) → slice_get (states_in flown.units.project flown.es) index ≡ Some Untouched → slice_get flown.reasons index ≡ Some None
-  -- the summary and the lines are those of a clean build, and say for each unit whether a child was started
+  -- The summary and the lines are those of a clean build, but also say for which units a child was started.
   pub answer : summary ≡ summary_of flown.units.project flown.es flown.reasons (rows_for child options old.world flown.units)
   pub lines : Appends old.heard.taken new.heard.taken (said_from flown.units.project flown.es 0 (rows_for child options old.world flown.units))
-  -- the folder of each good unit contains exactly its files
+  -- the output folder of each good unit contains exactly its files in a clean build
   pub files : (index : ℕ) (u : Planned) (made : Map) (directives : Option (List Directive)) (messages : List Message) → slice_get (rows_for child options old.world flown.units) index ≡ Some record { unit = u; outcome = Good made directives messages } → files_in u.out new.world.files ≡ made
-  -- a child was started for a unit that began if and only if something differed from its record
+  -- a unit that began has a child if and only if something differed from its record
   pub began : AllBeganFor (context_of premise child options old.world flown.units) flown.es flown.reasons old.world new.world
 
--- a call for the unit of this key failed, or no run number is left for it, while units were missing;
--- the unit has begun and not answered; the lines are those of the first units, as far as all have answered
+-- A call for the unit with this key failed while units were missing, or no run number was left for
+-- it. The unit has begun and not answered. The lines are those that are due: of the first units in
+-- plan order, as far as all of them have answered.
 pub record FailsAt (project : Project) (es : List (Event BadUnit)) (rows : List Row) (key : List ℕ) (old new : Option (List ℕ)) : Type 0 where
   pub place : ℕ
   pub named : key_at project place ≡ key ∷ []
@@ -138,8 +141,9 @@ pub record FailsAt (project : Project) (es : List (Event BadUnit)) (rows : List 
   pub missing : is_finished (states_in project es) ≡ false
   pub lines : Appends old new (said_from project es 0 (take (count_due (states_in project es)) rows))
 
--- the lines that were written before a fault: the lines of the units that are due; if the sink
--- failed, only the first of their bytes; if memory ran out, the lines of the first n of these units
+-- The lines that were written before this fault are those of the units that are due. If the sink
+-- failed, only the first of their bytes were written. If memory ran out, only the lines of the
+-- first n of these units were.
 abbrev pub LinesBefore : BuildFault → Project → List (Event BadUnit) → List Row → Option (List ℕ) → Option (List ℕ) → Type 0
 LinesBefore (Child key fault) project es rows old new = FailsAt project es rows key old new
 LinesBefore (Device key fault) project es rows old new = FailsAt project es rows key old new
@@ -147,9 +151,9 @@ LinesBefore Sink project es rows old new = TakesPart (said_from project es 0 (ta
 LinesBefore OutOfMemory project es rows old new = (n : ℕ) × Appends old new (said_from project es 0 (take n (take (count_due (states_in project es)) rows)))
 LinesBefore fault project es rows old new = ⊥
 
--- a fault came at a unit, at the sink, because memory ran out, or because no run number was left;
--- in the last case, all numbers from the next one of the records on were given (`StandsCut` states
--- what differed for a unit that could not begin)
+-- A fault came at a unit or at the sink, or memory ran out, or no run number was left. In the last
+-- case, all numbers from the next one on were given. `StandsCut` says what differed for a unit that
+-- could not begin.
 pub record GivesFirst (premise : Premise) (child : Answers) (Schedule : Project → List (Event BadUnit) → Type 0) (options : Options) (fault : BuildFault) (old new : BuildState) : Type 0 where
   pub flown : UnitsFly child Schedule options old new
   pub spent : Spends (LacksNumber flown.units.project old.world) fault (next_in (records_of options old.world.variables) old.world) flown.es
@@ -158,24 +162,24 @@ pub record GivesFirst (premise : Premise) (child : Answers) (Schedule : Project 
   pub came : CameAfter flown.units.project fault before flown.es
   pub began : AllBeganFor (context_of premise child options old.world flown.units) before flown.reasons old.world new.world
 
--- a call that failed after the query and before the units lists
--- the folder of the records, or reads a record directly in it
+-- if a call failed after the query, it was to list the folder of the records, or to read a record
+-- directly in it
 abbrev pub NamesOpened : List ℕ → World → BuildFault → Starts → Starts → Type 0
 NamesOpened folder w (Device name (device.Place fault)) old new = (new ≡ old) ⊎ ((call : Call) × Contains (opened_looked folder w) call × (own_fault call ≡ fault) × (name_given call ≡ name))
 NamesOpened folder w e old new = Unit {0}
 
--- what the build had produced when the finish line was due
+-- what the build has produced when its finish line is due
 abbrev pub GivesUnits : Premise → Answers → (Project → List (Event BadUnit) → Type 0) → Options → Result Summary BuildFault → BuildState → BuildState → Type 0
 GivesUnits premise child Schedule options (Ok summary) old new = GivesAll premise child Schedule options summary old new
 GivesUnits premise child Schedule options (Err fault) old new =
     (NoneBegan true child options (Err fault) old new × NamesOpened (records_of options old.world.variables) old.world fault old.counts.starts new.counts.starts) ⊎ GivesFirst premise child Schedule options fault old new
 
--- if the build rests on records, they are true after it
+-- if the build assumes true records, the records are true after it
 abbrev pub LeavesRecords : Premise → Answers → Options → World → World → Type 0
 LeavesRecords TrustedRecords child options old new = Sound reading judge child (records_of options old.variables) new.files
 LeavesRecords NoRecords child options old new = Unit {0}
 
--- what a build produces, however it ends: its units, the finish line, and true records
+-- What a build produces, however it ends: its units, its finish line, and true records.
 pub record GivesCleanResult (premise : Premise) (child : Answers) (Schedule : Project → List (Event BadUnit) → Type 0) (options : Options) (result : Result Summary BuildFault) (old new : BuildState) : Type 0 where
   pub inner : Result Summary BuildFault
   pub heard : SinkState
@@ -183,7 +187,7 @@ pub record GivesCleanResult (premise : Premise) (child : Answers) (Schedule : Pr
   pub closes : Closes inner result heard new.heard
   pub records : LeavesRecords premise child options old.world new.world
 
--- The headline: over a modelled place, whatever a build rests
--- on, it produces what a clean build of the present workspace produces.
+-- The headline. If the place is modelled, and whichever premise is true, a build produces what a
+-- clean build of the present workspace produces.
 abbrev pub Headline : Bool → Answers → (Project → List (Event BadUnit) → Type 0) → Options → Result Summary BuildFault → BuildState → BuildState → Type 0
 Headline is_modelled child Schedule options result old new = IsTrue is_modelled → (premise : Premise) → RestsOn premise child options old.world → GivesCleanResult premise child Schedule options result old new

@@ -1,5 +1,5 @@
--- What lasts over a session: the records of a folder stay true, so each build
--- among the steps produces what a clean build of the present workspace produces.
+-- What lasts over a session. The records of a folder stay true. So each build among the steps
+-- produces what a clean build of the present workspace produces.
 use Rattle.std.specs.Prelude.{◌≡◌, ◌⊎◌, ◌∷◌, [], ⊤, ℕ, true, false, List, None}
 use Rattle.pb_command.specs.Judge.{judge}
 use Rattle.pb_workspace_types.specs.declared.options.Options.{Options}
@@ -14,37 +14,38 @@ use Rattle.pb_store_soundness.specs.Sound.{Sound}
 use Rattle.pb_build.specs.Headline.{records_of, IsHonestBuild, UnitsOf, GivesCleanResult}
 use Rattle.pb_build.specs.Session.{Point, Carries, CarriesBuild, ByPicked}
 
--- no path is at or below both
+-- no path is at or below both folders
 abbrev pub ShareNoPath : List ℕ → List ℕ → Type 0
 ShareNoPath folder other = (q : List ℕ) → is_at_or_below folder q ≡ true → is_at_or_below other q ≡ false
 
--- a step spares the records of a folder in these cases:
--- - an edit: it changes nothing in the folder, or removes the whole folder
--- - a build: it has no units, or it keeps its records there with an honest child, or it keeps its
---   records apart from the folder
+-- The step spares the records of the folder.
+-- - An edit must change nothing in the folder, or remove the whole folder.
+-- - A build must keep its records in this folder, with an honest child, or in a folder that
+--   shares no path with it. A build without units spares them, too.
 abbrev pub Spares : Answers → List ℕ → SessionStep → World → Type 0
 Spares child folder (Write path text) w = is_at_or_below folder path ≡ false
 Spares child folder (Remove path) w = (is_at_or_below path folder ≡ true) ⊎ ShareNoPath folder path
 Spares child folder (Build options pick) w = UnitsOf child options w → ((records_of options w.variables ≡ folder) × IsHonestBuild child options w) ⊎ ShareNoPath folder (records_of options w.variables)
 Spares child folder _ w = ⊤
 
--- the steps were taken in turn, and each spares the records of a folder
+-- the steps were taken one by one, and each spares the records of the folder
 abbrev pub SparingCourse : Answers → List ℕ → List SessionStep → Point → Point → Type 0
 SparingCourse child folder [] before after = after ≡ before
 SparingCourse child folder (step ∷ steps) before after = Spares child folder step before.moment.world × ((mid : Point) × Carries child step before mid × SparingCourse child folder steps mid after)
 
--- a folder in which no text counts as a record is sound
+-- if no text in a folder counts as a record, the folder is sound
 abbrev pub NothingIsSound : Type 0
 NothingIsSound = (child : Answers) (folder : List ℕ) (files : Map) → ((key : List ℕ) → record_at reading folder files key ≡ None) → Sound reading judge child folder files
 
--- If the records of a folder were true at first, and each step of a session spares them, they are
--- true at the end, however the builds ended.
+-- If the records of a folder are true, and each step of a session spares them, they are true
+-- afterwards, however the builds ended.
 abbrev pub RecordsStayTrue : Type 0
 RecordsStayTrue = (child : Answers) (folder : List ℕ) (steps : List SessionStep) (before after : Point) → SparingCourse child folder steps before after
     → Sound reading judge child folder before.moment.world.files → Sound reading judge child folder after.moment.world.files
 
--- Any edits and builds spared a folder of true records. Then a build that keeps its records there, with an honest
--- child, produces what a clean build of the present workspace produces, or a fault with the first of its lines.
+-- Steps have spared a folder of true records. Then a build keeps its records in this folder, with
+-- an honest child. The build produces what a clean build of the present workspace produces, or a
+-- fault with the first of its lines.
 abbrev pub AnyBuildGives : Type 0
 AnyBuildGives = (child : Answers) (options : Options) (pick : PickBy) (steps : List SessionStep) (before mid after : Point)
     → SparingCourse child (records_of options mid.moment.world.variables) steps before mid → Sound reading judge child (records_of options mid.moment.world.variables) before.moment.world.files

@@ -1,4 +1,4 @@
--- Laws of what a build produces, in the words of the rules.
+-- Laws about what a build produces, in the words of the rules.
 use Rattle.std.specs.Prelude.{◌≡◌, ℕ, Bool, List, Result}
 use Rattle.pb_build_result.specs.declared.fault.BuildFault.{BuildFault}
 use Rattle.pb_build_result.specs.declared.summary.Summary.{Summary}
@@ -11,37 +11,37 @@ use Rattle.pb_build.specs.Headline.{ByFirst, ByTurns, Headline, UnitsOf, rows_fo
 use Rattle.pb_build.specs.Result.{BuildResult, Refused, NoToolchain, Finished, IsResult}
 use Rattle.pb_build_turns.specs.Executor.{BuildState}
 
--- two worlds with the same variables and the same files outside the target folder give the same results
+-- two worlds with the same variables and the same files outside the target folder have the same result
 abbrev pub LooksAtSources : Type 0
 LooksAtSources = (child : Answers) (options : Options) (v w : World) (r : BuildResult) → v.variables ≡ w.variables
     → from_nothing (environment_of options w.variables).target v ≡ from_nothing (environment_of options w.variables).target w → IsResult child options v r → IsResult child options w r
 
--- a build produces what the same build produces if nothing exists in the target folder
+-- a build's result is the one that it would have with an empty target folder
 abbrev pub GivesFromNothing : Type 0
 GivesFromNothing = (child : Answers) (options : Options) (w : World) (r : BuildResult) → IsResult child options (from_nothing (environment_of options w.variables).target w) r → IsResult child options w r
 
--- two results are the same in these cases: both are the same refusal; in both, the compiler does
--- not report its version; or both have the same units of the same plan, with the same outcomes
+-- The two results are the same. Both may be the same refusal. In both the compiler may not report
+-- its version. Or both have the same units of the same plan, with the same outcomes.
 abbrev pub IsSame : BuildResult → BuildResult → Type 0
 IsSame (Refused why) (Refused other) = why ≡ other
 IsSame NoToolchain NoToolchain = Unit {0}
 IsSame (Finished project rows) (Finished other more) = (project.workspace ≡ other.workspace) × (project.plan ≡ other.plan) × (project.profile ≡ other.profile) × (rows ≡ more)
 IsSame _ _ = ⊥
 
--- a world has only one result
+-- a world has only one result, in the sense of `IsSame`
 abbrev pub HasOneResult : Type 0
 HasOneResult = (child : Answers) (options : Options) (w : World) (r s : BuildResult) → IsResult child options w r → IsResult child options w s → IsSame r s
 
--- the units that a build has produced are the units of its world's result
+-- the units that a build has, with their outcomes, are the result of its world
 abbrev pub UnitsAreOfResult : Type 0
 UnitsAreOfResult = (child : Answers) (options : Options) (w : World) (units : UnitsOf child options w) → IsResult child options w (Finished units.project (rows_for child options w units))
 
--- if we know of a build by turns only how its work ended and what was written after it, the
--- headline is still true; so it is true for the program's build, which promises only this
+-- The headline follows from what `Builds` says about a build: how its work ended, and what was
+-- written after that. So the headline is true for the program's build, which promises only this.
 abbrev pub BuildsKeepHeadline : {S : Type 0} → (S → List ℕ → List ℕ → Step → S → Type 0) → Type 0
 BuildsKeepHeadline {S} Turns = (is_modelled : Bool) (child : Answers) (options : Options) (from last : S) (result : Result Summary BuildFault) (old new : BuildState) → Builds is_modelled child Turns options from last result old new
     → Headline is_modelled child (ByTurns Turns from) options result old new
 
--- the headline is also true for a build in plan order
+-- the headline is also true for a build that begins the first unit that may begin
 abbrev pub FirstBuildsKeepHeadline : Type 0
 FirstBuildsKeepHeadline = (is_modelled : Bool) (child : Answers) (options : Options) (result : Result Summary BuildFault) (old new : BuildState) → BuildsFirst is_modelled child options result old new → Headline is_modelled child (ByFirst options) options result old new

@@ -1,5 +1,5 @@
 -- What a build is about: the workspace that it reads, the selected packages, their features and the
--- plan. If there is no plan: why the build is refused.
+-- plan. If there is no plan, it is why the build is refused.
 use Rattle.std.specs.Prelude.{◌≡◌, ℕ, List, Ok, Err}
 use Rattle.pb_place_types.specs.World.{World}
 use Rattle.pb_workspace.specs.Loaded.{workspace_of}
@@ -20,17 +20,17 @@ use Rattle.pb_build_result.specs.declared.fault.BuildFault.TheVariants as told
 use Rattle.pb_build_result.specs.declared.fault.Refusal.{Refusal}
 use Rattle.pb_build_result.specs.declared.fault.Refusal.TheVariants.{Load, Feature, Plan}
 
--- these packages of the workspace are selected
+-- the build reads this workspace, and its options select these packages in it
 pub record IsSelected (options : Options) (target : List ℕ) (w : World) (ws : Workspace) (selection : Selection) : Type 0 where
   pub read : workspace_of options.manifest target w ≡ Ok ws
   pub chosen : selected ws options ≡ Ok selection
 
--- these features of a selection are on, and the requested features have no fault
+-- no feature is refused, and these features of the selection are on
 pub record IsFeatured (ws : Workspace) (selection : Selection) (features : Features) : Type 0 where
   pub right : (fault : FeatureFault) → feature.Refuses ws selection fault → ⊥
   pub resolved : IsResolved ws selection features
 
--- the project of a build: its workspace, its features and its plan
+-- the project is that of the build: its workspace, its features, its profile and its plan
 pub record IsProject (options : Options) (target : List ℕ) (w : World) (project : Project) : Type 0 where
   pub selection : Selection
   pub selected : IsSelected options target w project.workspace selection
@@ -38,8 +38,8 @@ pub record IsProject (options : Options) (target : List ℕ) (w : World) (projec
   pub profile : project.profile ≡ options.profile
   pub planned : plan.IsPlan project.workspace project.features selection options.profile project.plan
 
--- why a build is refused: the workspace cannot be read; else nothing can
--- be selected; else the features are refused; else the plan is refused
+-- Why a build is refused. The first of these reasons counts. The workspace cannot be read; nothing
+-- can be selected; the features are refused; the plan is refused.
 pub data IsRefused (options : Options) (target : List ℕ) (w : World) : Refusal → Type 0 where
   by_load : (fault : LoadFault) (told : workspace_of options.manifest target w ≡ Err fault) → IsRefused options target w (Load fault)
   by_selection : (fault : LoadFault) (ws : Workspace) (read : workspace_of options.manifest target w ≡ Ok ws) (told : selected ws options ≡ Err fault) → IsRefused options target w (Load fault)
@@ -47,7 +47,7 @@ pub data IsRefused (options : Options) (target : List ℕ) (w : World) : Refusal
   by_plan : (fault : PlanFault) (ws : Workspace) (selection : Selection) (features : Features) (is : IsSelected options target w ws selection) (featured : IsFeatured ws selection features)
       (told : plan.Refuses ws features selection options.profile fault) → IsRefused options target w (Plan fault)
 
--- if a build reports a refusal, it is refused for this reason in this world
+-- if the fault is a refusal, the build is refused in this world for this reason
 abbrev pub IsToldRefusal : Options → List ℕ → World → BuildFault → Type 0
 IsToldRefusal options target w (told.Plan why) = IsRefused options target w why
 IsToldRefusal options target w _ = Unit {0}

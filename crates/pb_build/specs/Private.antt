@@ -1,5 +1,5 @@
--- What private functions of the build promise to one another. A reader who wants to know what a
--- build produces does not need this file.
+-- What private functions of the build promise to each other. Nobody needs this file to know what a
+-- build produces.
 use Rattle.std.specs.Prelude.{◌≡◌, Ok, Err}
 use Rattle.pb_build_result.specs.declared.fault.BuildFault.{BuildFault}
 use Rattle.pb_build_result.specs.declared.fault.BuildFault.TheVariants.{Plan, Device, OutOfMemory}
@@ -22,18 +22,18 @@ use Rattle.pb_unit.specs.declared.fault.PlanFault.{PlanFault}
 use Rattle.pb_workspace.specs.Selected.{selected}
 use Rattle.pb_build.specs.Planning.{IsFeatured}
 
--- a fault that is no refusal
+-- the fault is no refusal
 abbrev pub IsUnrefused : BuildFault → Type 0
 IsUnrefused (Plan why) = ⊥
 IsUnrefused _ = Unit {0}
 
--- the fault of a build whose workspace cannot be read
+-- the fault of a build for a workspace that cannot be read
 abbrev pub unread : LoadFault → BuildFault
 unread (load.Place path fault) = Device path (device.Place fault)
 unread load.OutOfMemory = OutOfMemory
 unread refused = Plan (refusal.Load refused)
 
--- why there is no project for a workspace that was read
+-- why a workspace that was read yields no project
 pub data HasNoProject (options : Options) (ws : Workspace) : Refusal → Type 0 where
   by_selection : (fault : LoadFault) (told : selected ws options ≡ Err fault) → HasNoProject options ws (refusal.Load fault)
   by_feature : (fault : FeatureFault) (selection : Selection) (chosen : selected ws options ≡ Ok selection) (told : feature.Refuses ws selection fault) → HasNoProject options ws (refusal.Feature fault)
@@ -45,7 +45,7 @@ IsRefusedOf options ws (Plan why) = HasNoProject options ws why
 IsRefusedOf options ws OutOfMemory = Unit {0}
 IsRefusedOf options ws _ = ⊥
 
--- the fault of a store that cannot be opened
+-- the fault of a build for a store that cannot be opened
 abbrev pub unopened : OpenFault → BuildFault
 unopened (open_fault.Place path fault) = device_fault path fault
 unopened open_fault.OutOfMemory = OutOfMemory

@@ -1,5 +1,5 @@
--- How the request in a record is compared with the command of a unit: part by part, and by the
--- names of their variables.
+-- How the command in a record is compared with the command of a unit: part by part, and then by the
+-- names of the variables.
 use Rattle.std.specs.Prelude.{◌≡◌, ◌↔◌, ℕ, List, Option, Some}
 use Rattle.pb_command.specs.Command as present
 use Rattle.pb_directive.specs.declared.directive.Directive.{Directive}
@@ -14,17 +14,17 @@ use Rattle.pb_store.specs.Asking.{IsFirstName, IsLeastName, SamePart}
 use Rattle.pb_store.specs.declared.difference.CommandPart.{CommandPart}
 use Rattle.pb_unit.specs.declared.plan.Planned.{Planned}
 
--- each part of a command, apart from its variables, is equal to the recorded one
+-- each part of the command is equal to the recorded part; variables are no part
 abbrev pub HasEachPart : RecordedCommand → Command → Type 0
 HasEachPart a c = (part : CommandPart) → SamePart a c part
 
--- Apart from its variables, a command requests the same if and only if each part is equal to the
--- recorded one. It is the recorded command if and only if, in addition, its variables are equal.
+-- A record and a command agree, except perhaps in their variables, if and only if each part is
+-- equal. The command is the recorded one if and only if the variables are equal, too.
 abbrev pub AskedPartForPart : Type 0
 AskedPartForPart = (a : RecordedCommand) (c : Command) → (AsksAs a c ↔ HasEachPart a c) × ((command_of a ≡ c) ↔ (HasEachPart a c × (a.pairs ≡ c.pairs)))
 
--- The first name at which the variables of a record and those of a unit's command differ is the
--- least such name, in byte order: the texts of this name differ, or only one side has the name.
+-- The first name at which the variables of a record and of a unit's command differ is the least
+-- such name, in byte order. Either the texts of this name differ, or only one side has the name.
 abbrev pub FirstNameIsLeast : Type 0
 FirstNameIsLeast = (text : List ℕ) (r : Record) (setup : Setup) (project : Project) (u : Planned) (done : List (Option (List Directive))) (name : List ℕ) → reading text ≡ Some r
     → IsFirstName r.asked.pairs (present.command_of setup project u done).pairs name ↔ IsLeastName r.asked.pairs (present.command_of setup project u done).pairs name

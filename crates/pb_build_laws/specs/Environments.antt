@@ -1,5 +1,5 @@
--- What a build knows before a unit begins: its environment, the version of its compiler, and the host of that compiler
--- (The Cargo Book, Environment Variables).
+-- What a build knows before a unit begins: its environment, its compiler's version, and the host of
+-- the compiler (The Cargo Book, Environment Variables).
 use Rattle.std.specs.Prelude.{◌≡◌, ◌↔◌, ℕ, true, ◌&&◌, ◌++◌, if◌then◌else◌, codes, List, [], drop, Option, Some, None, option_and_then, slice_get, unwrap_or}
 use Rattle.std.specs.FinMap as finite
 use Rattle.std.specs.List.{filter_map, flat_map, list_any}
@@ -20,12 +20,13 @@ use Rattle.pb_place_types.specs.World.{Answers, Map, World}
 use Rattle.pb_place_types.specs.declared.child.Reply.{Reply}
 use Rattle.pb_command_types.specs.declared.project.Project.{Project}
 
--- the text of a variable; an empty one counts as absent
+-- the text of a variable; an empty text counts as none
 abbrev pub set_in : Map → List ℕ → Option (List ℕ)
 set_in variables name = option_and_then (λ text. if is_empty text then None else Some text) (finite.get variables name)
 
--- The compiler is the value of `RUSTC`, else `rustc`; its flags are the words of `RUSTFLAGS`; the target folder is the
--- first path in `--target-dir` or `CARGO_TARGET_DIR`, from the root, else `target` in the root.
+-- The compiler is the value of `RUSTC`, or else `rustc`. The compiler's flags are the words of
+-- `RUSTFLAGS`. The target folder is the first path in `--target-dir` or `CARGO_TARGET_DIR`, or else
+-- `target`. A relative path starts at the root.
 abbrev pub EnvironmentsAreThese : Type 0
 EnvironmentsAreThese = (options : Options) (variables : Map) → environment_of options variables ≡ record {
   rustc = unwrap_or (set_in variables (codes "RUSTC")) (codes "rustc");
@@ -34,21 +35,20 @@ EnvironmentsAreThese = (options : Options) (variables : Map) → environment_of 
       (below (folder_of options.manifest) (codes "target"));
 }
 
--- the version in a reply to the query of the compiler's version: the child ended well, and its output is UTF-8 and has
--- a line that names the host
+-- The reply to the query has this version of the compiler. The child ended well. The child's output
+-- is UTF-8, and has a line that names the host.
 abbrev pub IsToolchain : Reply → List ℕ → Type 0
 IsToolchain r toolchain = EndedWell (ended_by r) × (is_utf8 r.stdout ≡ true) × (list_any is_host (lines_of r.stdout) ≡ true) × (toolchain ≡ r.stdout)
 
--- The compiler's version is the version in the reply to the query.
+-- The compiler's version is the one in its reply to the query.
 abbrev pub ToolchainsAreSaid : Type 0
 ToolchainsAreSaid = (child : Answers) (environment : Environment) (project : Project) (sources : World) (toolchain : List ℕ)
     → (toolchain_of child environment project sources ≡ Some toolchain) ↔ IsToolchain (child (query_of environment.rustc project.workspace.root project.workspace.target) sources) toolchain
 
--- the host that a line names: what comes after `host: `
+-- the host that a line names, which is what follows `host: `
 abbrev pub host_in : List ℕ → Option (List ℕ)
 host_in line = if is_utf8 line && is_host line then Some (drop 6 line) else None
 
--- The compiler's host triple is the first host that a line names; it is empty if no line names a
--- host.
+-- The compiler's host triple is the first host that a line names, or the empty text if no line names a host.
 abbrev pub HostsComeFirst : Type 0
 HostsComeFirst = (toolchain : List ℕ) → triple_of toolchain ≡ unwrap_or (slice_get (filter_map host_in (lines_of toolchain)) 0) []

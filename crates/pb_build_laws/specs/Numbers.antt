@@ -1,4 +1,4 @@
--- Which record counts, the numbers of records, and which run number is next.
+-- Which record counts for a key, which numbers records have, and which run number is next.
 use Rattle.std.specs.Prelude.{◌≡◌, ◌↔◌, ℕ, max, if◌then◌else◌, fold, true, false, is_none, List, [], ◌∷◌, map, Option, Some, option_and_then, slice_get}
 use Rattle.std.specs.FinMap as finite
 use Rattle.std.specs.List.{flat_map}
@@ -12,27 +12,27 @@ use Rattle.pb_store_soundness.specs.Records.{reading, ends_as_record, is_key, nu
 use Rattle.pb_store_soundness.specs.Reuse.{number_if}
 use Rattle.pb_store.specs.Folder.{lacks_number, next_in}
 
--- the numbers that a record has and names
+-- the numbers that a record has and names; its own number is the first
 abbrev pub numbers_in : Needed → List ℕ
 numbers_in (Copies copies) = []
 numbers_in (Numbers number needs) = number ∷ map (λ (need : List ℕ × ℕ). need.1) needs
 
--- The number of a record is the first of these numbers, if there is one. A unit lacks a number if
--- it has a record without a number.
+-- The number of a record is the first of these numbers, if there is one. A unit lacks a number if a
+-- record counts for it and has no number.
 abbrev pub RecordsAreNumbered : Type 0
 RecordsAreNumbered = ((r : Record) → number_of r ≡ slice_get (numbers_in r.needed) 0)
     × ((o : Option Record) → (number_if o ≡ option_and_then number_of o) × (lacks_number o ≡ option_map_or (λ r. is_none (number_of r)) o false))
 
--- the numbers that the record at a path has and names; the record's key does not matter
+-- the numbers that the record at a path has and names, whatever its key is
 abbrev pub numbers_at : Map → List ℕ → List ℕ
 numbers_at files path = if ends_as_record path then option_map_or (λ (r : Record). numbers_in r.needed) (option_and_then reading (finite.get files path)) [] else []
 
 -- The next number is one above the greatest number that the records directly in a folder have or
--- name, so 1 if there is no such number.
+-- name. If no record has a number, the next number is 1.
 abbrev pub NextIsAbove : Type 0
 NextIsAbove = (folder : List ℕ) (w : World) → next_in folder w ≡ after (fold max 0 (flat_map (numbers_at w.files) (listed_directly folder w)))
 
--- A record counts for a key if and only if its file has a text that reads as the record, and the record has that key.
+-- A record counts for a key if and only if the record has this key, and its text is that of the key's file.
 abbrev pub RecordsCount : Type 0
 RecordsCount = (folder key : List ℕ) (files : Map) (r : Record)
     → (record_at reading folder files key ≡ Some r) ↔ ((text : List ℕ) × (finite.get files (place_of folder key) ≡ Some text) × (reading text ≡ Some r) × (r.key ≡ key) × (is_key key ≡ true))

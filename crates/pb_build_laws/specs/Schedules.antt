@@ -9,22 +9,22 @@ use Rattle.pb_workspace_types.specs.declared.options.Options.{Options}
 use Rattle.pb_command_types.specs.declared.project.Project.{Project}
 use Rattle.pb_build_turns.specs.Executor.{needs_of}
 
--- this is the first in plan order of the units that may begin
+-- the unit is the first, in plan order, of those that may begin
 abbrev pub IsFirstToBegin : {F : Type 0} → List (List ℕ) → List (State F) → ℕ → Type 0
 IsFirstToBegin needs states u = MayBegin needs states u × ((v : ℕ) → v < u → MayBegin needs states v → ⊥)
 
--- the next event, with this number of jobs. While fewer units are in flight, the first unit that may begin begins. If
--- none may begin, or no more may be in flight, the unit in flight that began first answers
+-- The event is the next, with this number of jobs. If fewer units are in flight and some unit may
+-- begin, the first such unit begins. Otherwise the unit in flight that began first answers.
 abbrev pub IsNext : {F : Type 0} → ℕ → List (List ℕ) → List (Event F) → Event F → Type 0
 IsNext jobs needs es (Began u spawned) = (length (flying_after es) < jobs) × IsFirstToBegin needs (states_after needs es) u
 IsNext jobs needs es (Gave u answer) = (((v : ℕ) → MayBegin needs (states_after needs es) v → ⊥) ⊎ (jobs ≤ length (flying_after es))) × (slice_get (flying_after es) 0 ≡ Some u)
 
--- each event of the list, newest first, was the next one, and the build was not finished before it
+-- Each event was the next one when it came, and the build was not finished then. The newest event
+-- is the first of the list.
 abbrev pub AreInTurn : {F : Type 0} → ℕ → List (List ℕ) → List (Event F) → Type 0
 AreInTurn jobs needs [] = Unit {0}
 AreInTurn jobs needs (e ∷ es) = AreInTurn jobs needs es × (is_finished (states_after needs es) ≡ false) × IsNext jobs needs es e
 
--- A build with this number of jobs that always begins the first unit in plan order has exactly
--- these events. Zero jobs count as one.
+-- A build that always begins the first unit in plan order has exactly these events. Zero jobs count as one.
 abbrev pub BuildsGoInTurn : Type 0
 BuildsGoInTurn = (options : Options) (project : Project) (es : List (Event BadUnit)) → ByFirst options project es ↔ AreInTurn (max options.jobs 1) (needs_of project) es

@@ -1,4 +1,4 @@
--- The states of the units of a build, and the names of the units.
+-- The states of a build's units, and the names of the units.
 use Rattle.std.specs.Prelude.{◌≡◌, ◌↔◌, ◌+◌, ℕ, Bool, true, false, if◌then◌else◌, is_some, List, map, None, Some, slice_get}
 use Rattle.std.specs.List.{prefix_len}
 use Rattle.std.specs.Option.{option_map_or, option_to_list}
@@ -15,24 +15,25 @@ use Rattle.pb_build_turns.specs.Rows as rows
 use Rattle.pb_build_turns.specs.Rows.{fault_in}
 use Rattle.pb_unit.specs.declared.plan.Planned.{Planned}
 
--- a unit has answered, and it is bad or not
+-- the unit has answered, and it is bad if and only if `bad` is true
 abbrev pub HasAnswered : State BadUnit → Bool → Type 0
 HasAnswered s bad = (answer : Answer BadUnit) × (s ≡ Answered answer) × (is_some answer.fault ≡ bad)
 
--- A unit has not begun if and only if it is untouched. It is bad if and only if it has answered and
--- is bad; it is good if and only if it has answered and is good. An index without a unit is not
--- good.
+-- A unit has not begun if and only if it is untouched. A unit is bad if and only if it has answered
+-- and is bad. A unit is good if and only if it has answered and is good. An index without a unit is
+-- not good.
 abbrev pub StatesAreThese : Type 0
 StatesAreThese = (is_good_at {F = BadUnit} None ≡ false)
     × ((s : State BadUnit) → ((is_untouched s ≡ true) ↔ (s ≡ Untouched)) × ((is_bad s ≡ true) ↔ HasAnswered s true) × ((is_good_at (Some s) ≡ true) ↔ HasAnswered s false))
 
--- The units that count are those before the first unit, in plan order, that is not good. If that
--- unit is bad, it counts too. The build is finished if that unit is bad, or if each unit is good.
+-- The units whose lines are due are those before the first unit, in plan order, that is not good.
+-- If this unit is bad, it is one of them. The build is finished if this unit is bad, or if all
+-- units are good.
 abbrev pub EndsAreThese : Type 0
 EndsAreThese = (states : List (State BadUnit)) → let first = prefix_len (λ s. is_good_at (Some s)) states in
     (count_due states ≡ first + (if option_map_or is_bad (slice_get states first) false then 1 else 0)) × (is_finished states ≡ option_map_or is_bad (slice_get states first) true)
 
--- The key at an index is the key of its unit, if there is one. An outcome is bad if and only if it
--- has a fault.
+-- The key at an index is that of the unit there, if there is one. An outcome is bad if and only if
+-- it has a fault.
 abbrev pub RowsAreThese : Type 0
 RowsAreThese = ((project : Project) (index : ℕ) → key_at project index ≡ map (λ (u : Planned). u.key) (option_to_list (unit_at project index))) × ((o : Outcome) → rows.is_bad o ≡ is_some (fault_in o))

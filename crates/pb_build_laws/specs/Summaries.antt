@@ -12,32 +12,32 @@ use Rattle.pb_store.specs.declared.difference.Difference.{Difference}
 use Rattle.pb_build_turns.specs.Rows.{Reasons, Row, fault_in, summary_of}
 use Rattle.pb_unit.specs.declared.plan.Planned.{Planned}
 
--- the key of the first bad unit, the reason, and what its child printed
+-- the key of the first bad unit, the reason why it is bad, and what its child printed
 abbrev pub first_bad_unit : List Row → Option (List ℕ × BadUnit)
 first_bad_unit rows = slice_get (filter_map (λ (row : Row). option_map (λ bad. (row.unit.key, bad)) (fault_in row.outcome)) rows) 0
 
--- the key of a unit that has begun, if nothing differed from its record
+-- the key of the unit, if it has begun and nothing differed from its record
 abbrev pub kept_in : (Planned × Option (Option Difference)) → Option (List ℕ)
 kept_in (u, Some None) = Some u.key
 kept_in (u, reason) = None
 
--- the summary of a build
+-- the summary is that of the build with these events, reasons and rows
 pub record IsSummary (project : Project) (es : List (Event BadUnit)) (reasons : Reasons) (rows : List Row) (summary : Summary) : Type 0 where
-  -- no unit is bad
+  -- it is a success if no unit is bad
   pub success : summary.success ≡ is_none (first_bad_unit rows)
-  -- the key and the fault of the first bad unit
+  -- it has the key and the fault of the first bad unit
   pub bad : summary.bad ≡ option_map (λ bad. (bad.0, bad.1.fault)) (first_bad_unit rows)
-  -- what its child printed
+  -- it has what the child of the first bad unit printed
   pub said : summary.said ≡ option_map_or (λ bad. bad.1.said) (first_bad_unit rows) []
-  -- the keys of the units for which a child was started, in the order in which they started
+  -- it has the keys of the units for which a child was started, in the order of these starts
   pub started : summary.started ≡ map (λ (u : Planned). u.key) (filter_map (unit_at project) (started_by es))
-  -- the first difference of each of them
+  -- it has the first difference of each started unit
   pub differences : summary.differences ≡ filter_map (λ index. option_flatten (option_flatten (slice_get reasons index))) (started_by es)
-  -- in plan order, the keys of the units that began, if nothing differed from the unit's record
+  -- it has, in plan order, the keys of those units that began and from whose record nothing differed
   pub kept : summary.kept ≡ filter_map kept_in (zip project.plan.planned reasons)
-  -- by key, the directives of the runs
+  -- it has the directives of each run, with the run's key
   pub directives : summary.directives ≡ filter_map (λ (row : Row). option_map (λ directives. (row.unit.key, directives)) (directives_in row.outcome)) rows
 
--- This is the summary of the rows of units, and nothing else is.
+-- A summary is that of these rows if and only if it is as `IsSummary` says.
 abbrev pub SummariesSay : Type 0
 SummariesSay = (project : Project) (es : List (Event BadUnit)) (reasons : Reasons) (rows : List Row) (summary : Summary) → (summary ≡ summary_of project es reasons rows) ↔ IsSummary project es reasons rows summary

@@ -1,5 +1,5 @@
--- All that a unit reports to its users: its target, and its messages if it is good and if it is bad (The Cargo Book,
--- External Tools).
+-- What a unit reports to people: its target, and the messages that it has if it is good or bad (The
+-- Cargo Book, External Tools).
 use Rattle.std.specs.Prelude.{◌≡◌, ◌++◌, ◌∷◌, [], ℕ, Bool, codes, not, List, Option, Some, None, find, map, option_and_then, option_map}
 use Rattle.std.specs.List.{filter_map, flat_map}
 use Rattle.std.specs.Option.{option_map_or}
@@ -30,29 +30,30 @@ use Rattle.pb_unit.specs.declared.plan.Planned.{Planned}
 use Rattle.pb_unit.specs.declared.unit.What.{What}
 use Rattle.pb_unit.specs.declared.unit.What.TheVariants.{Lib, Bin, Run}
 
--- a target of a package: its kinds, its crate types, its name, its source, and the features that it requires
+-- a target of a package, with its kinds, its crate types, its name, its source, and the features
+-- that it requires
 abbrev pub target : Package → List (List ℕ) → List (List ℕ) → List ℕ → List ℕ → List (List ℕ) → Target
 target p kinds types name source required = record { kinds = kinds; crate_types = types; name = name; source = source; edition = p.edition; required_features = required }
 
--- the target of a package that is compiled or run, if the package has it
+-- the target of a package that a unit of this kind compiles or runs, if the package has it
 abbrev pub target_in : Package → What → Option Target
 target_in p Lib = option_map (λ (l : Library). target p (crate_type_texts l.crate_types) (crate_type_texts l.crate_types) l.name l.source []) p.library
 target_in p (Bin name) = option_map (λ (b : Binary). target p (codes "bin" ∷ []) (codes "bin" ∷ []) b.name b.source b.required_features) (find (λ (b : Binary). bytes_eq name b.name) p.binaries)
 target_in p _ = option_map (λ source. target p (codes "custom-build" ∷ []) (codes "bin" ∷ []) (codes "build-script-build") source []) p.script
 
--- the subject of a message line: the package and the target
+-- what a message line is about: the package and the target
 abbrev pub subject : Package → Target → Subject
 subject p target = record { name = p.name; version = p.version; folder = p.folder; manifest = p.manifest; target = target }
 
--- the package and the target of a unit
+-- the package and the target that a unit's messages are about, if both exist
 abbrev pub subject_at : Project → Planned → Option Subject
 subject_at project u = option_and_then (λ (p : Package). option_map (subject p) (target_in p u.unit.what)) (package_of project u)
 
--- the message of a file that a unit produced; only a binary is executable
+-- the message for a file that a unit has made; only a binary is executable
 abbrev pub made_message : Project → Planned → List ℕ → Message
 made_message project u file = CompilerArtifact record { settings = u.settings; features = features_at project.features u.unit.owner u.unit.side; file = file; is_executable = is_binary u.unit.what }
 
--- what a script passed to the compiler, each list in printed order
+-- the message for what a script passed to the compiler, each list in printed order
 abbrev pub executed : Planned → List Directive → Message
 executed u directives = BuildScriptExecuted record {
   linked_libraries = asked (codes "rustc-link-lib") directives;
@@ -62,30 +63,30 @@ executed u directives = BuildScriptExecuted record {
   out_folder = u.out;
 }
 
--- the messages of a good unit: for a compile its diagnostics, and then the file that it produced; for a run its notes
--- in printed order, and then what it passed to the compiler
+-- The messages of a good unit. A compile has its diagnostics, and then the file that it made. A run
+-- has its notes in printed order, and then what it passed to the compiler.
 abbrev pub told_well : Project → Planned → List ℕ → Option (List Directive) → List Message
 told_well project u stderr None = map CompilerMessage (diagnostics_of stderr) ++ option_map_or (λ file. made_message project u file ∷ []) (made_file_of project u) []
 told_well project u stderr (Some directives) = filter_map note_in directives ++ executed u directives ∷ []
 
--- The messages of a bad unit, and what else its child printed, from its standard output and error.
--- If a stream is too long, both are empty. A script that reported an error has its notes in printed
--- order, if they can be read. Any other run has no messages. A compile has its diagnostics.
+-- The messages of a bad unit, and what else its child printed. If a stream is too long, both are
+-- empty. A script that reported an error has its notes in printed order, if they can be read. Any
+-- other run has no messages. A compile has its diagnostics.
 abbrev pub told_badly : What → UnitFault → List ℕ → List ℕ → List Message × List ℕ
 told_badly what fault.OutputTooLong stdout stderr = ([], [])
 told_badly what fault.ScriptError stdout stderr = (filter_map note_in (result_unwrap_or (directives_of stdout) []), stderr)
 told_badly Run _ stdout stderr = ([], stdout ++ stderr)
 told_badly what _ stdout stderr = (map CompilerMessage (diagnostics_of stderr), plain_lines_of stderr)
 
--- The lines of a unit are the lines of its messages, if its package and its target exist. `started`
--- says whether a child was started.
+-- The lines of a unit are those of its messages, if its package and its target exist. `started`
+-- says if a child was started for the unit.
 abbrev pub LinesAreTold : Type 0
 LinesAreTold = (project : Project) (u : Planned) (started : Bool) (messages : List Message) → unit_lines project u started messages ≡ option_map_or (λ s. lines_of s (not started) messages) (subject_at project u) []
 
--- These are the messages of a good unit.
+-- The messages of a good unit are those of `told_well`.
 abbrev pub GoodUnitsTell : Type 0
 GoodUnitsTell = (project : Project) (u : Planned) (stderr : List ℕ) (directives : Option (List Directive)) → good_messages project u stderr directives ≡ told_well project u stderr directives
 
--- These are the messages of a bad unit.
+-- The messages of a bad unit, and what else its child printed, are those of `told_badly`.
 abbrev pub BadUnitsTell : Type 0
 BadUnitsTell = (what : What) (fault : UnitFault) (ended : Ended) → (bad_messages what fault ended, said_by what fault ended) ≡ told_badly what fault ended.stdout ended.stderr

@@ -1,4 +1,5 @@
--- The line that says how a build of a session ended (our own choice). Keys are written as they are.
+-- The result line of a build, which says how it ended. The form of the line is our own choice. Keys
+-- are written as they are.
 use Rattle.std.specs.Prelude.{ℕ, codes, List, [], ◌∷◌, ◌++◌, Option, Some, None, Result, Ok, Err}
 use Rattle.std.specs.Fmt.{signed_decimal}
 use Rattle.std.specs.List.{concat}
@@ -31,12 +32,12 @@ abbrev pub keys_rest : List (List ℕ) → List ℕ
 keys_rest [] = []
 keys_rest (key ∷ keys) = codes "," ++ key ++ keys_rest keys
 
--- the keys, with a comma between them; a dash if there are none
+-- the keys with commas between them, or a dash if there are none
 abbrev pub keys_text : List (List ℕ) → List ℕ
 keys_text [] = codes "-"
 keys_text (key ∷ keys) = key ++ keys_rest keys
 
--- the name of a fault, without its fields
+-- the name of a line's fault, without its number
 abbrev pub line_fault_name : LineFault → List ℕ
 line_fault_name (line.NotText number) = codes "NotText"
 line_fault_name (line.UnknownKey number) = codes "UnknownKey"
@@ -44,7 +45,7 @@ line_fault_name (line.BadValue number) = codes "BadValue"
 line_fault_name (line.BadFlag number) = codes "BadFlag"
 line_fault_name line.OutOfMemory = codes "OutOfMemory"
 
--- a unit's fault: its name, with the number of its status or the name of its line's fault
+-- the name of a unit's fault; a status has its number, and a fault of a line has its name
 abbrev pub unit_fault_text : UnitFault → List ℕ
 unit_fault_text (unit.Status number) = codes "Status(" ++ signed_decimal number ++ codes ")"
 unit_fault_text (unit.Directive fault) = concat (codes "Directive(" ∷ line_fault_name fault ∷ codes ")" ∷ [])
@@ -54,7 +55,7 @@ unit_fault_text (unit.ForeignInput path) = codes "ForeignInput"
 unit_fault_text unit.OutputTooLong = codes "OutputTooLong"
 unit_fault_text unit.OutOfMemory = codes "OutOfMemory"
 
--- the line of a build that came to its end, given its first bad unit and the keys of the units that were started
+-- the line of a build whose units ended, given its first bad unit and the keys of the started units
 abbrev pub ended_line : Option (List ℕ × UnitFault) → List ℕ → List ℕ
 ended_line None keys = concat (codes "ok started=" ∷ keys ∷ [])
 ended_line (Some bad) keys = concat (codes "bad " ∷ bad.0 ∷ codes " " ∷ unit_fault_text bad.1 ∷ codes " started=" ∷ keys ∷ [])
@@ -62,7 +63,7 @@ ended_line (Some bad) keys = concat (codes "bad " ∷ bad.0 ∷ codes " " ∷ un
 abbrev pub summary_line : Summary → List ℕ
 summary_line s = ended_line s.bad (keys_text s.started)
 
--- the name of a fault, without its fields
+-- the name of a manifest's fault, without its fields
 abbrev pub manifest_fault_name : ManifestFault → List ℕ
 manifest_fault_name manifest.NotToml = codes "NotToml"
 manifest_fault_name (manifest.BadKind key) = codes "BadKind"
@@ -77,7 +78,8 @@ manifest_fault_name manifest.TooLarge = codes "TooLarge"
 manifest_fault_name manifest.OldResolver = codes "OldResolver"
 manifest_fault_name manifest.OutOfMemory = codes "OutOfMemory"
 
--- the name of a fault; for a manifest's fault, the name of the fault inside
+-- the name of the fault for which a workspace cannot be read; for a bad manifest it is the name of
+-- the manifest's fault
 abbrev pub load_fault_name : LoadFault → List ℕ
 load_fault_name (load.NoManifest path) = codes "NoManifest"
 load_fault_name (load.Manifest path fault) = manifest_fault_name fault
@@ -105,7 +107,7 @@ profile_fault_name profile.InheritsCycle = codes "InheritsCycle"
 profile_fault_name profile.NotInOverride = codes "NotInOverride"
 profile_fault_name profile.OutOfMemory = codes "OutOfMemory"
 
--- the name of a fault; for a profile's fault, the name of the fault inside
+-- the name of the fault for which there is no plan; for a bad profile it is the name of the profile's fault
 abbrev pub plan_fault_name : PlanFault → List ℕ
 plan_fault_name (plan.Cycle names) = codes "Cycle"
 plan_fault_name plan.TooManyUnits = codes "TooManyUnits"
@@ -128,7 +130,7 @@ abbrev pub device_fault_name : DeviceFault → List ℕ
 device_fault_name (device.Place fault) = codes "Device"
 device_fault_name device.NumbersSpent = codes "NumbersSpent"
 
--- the line of a fault at a unit, or at another part of the build
+-- the line of a fault; `place` is a unit or another part of the build
 abbrev pub fault_at : List ℕ → List ℕ → List ℕ
 fault_at place name = concat (codes "fault " ∷ place ∷ codes " " ∷ name ∷ [])
 

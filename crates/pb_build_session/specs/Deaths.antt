@@ -1,4 +1,4 @@
--- How a start fails if it is set to fail (our own choice).
+-- How a start may be set to fail. The ways are our own choice.
 use Rattle.std.specs.Prelude.{ℕ, if◌then◌else◌, codes, List, Ok, Err}
 use Rattle.std.specs.Str.{bytes_eq}
 use Rattle.pb_place_types.specs.declared.place.StartFault.{StartFault}
@@ -16,7 +16,7 @@ death_named name =
     else if bytes_eq name (codes "Capture") then Ok Capture
     else Err BadForm
 
--- the answer of such a start: the fault with the same name
+-- the fault of a start that is set to fail in this way; it has the same name
 abbrev pub fault_of : Death → StartFault
 fault_of CannotStart = start.CannotStart
 fault_of Died = start.Died

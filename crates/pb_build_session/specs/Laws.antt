@@ -1,4 +1,4 @@
--- Laws of session files, in their own words.
+-- Laws about session files, in their own words.
 use Rattle.std.specs.Prelude.{◌≡◌, codes, List, [], ◌∷◌, ◌++◌, None, false, Ok}
 use Rattle.serde_json.specs.Data.{Data, object, no_members}
 use Rattle.serde_json.specs.View.{items_of}
@@ -9,16 +9,17 @@ use Rattle.pb_build_session.specs.declared.pick.PickBy.TheVariants.{First}
 use Rattle.pb_build_session.specs.declared.step.SessionStep.{SessionStep}
 use Rattle.pb_build_session.specs.declared.step.SessionStep.TheVariants.{Build}
 
--- the steps of the first, and then those of the second
+-- the steps of the first, followed by those of the second, or the first reason why one is bad
 abbrev pub both : Read (List SessionStep) → Read (List SessionStep) → Read (List SessionStep)
 both first second = first >>= (λ a. second >>= (λ b. Ok (a ++ b)))
 
--- the steps of two lists of values, one after the other, are the steps of the first and then those of the second
+-- if two lists of values are joined, the steps are those of the first list, followed by those of the second
 abbrev pub StepsJoin : Type 0
 StepsJoin = (ds es : List Data) → steps_of (items_of (ds ++ es)) ≡ both (steps_of (items_of ds)) (steps_of (items_of es))
 
--- a build without options has the manifest `/w/Cargo.toml` and the profile `dev`, and selects and
--- narrows nothing; at most one unit is in flight, and the first unit that may begin begins
+-- A build without options has the manifest `/w/Cargo.toml` and the profile `dev`. Such a build
+-- selects and narrows nothing. At most one unit is in flight, and the first unit that may begin
+-- begins.
 abbrev pub OptionsHaveDefaults : Type 0
 OptionsHaveDefaults = build_of (object no_members) ≡ Ok (Build (record {
   manifest = codes "/w/Cargo.toml";

@@ -10,14 +10,16 @@ use Rattle.pb_build_session.specs.Faults.{Read}
 use Rattle.pb_build_session.specs.Values.{number_of}
 use Rattle.pb_build_session.specs.declared.fault.BadSession.TheVariants.{BadForm}
 
--- the number of a session for what `serde_json` makes of a numeral
+-- The number that a session has for what `serde_json` makes of a numeral. `taken` is the number for
+-- the numeral itself.
 abbrev pub taken_as : Option Num → Read ℕ
 taken_as n = some_or BadForm (option_map number n) >>= number_of
 
 abbrev pub taken : List ℕ → Read ℕ
 taken numeral = taken_as (numeral_of numeral)
 
--- a numeral of digits only is the number that it denotes, if that is below 2 ^ 64; else it makes a session bad
+-- a numeral that consists of digits only is the number that it denotes; if this is 2 ^ 64 or more,
+-- the session is bad
 abbrev pub DigitsAreTaken : Type 0
 DigitsAreTaken = (digits : List ℕ) → IsNumeral 10 digits → OkIff (taken digits) (digits_value 10 digits < 2 ^ 64) (digits_value 10 digits)
 
@@ -25,7 +27,7 @@ DigitsAreTaken = (digits : List ℕ) → IsNumeral 10 digits → OkIff (taken di
 abbrev pub MinusIsBad : Type 0
 MinusIsBad = (numeral : List ℕ) → slice_index numeral 0 ≡ minus → taken numeral ≡ Err BadForm
 
--- a point makes a session bad, even before 0
+-- a point makes a session bad, even if only zeros follow
 abbrev pub PointIsBad : Type 0
 PointIsBad = (numeral : List ℕ) → (scan_numeral numeral).point ≡ true → taken numeral ≡ Err BadForm
 

@@ -1,4 +1,4 @@
--- The options of a build of a session: an object whose keys are those of the options (our own choice).
+-- The options of a build in a session, which are an object. The keys of this object are our own choice.
 use Rattle.std.specs.Prelude.{ℕ, Bool, true, false, ◌&&◌, ◌||◌, if◌then◌else◌, codes, List, [], ◌∷◌, Option, Some, None, Ok, Err}
 use Rattle.std.specs.Str.{bytes_eq}
 use Rattle.serde_json.specs.Data.{Data, Items, no_items, item, Members, no_members, member}
@@ -12,7 +12,7 @@ use Rattle.pb_build_session.specs.declared.pick.PickBy.TheVariants.{First}
 use Rattle.pb_build_session.specs.declared.fault.BadSession.TheVariants.{BadForm}
 use Rattle.pb_workspace_types.specs.declared.options.Options.{Options}
 
--- the keys that the options of a build may have
+-- the name is a key that the options of a build may have
 abbrev pub is_known : List ℕ → Bool
 is_known name =
     bytes_eq name (codes "manifest") || bytes_eq name (codes "packages") || bytes_eq name (codes "workspace") || bytes_eq name (codes "features") || bytes_eq name (codes "all_features")
@@ -24,7 +24,7 @@ abbrev pub are_known : Members → Bool
 are_known no_members = true
 are_known (member name d ms) = is_known name && are_known ms
 
--- the texts of a list
+-- the texts in a list of values, if all values are texts
 abbrev pub texts_in : Items → Read (List (List ℕ))
 texts_in no_items = Ok []
 texts_in (item d ds) = text_of d >>= (λ text. texts_in ds >>= (λ texts. Ok (text ∷ texts)))
@@ -35,8 +35,8 @@ texts_of d = array_of d >>= texts_in
 abbrev pub truth_of : Data → Read Bool
 truth_of d = some_or BadForm (as_bool d)
 
--- the value of a key; the default of an absent key is: no texts, false, this text, this number, or the manifest
--- `/w/Cargo.toml`
+-- The value of a key, if it is there, or else a default. The default is no texts, false, a given
+-- text or number, or the manifest `/w/Cargo.toml`.
 abbrev pub texts_or_none : Option Data → Read (List (List ℕ))
 texts_or_none None = Ok []
 texts_or_none (Some d) = texts_of d
@@ -66,8 +66,8 @@ texts_at key d = texts_or_none (get key d)
 abbrev pub truth_at : List ℕ → Data → Read Bool
 truth_at key d = truth_or_false (get key d)
 
--- the default profile is `dev`, and by default one unit is in flight at a time; the builder is called `cargo`, and
--- build scripts are run by `mini --run`
+-- The options in an object. The default profile is `dev`, and by default one unit is in flight at a
+-- time. The builder is called `cargo`, and `mini --run` runs the build scripts.
 abbrev pub options_in : Data → Read Options
 options_in d =
     manifest_or_default (get (codes "manifest") d) >>= (λ manifest.
@@ -98,14 +98,14 @@ options_in d =
       jobs = jobs;
     })))))))))))
 
--- the options of a build
+-- the options of a build, which must be an object with known keys only
 abbrev pub options_of : Data → Read Options
 options_of d = some_or BadForm (as_object d) >>= (λ ms. if are_known ms then options_in d else Err BadForm)
 
 abbrev pub pick_of : Data → Read PickBy
 pick_of d = text_of d >>= pick_named
 
--- which unit begins, of those that may begin: the first, unless another choice is requested
+-- the choice of the unit that begins: the first of those that may begin, unless another choice is requested
 abbrev pub pick_or_first : Option Data → Read PickBy
 pick_or_first None = Ok First
 pick_or_first (Some d) = pick_of d

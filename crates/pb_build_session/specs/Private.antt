@@ -1,4 +1,4 @@
--- For private functions only: the options of a build, read in parts.
+-- How the options of a build are read in parts. Only private functions need these definitions.
 use Rattle.std.specs.Prelude.{codes, None, Ok}
 use Rattle.serde_json.specs.Data.{Data}
 use Rattle.serde_json.specs.Find.{get}
@@ -11,7 +11,8 @@ use Rattle.pb_build_session.specs.declared.options.Featured.{Featured}
 use Rattle.pb_build_session.specs.declared.options.Targeted.{Targeted}
 use Rattle.pb_build_session.specs.declared.options.Tools.{Tools}
 
--- the parts of these options: the packages; below, their features and the profile, the targets, and the units in flight
+-- The part of the options that says what is selected. The next two definitions are the features and
+-- the profile, and then the targets and the number of jobs.
 abbrev pub asked_in : Data → Read OptionValues
 asked_in d =
     manifest_or_default (get (codes "manifest") d) >>= (λ manifest.
@@ -35,7 +36,7 @@ targeted_in d =
     number_or 1 (get (codes "jobs") d) >>= (λ jobs.
     Ok record { lib = lib; bins = bins; bin = bin; jobs = jobs }))))
 
--- the options made of their parts
+-- the options that consist of these parts
 abbrev pub joined : OptionValues → Featured → Targeted → Tools → Options
 joined asked featured targeted tools = record {
   manifest = asked.manifest;

@@ -1,4 +1,4 @@
--- What a session file contains: a JSON list of objects with one key each (our own choice).
+-- What a session file contains: a JSON list of objects with one key each. This form is our own choice.
 use Rattle.std.specs.Prelude.{ℕ, if◌then◌else◌, codes, List, [], ◌∷◌, Ok, Err}
 use Rattle.std.specs.Str.{bytes_eq, is_utf8}
 use Rattle.serde_json.specs.Data.{Data, Items, no_items, item}
@@ -25,7 +25,7 @@ build_of d = options_of d >>= (λ options. pick_or_first (get (codes "pick") d) 
 abbrev pub die_of : Data → Read SessionStep
 die_of d = pair_of d >>= (λ p. death_named p.1 >>= (λ death. Ok (Die p.0 death)))
 
--- the step that has this name
+-- the step that has this name and this value
 abbrev pub step_named : List ℕ → Data → Read SessionStep
 step_named name d =
     if bytes_eq name (codes "write") then write_of d
@@ -37,7 +37,7 @@ step_named name d =
     else if bytes_eq name (codes "fuse") then (number_of d >>= (λ number. Ok (Fuse number)))
     else Err BadForm
 
--- a step: an object with one key, the step's name
+-- a step, which is an object with one key; the key is the step's name
 abbrev pub step_of : Data → Read SessionStep
 step_of d = some_or BadForm (as_object d) >>= (λ ms. some_or BadForm (only_member ms) >>= (λ m. step_named m.0 m.1))
 
@@ -46,10 +46,10 @@ abbrev pub steps_of : Items → Read (List SessionStep)
 steps_of no_items = Ok []
 steps_of (item d ds) = step_of d >>= (λ step. steps_of ds >>= (λ steps. Ok (step ∷ steps)))
 
--- the JSON value of some bytes
+-- the JSON value that bytes contain
 abbrev pub document_in : List ℕ → Read Data
 document_in bytes = if is_utf8 bytes then some_or BadForm (read bytes) else Err BadForm
 
--- the steps in the bytes of a session file
+-- the steps that the bytes of a session file contain
 abbrev pub session_of : List ℕ → Read (List SessionStep)
 session_of bytes = document_in bytes >>= (λ d. array_of d >>= steps_of)

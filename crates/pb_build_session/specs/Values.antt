@@ -1,4 +1,4 @@
--- What the JSON values of a session mean.
+-- What the JSON values in a session mean.
 use Rattle.std.specs.Prelude.{ℕ, List, Option, Some, None, Ok, Err, option_and_then}
 use Rattle.serde_json.specs.Data.{Data, Items, no_items, item, Members, no_members, member}
 use Rattle.serde_json.specs.Find.{as_str, as_array, as_number, as_u64}
@@ -10,11 +10,12 @@ use Rattle.pb_build_session.specs.declared.fault.BadSession.TheVariants.{BadForm
 abbrev pub text_of : Data → Read (List ℕ)
 text_of d = some_or BadForm (as_str d)
 
--- a number of digits only, below 2 ^ 64: a JSON number without a sign, a point and an exponent
+-- the number of a JSON numeral that has digits only and is below 2 ^ 64; there is no sign, no point
+-- and no exponent
 abbrev pub number_of : Data → Read ℕ
 number_of d = some_or BadForm (option_and_then as_u64 (as_number d))
 
--- the path in a text
+-- the path that a text spells
 abbrev pub path_in : List ℕ → Read (List ℕ)
 path_in text = lifted of_path_fault (parsed text)
 
@@ -24,7 +25,7 @@ path_of d = text_of d >>= path_in
 abbrev pub array_of : Data → Read Items
 array_of d = some_or BadForm (as_array d)
 
--- exactly two texts
+-- the two texts of a list that has exactly two values
 abbrev pub pair_in : Items → Read (List ℕ × List ℕ)
 pair_in no_items = Err BadForm
 pair_in (item a no_items) = Err BadForm
@@ -34,7 +35,7 @@ pair_in (item a (item b (item c ds))) = Err BadForm
 abbrev pub pair_of : Data → Read (List ℕ × List ℕ)
 pair_of d = array_of d >>= pair_in
 
--- the member of an object with exactly one member
+-- the only member of an object, if it has exactly one
 abbrev pub only_member : Members → Option (List ℕ × Data)
 only_member no_members = None
 only_member (member name d no_members) = Some (name, d)

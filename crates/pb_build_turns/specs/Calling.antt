@@ -43,13 +43,14 @@ use Rattle.pb_build_turns.specs.declared.executor.RunningUnit.{RunningUnit}
 use Rattle.pb_unit.specs.declared.plan.Planned.{Planned}
 use Rattle.pb_message_units.specs.Telling.{unit_lines}
 
--- what comes of a unit without a child: the judgement of the answer that this record replays to its
--- own command, with these files
+-- What came of a unit that had no child. The unit's answer is what this record replays to its own
+-- command, with these files.
 abbrev pub ran_again : Project → Planned → Record → Map → Ran
 ran_again project u r files = unstarted (ran_of project u (asked_command r.asked) (replayed r).ended files)
 
--- the unit at an index answered by the record that it had at first: its fault, its lines and its
--- directives follow from this record, the record's command, and the files that existed at first
+-- The unit at this index has answered with the record that it had at first. The unit's fault, lines
+-- and directives follow from this record, the record's command, and the files that were there at
+-- first.
 pub record AnswersAgain (setup : Setup) (project : Project) (done : List (Option (List Directive))) (first : World) (index : ℕ) (answer : Answer BadUnit) : Type 0 where
   pub unit : Planned
   pub there : unit_at project index ≡ Some unit
@@ -61,10 +62,10 @@ pub record AnswersAgain (setup : Setup) (project : Project) (done : List (Option
   pub lines : answer.lines ≡ unit_lines project unit false (ran_again project unit kept first.files).messages
   pub noted : slice_get done index ≡ Some (ran_again project unit kept first.files).directives
 
--- Units in flight that wait for such an answer.
+-- Units in flight that will answer by replay.
 
--- the unit carries what its first record replays to its command; the inputs of this record had
--- their recorded values at first; and the unit's folder and record are unchanged
+-- The unit has what its first record replays to its command. The inputs of this record had their
+-- recorded values at first. The unit's folder and record have not changed.
 pub record WaitsAgain (setup : Setup) (project : Project) (done : List (Option (List Directive))) (first now : World) (u : Planned) (c : Command) (again : Replayed) : Type 0 where
   pub kept : Record
   pub here : records (records_folder project) first u.key ≡ Some kept
@@ -74,22 +75,23 @@ pub record WaitsAgain (setup : Setup) (project : Project) (done : List (Option (
   pub gives : again ≡ replayed kept
   pub stays : (q : List ℕ) → is_of (records_folder project) u.key q ≡ true → finite.get now.files q ≡ finite.get first.files q
 
--- a unit without a child waits in this way (`WaitsAgain`); a unit with a child has no condition
+-- A unit without a child will answer by replay, as `WaitsAgain` says. Of a unit with a child,
+-- nothing is required.
 abbrev pub CarriesAgain : Setup → Project → List (Option (List Directive)) → World → World → Planned → Command → Awaited → Type 0
 CarriesAgain setup project done first now u c (awaited.Child launched) = Unit {0}
 CarriesAgain setup project done first now u c (awaited.Record again) = WaitsAgain setup project done first now u c again
 
--- if a unit in flight has no child, it waits in this way
+-- if a unit in flight has no child, it will answer by replay, as `WaitsAgain` says
 abbrev pub FliesAgain : Setup → Project → List (Option (List Directive)) → World → World → RunningUnit → Type 0
 FliesAgain setup project done first now a = (u : Planned) → unit_at project a.unit ≡ Some u → CarriesAgain setup project done first now u a.begun.command a.begun.awaited
 
--- what comes of a unit by this reply
+-- what came of a unit whose child gave this reply
 abbrev pub ran_anew : Project → Planned → Command → Reply → Ran
 ran_anew project u c reply = ran_of project u c (ended_by reply) (replied_files u.out reply)
 
--- the unit at an index answered with its child's reply to what the child sees of this world: its
--- folder contains exactly the files of this reply, and its fault, its lines and its directives
--- follow from the reply
+-- The unit at this index has answered with its child's reply to what the child sees of this world.
+-- The unit's folder contains exactly the reply's files. The unit's fault, lines and directives
+-- follow from the reply.
 pub record AnswersAnew (child : Answers) (setup : Setup) (project : Project) (done : List (Option (List Directive))) (now : World) (index : ℕ) (answer : Answer BadUnit) : Type 0 where
   pub unit : Planned
   pub there : unit_at project index ≡ Some unit
@@ -100,10 +102,10 @@ pub record AnswersAnew (child : Answers) (setup : Setup) (project : Project) (do
   pub lines : answer.lines ≡ unit_lines project unit true (ran_anew project unit (command_of setup project unit done) reply).messages
   pub noted : slice_get done index ≡ Some (ran_anew project unit (command_of setup project unit done) reply).directives
 
--- Units in flight that wait for such an answer.
+-- Units in flight that will answer with their child's reply.
 
--- the unit's child is in flight, and sees what it saw when it was spawned; a unit without a child
--- has no condition
+-- The child of a unit is in flight and sees what it saw when it was spawned. Of a unit without a
+-- child, nothing is required.
 abbrev pub CarriesAnew : Answers → Setup → Project → List (Option (List Directive)) → World → List ChildInFlight → (ℕ → Type 0) → Planned → Command → Awaited → Type 0
 CarriesAnew child setup project done now flying still u c (awaited.Child launched) = (c ≡ command_of setup project u done) × IsInFlight child c (seen_by c now) launched.ticket flying still
 CarriesAnew child setup project done now flying still u c (awaited.Record again) = Unit {0}
@@ -111,20 +113,21 @@ CarriesAnew child setup project done now flying still u c (awaited.Record again)
 abbrev pub FliesAnew : Answers → Setup → Project → List (Option (List Directive)) → World → List ChildInFlight → (ℕ → Type 0) → RunningUnit → Type 0
 FliesAnew child setup project done now flying still a = (u : Planned) → unit_at project a.unit ≡ Some u → CarriesAnew child setup project done now flying still u a.begun.command a.begun.awaited
 
--- what determines the calls of a build: the child, the project, the command of each unit, and what
--- the unit's child sees of a world
+-- What determines the calls of a build. These are the child, the project, the command of each unit,
+-- and what the unit's child sees of a world.
 pub record CallBasis : Type 0 where
   pub child : Answers
   pub project : Project
   pub command : ℕ → Planned → Command
   pub sees : ℕ → Planned → World → World
 
--- for a build context: the command and the view of each unit in a clean build, whatever the world is
+-- what determines the calls in a build context: the command and the view that each unit has in a
+-- clean build, whatever the world is
 abbrev pub call_basis : BuildContext → CallBasis
 call_basis b = record { child = b.child; project = b.project; command = command_in b; sees = λ index u w. view_in b index u }
 
--- for any records, true or not: the command of a unit after the directives that are noted, and what that command sees
--- of the world
+-- What determines the calls over any records, true or not. Each unit has its command after the
+-- noted directives, and sees what this command sees of the world.
 abbrev pub call_basis_on_any : Answers → Setup → Project → List (Option (List Directive)) → CallBasis
 call_basis_on_any child setup project done = record {
   child = child;
@@ -135,21 +138,21 @@ call_basis_on_any child setup project done = record {
 
 -- A unit begins.
 
--- if no child was started, no call came after the comparison, and nothing changed; else the unit's
--- child was launched
+-- The calls with which a unit begins. Without a child, no call came after the comparison, and
+-- nothing changed. With a child, the calls of the child's launch came after the comparison.
 abbrev pub CallsToBegin : Answers → Project → Planned → Command → Bool → World → Counts → World → Counts → Type 0
 CallsToBegin child project u c false before old after new = (after ≡ before) × (new ≡ past_look project u c before old)
 CallsToBegin child project u c true before old after new = (ticket : ℕ) × Launches child c ticket (past_look project u c before old) new
 
--- the unit at an index began with exactly these calls
+-- the unit at this index began with exactly these calls
 pub record BeginsCalling (b : CallBasis) (index : ℕ) (spawned : Bool) (before : World) (old : Counts) (after : World) (new : Counts) : Type 0 where
   pub unit : Planned
   pub there : unit_at b.project index ≡ Some unit
   pub only : ChangesOnly (is_of (records_folder b.project) unit.key) before after
   pub calls : CallsToBegin b.child b.project unit (b.command index unit) spawned before old after new
 
--- the unit at an index could not begin: it stopped at a call of its comparison; or something
--- differed, and it stopped while it launched its child
+-- The unit at this index could not begin. Either the unit stopped at a call of its comparison. Or
+-- something differed, and the unit stopped at a call of the launch.
 pub record StopsBeginning (b : CallBasis) (index : ℕ) (fault : BuildFault) (w : World) (old : Counts) (after : World) (new : Counts) : Type 0 where
   pub unit : Planned
   pub there : unit_at b.project index ≡ Some unit
@@ -159,11 +162,11 @@ pub record StopsBeginning (b : CallBasis) (index : ℕ) (fault : BuildFault) (w 
 
 -- A unit answers.
 
--- the reply of the child to the command of the unit at an index, from what it sees of a world
+-- the reply of the child to the command of the unit at this index, given what the child sees of the world
 abbrev pub reply_by : CallBasis → ℕ → Planned → World → Reply
 reply_by b index u w = b.child (b.command index u) (b.sees index u w)
 
--- a child ended with this reply, and the unit's folder contains exactly the files of the reply
+-- the child has ended with this reply, and the unit's folder contains exactly the reply's files
 pub record EndsAsReplied (reply : Reply) (u : Planned) (ended : Ended) (left : World) : Type 0 where
   pub answer : ended ≡ ended_by reply
   pub files : files_in u.out left.files ≡ replied_files u.out reply
@@ -172,8 +175,9 @@ pub record EndsAsReplied (reply : Reply) (u : Planned) (ended : Ended) (left : W
 abbrev pub FliesFor : Command → List ChildInFlight → SpawnedChild → Type 0
 FliesFor c flying launched = (spawned : ChildInFlight) × (child_at launched.ticket flying ≡ Some spawned) × (spawned.command ≡ c)
 
--- the answer of the unit at an index was taken: if it has a child, the child's end was awaited;
--- then exactly the calls of the answer were made. Contracts state this only for a modelled place
+-- The answer of the unit at this index was taken. If the unit has a child, the child's end was
+-- awaited. Then exactly the calls of the answer were made. Contracts state this only for a modelled
+-- place.
 pub record AnswersCalling (b : CallBasis) (index : ℕ) (spawned : Bool) (result : Result (Unit {0}) BuildFault) (before : World) (old : Counts) (after : World) (new : Counts) : Type 0 where
   pub unit : Planned
   pub there : unit_at b.project index ≡ Some unit
@@ -190,30 +194,30 @@ pub record AnswersCalling (b : CallBasis) (index : ℕ) (spawned : Bool) (result
   pub named : IfErr result (IsOfUnit unit.key)
   pub calls : CallsBehind by (answered_called b.project unit (b.command index unit) left by) answer (bare result) mid new
 
--- All calls.
+-- All calls of a build's units.
 
--- over these events, exactly these calls were made between a first and a last moment of the place
+-- From the first moment of the place to the last, exactly the calls of these events were made.
 abbrev pub CallsOver : CallBasis → List (Event BadUnit) → World → Counts → World → Counts → Type 0
 CallsOver b [] first at last now = (last ≡ first) × (now ≡ at)
 CallsOver b (Began index spawned ∷ es) first at last now = (before : World) × (old : Counts) × CallsOver b es first at before old × BeginsCalling b index spawned before old last now
 CallsOver b (Gave index answer ∷ es) first at last now = (before : World) × (old : Counts) × CallsOver b es first at before old × AnswersCalling b index (is_started es index) (Ok tt) before old last now
 
--- the calls of the event that ended with a fault: the calls of an answer, or of a unit that could
--- not begin. If the sink failed or memory ran out, there may be none
+-- The calls of the event at which a fault came: those of an answer, or of a unit that could not
+-- begin. If the sink failed or memory ran out, there may be no calls.
 abbrev pub StopsLast : CallBasis → BuildFault → Option ℕ → List (Event BadUnit) → List (Event BadUnit) → World → Counts → World → Counts → Type 0
 StopsLast b fault (Some index) es before w old after new = AnswersCalling b index (is_started before index) (Err fault) w old after new
 StopsLast b fault None es before w old after new = (((fault ≡ Sink) ⊎ (fault ≡ OutOfMemory)) × (after ≡ w) × (new ≡ old)) ⊎ ((index : ℕ) × (spawned : Bool) × (es ≡ Began index spawned ∷ before) × StopsBeginning b index fault w old after new)
 
--- exactly these calls were made: the calls over the events before a fault, and then the calls of
--- the fault's event
+-- Exactly these calls were made: those of the events before the fault, followed by those of the
+-- event at which the fault came.
 abbrev pub CallsCut : CallBasis → BuildFault → Option ℕ → List (Event BadUnit) → List (Event BadUnit) → World → Counts → World → Counts → Type 0
 CallsCut b fault asked es before first at last now = (w : World) × (old : Counts) × CallsOver b before first at w old × StopsLast b fault asked es before w old last now
 
--- for any records, true or not: exactly these calls were made, with the command of each unit after the directives that
--- are noted
+-- Over any records, true or not, exactly the calls of these events were made. Each unit had its
+-- command after the noted directives.
 abbrev pub CallsOnAny : Answers → Setup → Project → List (Option (List Directive)) → List (Event BadUnit) → World → Counts → World → Counts → Type 0
 CallsOnAny child setup project done es first at last now = CallsOver (call_basis_on_any child setup project done) es first at last now
 
--- for any records, true or not: exactly these calls were made up to a fault
+-- over any records, true or not, exactly these calls were made up to a fault
 abbrev pub CallsCutOnAny : Answers → Setup → Project → List (Option (List Directive)) → BuildFault → Option ℕ → List (Event BadUnit) → List (Event BadUnit) → World → Counts → World → Counts → Type 0
 CallsCutOnAny child setup project done fault asked es before first at last now = CallsCut (call_basis_on_any child setup project done) fault asked es before first at last now

@@ -1,5 +1,5 @@
--- How the units of a project end, what stays true as their children are dropped, and the laws about
--- this.
+-- How the units of a project end, and what stays true while the children in flight are dropped.
+-- Also, laws about this.
 use Rattle.std.specs.Prelude.{◌≡◌, ℕ, true, false, List, Option, Some, Bool, ◌≢◌, ◌⊎◌, ◌∷◌, [], max, map, length, take, None, IsTrue, IfErr, Result, Ok, Err, slice_get}
 use Rattle.std.specs.FinMap as finite
 use Rattle.std.specs.Io.KnownBytes.{Appends}
@@ -34,33 +34,34 @@ use Rattle.pb_build_turns.specs.History.{AllAnswerAnew, AllBegan, AllLeaveRecord
 use Rattle.pb_build_turns.specs.declared.executor.RunningUnit.{RunningUnit}
 use Rattle.pb_unit.specs.declared.plan.Planned.{Planned}
 
--- The units in flight were these before and are those after; all that the events imply about the worlds is still true.
+-- What dropping children leaves true. `before` are the units in flight before it, and `after` those
+-- after it. All that the events imply about the worlds is still true.
 pub record StaysTold (child : Answers) (project : Project) (first : World) (es : List (Event BadUnit)) (before after : List RunningUnit) (old new : World) (flying : List ChildInFlight) : Type 0 where
   pub changes : Changes project first after es new flying
-  -- each unit in flight after was in flight before
+  -- each unit in flight afterwards was in flight before
   pub beside : (came : List (Event BadUnit)) (asked : Option ℕ) → AllByRecursion (FliesBeside project came asked) before → AllByRecursion (FliesBeside project came asked) after
-  -- only folders of units that were dropped have changed
+  -- only the folders of units whose children were dropped have changed
   pub alone : (came : List (Event BadUnit)) (asked : Option ℕ) → AllByRecursion (FliesBeside project came asked) before
       → ChangesInFlight project came asked old new
-  -- a unit without a record still has none
+  -- a unit for which no record counted still has none
   pub unrecorded : (index : ℕ) (unit : Planned) → unit_at project index ≡ Some unit → HasNoRecord project unit old → HasNoRecord project unit new
   -- nothing has changed for a unit for which no child was started
   pub childless : (index : ℕ) (unit : Planned) (path : List ℕ) → unit_at project index ≡ Some unit → is_started es index ≡ false
       → is_of (records_folder project) unit.key path ≡ true → finite.get new.files path ≡ finite.get old.files path
-  -- why units began, or could not begin
+  -- why units began, or could not begin, is still true
   pub began : (sources : World) (command : ℕ → Planned → Command) (fault : BuildFault) (came : List (Event BadUnit)) (reasons : Reasons)
       → IsLawful (needs_of project) es → CameAfter project fault came es
       → AllBegan project sources command came reasons first old → AllBegan project sources command came reasons first new
   pub started : (sources : World) (command : ℕ → Planned → Command) (fault : BuildFault) (came : List (Event BadUnit))
       → HadDiffered project sources command fault came es first old → HadDiffered project sources command fault came es first new
-  -- what units answered, and the records that they left
+  -- what units answered, and which records they left, is still true
   pub anew : (setup : Setup) (done : List (Option (List Directive))) → IsLawful (needs_of project) es
       → AllAnswerAnew child setup project es done old → AllAnswerAnew child setup project es done new
   pub left : (setup : Setup) (done : List (Option (List Directive))) (next : Option ℕ) → IsLawful (needs_of project) es
       → AllLeaveRecords child setup project es done next first old → AllLeaveRecords child setup project es done next first new
 
--- the end of each child with one of these tickets was awaited once, its answer was dropped, and no
--- other call was made; if each child answers, no counter shows the order
+-- The end of each child with one of these tickets was awaited once, and its answer was dropped. No
+-- other call was made. If each child answers, no counter shows the order.
 abbrev pub Dropped : List ℕ → Counts → Counts → Type 0
 Dropped [] old new = new ≡ old
 Dropped (ticket ∷ tickets) old new = (result : Result Ended StartFault) × IfErr result (λ e. e ≢ start.OutOfMemory → (e ≡ start.Died) ⊎ (e ≡ start.Capture)) × Dropped tickets (counted_finish ticket result old) new
@@ -69,7 +70,7 @@ Dropped (ticket ∷ tickets) old new = (result : Result Ended StartFault) × IfE
 abbrev pub Drained : Counts → Counts → Type 0
 Drained old new = Dropped (map ticket_of_child old.starts.flying) old new
 
--- the rows of a build context: the units and their outcomes in a clean build, up to and including the first bad one
+-- the units of a build context with their outcomes in a clean build, up to and including the first bad unit
 abbrev pub rows_in : BuildContext → List Row
 rows_in b = rows_of b.child b.setup b.project b.sources
 
@@ -77,13 +78,14 @@ rows_in b = rows_of b.child b.setup b.project b.sources
 abbrev pub nothing_said : Project → List (Option (List Directive))
 nothing_said project = map (λ (u : Planned). None) project.plan.planned
 
--- for each build context that satisfies `BuildInvariant` before a unit has begun, this is true
+-- `Since` is true of each build context that satisfies `BuildInvariant` before any unit has begun
 abbrev pub Grounding : Answers → Setup → Project → Option ℕ → World → (BuildContext → Type 0) → Type 0
 Grounding child setup project next w Since = (premise : Premise) (sources : World)
     → BuildInvariant (build_context premise child setup project sources) (untouched project) (nothing_said project) next w → Since (build_context premise child setup project sources)
 
--- what is true after some events: what `BuildInvariant` requires; each unit that has answered has its outcome of a clean build;
--- and the lines that are due, and the first n of them, are those of the first rows
+-- What is true after these events. `BuildInvariant` is true. Each unit that has answered has its
+-- outcome of a clean build. The lines that are due, and the first n of them, are those of the first
+-- rows.
 pub record OutcomeHolds (b : BuildContext) (es : List (Event BadUnit)) (new : World) : Type 0 where
   pub done : List (Option (List Directive))
   pub next : Option ℕ
@@ -92,9 +94,9 @@ pub record OutcomeHolds (b : BuildContext) (es : List (Event BadUnit)) (new : Wo
   pub lines : due (states_in b.project es) ≡ said_from b.project es 0 (take (count_due (states_in b.project es)) (rows_in b))
   pub first_lines : (n : ℕ) → due_first n (states_in b.project es) ≡ said_from b.project es 0 (take n (take (count_due (states_in b.project es)) (rows_in b)))
 
--- all units have answered, or all up to and including the first bad one, and this is the next run
--- number: the lines of all rows are due, the summary is the summary of the rows, and each unit
--- began for its first difference
+-- All units have answered, or all up to and including the first bad one have. The lines of all rows
+-- are due, and the summary is that of the rows. Each unit that began did so for its first
+-- difference. `next` is the next run number.
 pub record StandsWhole (b : BuildContext) (es : List (Event BadUnit)) (reasons : Reasons) (summary : Summary) (next : Option ℕ) (old new : World) : Type 0 where
   pub stands : OutcomeHolds b es new
   pub next_is : stands.next ≡ next
@@ -102,18 +104,18 @@ pub record StandsWhole (b : BuildContext) (es : List (Event BadUnit)) (reasons :
   pub answer : summary ≡ summary_of b.project es reasons (rows_in b)
   pub began : AllBeganFor b es reasons old new
 
--- a fault ended the build after these events: if a unit could not begin because of its start, or because memory ran out
--- as its child was tried, something had differed for it
+-- A fault ended the build after these events. If a unit could not begin because its start failed,
+-- or because memory ran out in the spawn, something had differed for it.
 pub record StandsCut (b : BuildContext) (fault : BuildFault) (es before : List (Event BadUnit)) (old new : World) : Type 0 where
   pub stands : OutcomeHolds b es new
   pub reasons : Reasons
   pub began : AllBeganFor b before reasons old new
   pub started : StartedFor b fault before es old new
 
--- the units ended without a fault, and no failure was injected. The fields without `is_modelled` are true over every place:
--- the report, what was written, and the counters.
--- The others are true over a modelled place, whether the records are true or not: why each unit began, what
--- it answered, which record it left, which numbers were taken, and which calls were made
+-- The units ended without a fault, and no failure was injected. The fields without `is_modelled`
+-- are true over every place: the report, what was written, and the counters. The other fields are
+-- true over a modelled place, whether the records are true or not. Those say why each unit began,
+-- what it answered, which record it left, which numbers were taken, and which calls were made.
 pub record EndsWhole {S : Type 0} (is_modelled : Bool) (child : Answers) (Turns : S → List ℕ → List ℕ → Step → S → Type 0) (setup : Setup) (project : Project) (next : Option ℕ) (from last : S) (summary : Summary) (old new : BuildState) : Type 0 where
   pub es : List (Event BadUnit)
   pub flies : Flies Turns (needs_of project) Anyhow Anything from es last
@@ -155,11 +157,11 @@ pub record EndsWhole {S : Type 0} (is_modelled : Bool) (child : Answers) (Turns 
   pub calls : IsTrue is_modelled → Grounding child setup project next old.world (λ b. CallsOver (call_basis b) es old.world old.counts last_world mid)
   pub calls_on_any : IsTrue is_modelled → CallsOnAny child setup project done es old.world old.counts last_world mid
 
--- a fault ended the units. Its cause and what the sink received were fixed before the children in
--- flight were dropped. After the fault no unit began, and the turn was not asked again
--- (`HandsBack`, `Flies`). Over a modelled place, the units that have begun and those that have
--- answered satisfy the same as in `EndsWhole`. If a unit could not begin because of a fault of its
--- start, something had differed for it
+-- A fault ended the units. Its cause, and what the sink received, were fixed before the children in
+-- flight were dropped. After the fault no unit began, and the turn decided nothing (`HandsBack`,
+-- `Flies`). Over a modelled place, what `EndsWhole` says is true of the units that have begun and
+-- of those that have answered. If a unit could not begin because its start failed, something had
+-- differed for it.
 pub record EndsCut {S : Type 0} (is_modelled : Bool) (child : Answers) (Turns : S → List ℕ → List ℕ → Step → S → Type 0) (setup : Setup) (project : Project) (next : Option ℕ) (from back : S) (fault : BuildFault) (old new : BuildState) : Type 0 where
   pub es : List (Event BadUnit)
   pub last : S
@@ -193,14 +195,14 @@ pub record EndsCut {S : Type 0} (is_modelled : Bool) (child : Answers) (Turns : 
   pub calls : IsTrue is_modelled → Grounding child setup project next old.world (λ b. CallsCut (call_basis b) fault asked es before old.world old.counts mid.world mid.counts)
   pub calls_on_any : IsTrue is_modelled → CallsCutOnAny child setup project done fault asked es before old.world old.counts mid.world mid.counts
 
--- how the units end: with a summary or with a fault
+-- how the units end: as a whole with a summary, or cut by a fault
 abbrev pub TurnsEnd : {S : Type 0} → Bool → Answers → (S → List ℕ → List ℕ → Step → S → Type 0) → Setup → Project → Option ℕ → S → S → Result Summary BuildFault → BuildState → BuildState → Type 0
 TurnsEnd is_modelled child Turns setup project next from last (Ok summary) old new = EndsWhole is_modelled child Turns setup project next from last summary old new
 TurnsEnd is_modelled child Turns setup project next from last (Err fault) old new = EndsCut is_modelled child Turns setup project next from last fault old new
 
--- if each unit that has answered has its outcome of a clean build, the lines that are due are those
--- of the first rows. Once all units have answered, up to and including the first bad one, they are
--- the lines of all rows
+-- If each unit that has answered has its outcome of a clean build, the lines that are due are those
+-- of the first rows. Once all units up to and including the first bad one have answered, they are
+-- the lines of all rows.
 abbrev pub SaysFirstRows : Type 0
 SaysFirstRows = (b : BuildContext) (es : List (Event BadUnit)) (done : List (Option (List Directive))) → ((index : ℕ) (answer : Answer BadUnit) → slice_get (states_in b.project es) index ≡ Some (Answered answer) → HasGiven b es done index answer)
     → (due (states_in b.project es) ≡ said_from b.project es 0 (take (count_due (states_in b.project es)) (rows_in b))) × (is_finished (states_in b.project es) ≡ true → count_due (states_in b.project es) ≡ length (rows_in b))
@@ -219,8 +221,7 @@ LeavesRecords {S} Turns = (child : Answers) (setup : Setup) (project : Project) 
     → summary.success ≡ true → (sources : World) → BuildInvariant (build_context TrustedRecords child setup project sources) (untouched project) (nothing_said project) next old.world
     → EachHasRecord (build_context TrustedRecords child setup project sources) new.world
 
--- if each unit has its record at first, no child is started, and the summary reports no unit as
--- started
+-- if each unit has its record at first, no child is started, and the summary reports none as started
 abbrev pub StartsNoneAgain : {S : Type 0} → (S → List ℕ → List ℕ → Step → S → Type 0) → Type 0
 StartsNoneAgain {S} Turns = (child : Answers) (setup : Setup) (project : Project) (next : Option ℕ) (from last : S) (summary : Summary) (old new : BuildState) → EndsWhole true child Turns setup project next from last summary old new
     → (premise : Premise) (sources : World) → BuildInvariant (build_context premise child setup project sources) (untouched project) (nothing_said project) next old.world

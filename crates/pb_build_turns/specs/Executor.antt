@@ -1,4 +1,4 @@
--- A moment of a build, and what a crew of units knows about its place.
+-- A moment of a build, and what is always true of the executor of its units.
 use Rattle.std.specs.Prelude.{ℕ, ◌≡◌, ◌≢◌, ◌∷◌, [], Bool, IsTrue, List, map, length, Option, Some, None, is_some, slice_get}
 use Rattle.std.specs.List.{flat_map, AllByRecursion}
 use Rattle.pb_run_flight.specs.Table.{if_so}
@@ -20,7 +20,8 @@ use Rattle.pb_build_turns.specs.declared.executor.RunningUnit.{RunningUnit}
 use Rattle.pb_build_turns.specs.declared.executor.UnitExecutor.{UnitExecutor}
 use Rattle.pb_unit.specs.declared.plan.Planned.{Planned}
 
--- the world, the counters of the place, the greatest number of children that were in flight at once, and the sink
+-- A moment has the world, the counters of the place, the greatest number of children that were in
+-- flight at once, and the sink.
 pub record BuildState : Type 0 where
   pub world : World
   pub counts : Counts
@@ -30,7 +31,8 @@ pub record BuildState : Type 0 where
 abbrev pub moment : At → SinkState → BuildState
 moment at heard = record { world = at.world; counts = at.counts; most = at.most; heard = heard }
 
--- what each unit needs
+-- what each unit needs; the next definitions are the indices of units in flight, and the ticket and
+-- the run number of a child
 abbrev pub needs_of : Project → List (List ℕ)
 needs_of project = map (λ (u : Planned). u.needs) project.plan.planned
 
@@ -51,8 +53,8 @@ number_in (Some launched) = launched.number ∷ []
 abbrev pub ticket_of_child : ChildInFlight → ℕ
 ticket_of_child child = child.ticket
 
--- the tickets of the children of units in flight (below: their run numbers, and the units that have
--- a child)
+-- The tickets of the children of units in flight. The next two definitions are their run numbers,
+-- and the units that have a child.
 abbrev pub tickets_of : List RunningUnit → List ℕ
 tickets_of running = flat_map (λ (a : RunningUnit). ticket_in (child_of a.begun)) running
 
@@ -62,25 +64,25 @@ numbers_of running = flat_map (λ (a : RunningUnit). number_in (child_of a.begun
 abbrev pub launched_of : List RunningUnit → List ℕ
 launched_of running = flat_map (λ (a : RunningUnit). if_so (is_some (child_of a.begun)) a.unit) running
 
--- no two of these numbers are equal
+-- all these numbers are different
 abbrev pub AreApart : List ℕ → Type 0
 AreApart [] = Unit {0}
 AreApart (n ∷ ns) = AllByRecursion (λ m. n ≢ m) ns × AreApart ns
 
--- a unit that has begun, after its difference was moved to the reasons
+-- a unit that has begun, after its difference was moved to the list of reasons
 abbrev pub noted : Begun → Begun
 noted begun = record begun { difference = None }
 
--- a unit in flight is a unit of the plan, with its key and a command of it
+-- a unit in flight is a unit of the plan, and has its key and one of its commands
 pub record IsOfPlan (project : Project) (a : RunningUnit) : Type 0 where
   pub unit : Planned
   pub there : slice_get project.plan.planned a.unit ≡ Some unit
   pub key : a.begun.unit ≡ unit.key
   pub asks : IsCommandOf project unit a.begun.command
 
--- what is true of a crew at each moment: its project is in order; its store is the store of the
--- project's records; the children in flight are those of its units in flight; and no two of these
--- have the same index, ticket or run number
+-- What is true of an executor at each moment. The project is in order, and the store is that of the
+-- project's records. The children in flight are those of the units in flight. No two of these units
+-- have the same index, ticket or run number.
 pub record IsConsistent (c : UnitExecutor) (counts : Counts) : Type 0 where
   pub order : IsInOrder c.project
   pub folder : c.store.folder ≡ records_folder c.project
@@ -97,8 +99,8 @@ pub record IsConsistent (c : UnitExecutor) (counts : Counts) : Type 0 where
 abbrev pub WritesOwn : Project → List ChildInFlight → RunningUnit → Type 0
 WritesOwn project flying a = (unit : Planned) → unit_at project a.unit ≡ Some unit → WritesTo unit.out (child_of a.begun) flying
 
--- what each call of a crew requires, and what stays true until a call fails
+-- what each call of an executor requires, and what stays true until a call fails
 pub record IsAble (is_modelled : Bool) (c : UnitExecutor) (at : At) : Type 0 where
-  -- the store has the numbers of its records
+  -- the store has the run numbers of its records
   pub numbers : IsTrue is_modelled → HasNumbers (records (records_folder c.project) at.world) c.store.numbers
   pub writes : AllByRecursion (WritesOwn c.project at.counts.starts.flying) c.running.items

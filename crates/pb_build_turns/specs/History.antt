@@ -46,20 +46,20 @@ use Rattle.pb_build_turns.specs.declared.executor.RunningUnit.{RunningUnit}
 use Rattle.pb_build_turns.specs.declared.executor.UnitExecutor.{UnitExecutor}
 use Rattle.pb_unit.specs.declared.plan.Planned.{Planned}
 
--- the states of the units after some events
+-- the state of each unit after these events
 abbrev pub states_in : Project → List (Event BadUnit) → List (State BadUnit)
 states_in project es = states_after (needs_of project) es
 
 -- What is true of the counters, the sink and the lists, over every place.
 
--- a counter after n more steps
+-- the counter after it was raised n times
 abbrev pub upped : ℕ → ℕ → ℕ
 upped zero n = n
 upped (suc k) n = up (upped k n)
 
--- so far no call failed, and no failure was injected; the lines of the first n units were written;
--- one child was started for each unit that began with a child; and no more children were in flight
--- at once than the events imply
+-- So far no call has failed, and no failure was injected. The lines of the first n units were
+-- written. One child was started for each unit that began with a child. The greatest number of
+-- children in flight is what the events imply.
 pub record CountersSoFar (project : Project) (first now : BuildState) (started : List ℕ) (running : List RunningUnit) (es : List (Event BadUnit)) (given : ℕ) : Type 0 where
   pub started_are : started ≡ started_by es
   pub launched_are : launched_of running ≡ launched_after es
@@ -74,8 +74,8 @@ pub record CountersSoFar (project : Project) (first now : BuildState) (started :
 abbrev pub NoneWritesTo : List ℕ → List ChildInFlight → Type 0
 NoneWritesTo out flying = (ticket : ℕ) (its : ChildInFlight) → child_at ticket flying ≡ Some its → its.command.out ≢ Some out
 
--- a call for the unit of this key failed, or no run number is left for it: the unit has begun and not answered, it has
--- no child in flight, and all lines that were due have been written
+-- A call for the unit with this key failed, or no run number was left for it. The unit has begun
+-- and not answered, and has no child in flight. All lines that were due have been written.
 pub record StopsAt (is_modelled : Bool) (project : Project) (first now : BuildState) (key : List ℕ) (es : List (Event BadUnit)) : Type 0 where
   pub place : ℕ
   pub unit : Planned
@@ -86,8 +86,9 @@ pub record StopsAt (is_modelled : Bool) (project : Project) (first now : BuildSt
   pub lines : Appends first.heard.taken now.heard.taken (due (states_in project es))
   pub faults : now.heard.faults ≡ first.heard.faults
 
--- the sink failed after the last event, an answer: it took all lines that were due before that answer; of the lines
--- that are due since then it took some first bytes, but not all
+-- The sink failed after the last event, which is an answer. The sink took all lines that were due
+-- before this answer. Of the lines that became due with the answer, the sink took some first bytes,
+-- but not all.
 pub record StopsAtSink (project : Project) (first now : BuildState) (es : List (Event BadUnit)) : Type 0 where
   pub before : List (Event BadUnit)
   pub unit : ℕ
@@ -99,8 +100,8 @@ pub record StopsAtSink (project : Project) (first now : BuildState) (es : List (
   pub lines : Appends first.heard.taken now.heard.taken (take taken (due (states_in project es)))
   pub faults : now.heard.faults ≡ up first.heard.faults
 
--- how a fault ends the build: at a unit; at the sink, as the lines after an answer were written (`StopsAtSink`); or
--- because memory ran out, with the lines of the first units
+-- How a fault ends the build. The fault came at a unit, or at the sink after an answer
+-- (`StopsAtSink`). Or memory ran out after the lines of the first few units were written.
 abbrev pub StopsBy : Bool → BuildFault → Project → BuildState → BuildState → List (Event BadUnit) → Type 0
 StopsBy is_modelled (Plan why) project first now es = ⊥
 StopsBy is_modelled Toolchain project first now es = ⊥
@@ -109,18 +110,19 @@ StopsBy is_modelled (Device key fault) project first now es = StopsAt is_modelle
 StopsBy is_modelled Sink project first now es = StopsAtSink project first now es
 StopsBy is_modelled OutOfMemory project first now es = ((n : ℕ) × Appends first.heard.taken now.heard.taken (due_first n (states_in project es))) × (now.heard.faults ≡ first.heard.faults)
 
--- the build stopped (`StopsBy`) and the fault has its cause; no failure was injected. One child was
--- started for each unit that began with a child; for the last of these units, the spawn may only
--- have been tried
+-- The build stopped as `StopsBy` says, and the fault has its cause. No failure was injected. One
+-- child was started for each unit that began with a child. For the last of these units, the spawn
+-- may only have been tried.
 pub record Stops (is_modelled : Bool) (fault : BuildFault) (project : Project) (first now : BuildState) (es : List (Event BadUnit)) : Type 0 where
   pub by : StopsBy is_modelled fault project first now es
   pub cause : HasCause fault first.counts now.counts
   pub starts : now.counts.starts.count ≡ upped (length (started_by es)) first.counts.starts.count
   pub settings : now.counts.starts.settings ≡ first.counts.starts.settings
 
--- the number that a unit takes as it answers: none if a child was started for it, or if it is bad.
--- Else the next number if its first record is known to have lacked one, and none if this record is
--- known to have had one. If neither is known, at most one number
+-- The number that a unit takes when it answers. A unit that is bad, or has a child, takes none. Any
+-- other unit takes the next number if its first record is known to have lacked one. If that record
+-- is known to have had a number, the unit takes none. If neither is known, the unit takes at most
+-- one.
 pub record TakesAsAnswered (Lacks : Bool → Type 0) (started : Bool) (fault : Option BadUnit) (before now : Option ℕ) : Type 0 where
   pub at_most : TakesNumber before now
   pub child : started ≡ true → now ≡ before
@@ -128,27 +130,27 @@ pub record TakesAsAnswered (Lacks : Bool → Type 0) (started : Bool) (fault : O
   pub had : Lacks false → now ≡ before
   pub lacked : started ≡ false → fault ≡ None → Lacks true → TakesNext before now
 
--- the next run number after these events: a unit takes a number as it begins with a child, or as it
--- answers. If a unit took a number and then could not begin, this number is not counted
+-- The next run number after these events. A unit takes a number when it begins with a child, or
+-- when it answers. If a unit took a number and then could not begin, this number is not counted.
 abbrev pub NumbersGiven : (ℕ → Bool → Type 0) → List (Event BadUnit) → Option ℕ → Option ℕ → Type 0
 NumbersGiven Lacks [] first now = now ≡ first
 NumbersGiven Lacks (Began unit true ∷ es) first now = (before : Option ℕ) × NumbersGiven Lacks es first before × TakesNext before now
 NumbersGiven Lacks (Began unit false ∷ es) first now = NumbersGiven Lacks es first now
 NumbersGiven Lacks (Gave unit answer ∷ es) first now = (before : Option ℕ) × NumbersGiven Lacks es first before × TakesAsAnswered (Lacks unit) (is_started es unit) answer.fault before now
 
--- if a fault reports that no run number is left, all numbers were taken
+-- if the fault says that no run number is left, all numbers were taken
 abbrev pub Spends : (ℕ → Bool → Type 0) → BuildFault → Option ℕ → List (Event BadUnit) → Type 0
 Spends Lacks (Device key NumbersSpent) first es = NumbersGiven Lacks es first None
 Spends Lacks fault first es = Unit {0}
 
--- over a place that is not modelled, we do not know whether the record of a unit lacked a number
+-- over a place that is not modelled, it is not known if the record of a unit lacked a number
 abbrev pub IsUntold : ℕ → Bool → Type 0
 IsUntold unit lacks = ⊥
 
 -- What is true over a modelled place.
 
--- the unit at an index has its outcome of a clean build: its fault, its lines and its noted
--- directives. Its lines say whether a child was started for it
+-- The unit at this index has its outcome of a clean build: its fault, its lines and its noted
+-- directives. The unit's lines say if a child was started for it.
 pub record HasGiven (b : BuildContext) (es : List (Event BadUnit)) (done : List (Option (List Directive))) (index : ℕ) (answer : Answer BadUnit) : Type 0 where
   pub unit : Planned
   pub there : unit_at b.project index ≡ Some unit
@@ -158,38 +160,39 @@ pub record HasGiven (b : BuildContext) (es : List (Event BadUnit)) (done : List 
   pub lines : answer.lines ≡ unit_lines b.project unit (is_started es index) (messages_in outcome)
   pub noted : slice_get done index ≡ Some (directives_in outcome)
 
--- the events before the unit at an index began
+-- the events that came before the unit at this index began
 abbrev pub events_before : List (Event BadUnit) → ℕ → List (Event BadUnit)
 events_before [] place = []
 events_before (Began unit spawned ∷ es) place = if unit == place then es else events_before es place
 events_before (Gave unit answer ∷ es) place = events_before es place
 
--- only files in the output folders and the records of units that have begun were changed
+-- Only the output folders and the records of units that have begun were changed.
 pub record OnlyOf (project : Project) (es : List (Event BadUnit)) (old new : World) : Type 0 where
   pub variables : new.variables ≡ old.variables
   pub files : (q : List ℕ) → ((index : ℕ) (u : Planned) → HasBegun (states_in project es) index → unit_at project index ≡ Some u → is_of (records_folder project) u.key q ≡ false) → finite.get new.files q ≡ finite.get old.files q
 
--- whether the unit at an index has a record without a number
+-- says of the unit at this index whether its record lacks a number
 abbrev pub LacksNumber : Project → World → ℕ → Bool → Type 0
 LacksNumber project w index lacks = (u : Planned) → unit_at project index ≡ Some u → lacks_number (records (records_folder project) w u.key) ≡ lacks
 
--- this unit has no record that counts
+-- no record counts for this unit
 abbrev pub HasNoRecord : Project → Planned → World → Type 0
 HasNoRecord project u w = records (records_folder project) w u.key ≡ None
 
--- if a child was started for a unit in flight, the unit has no record; the unit whose answer was
--- taken is excepted
+-- If a child was started for a unit in flight, no record counts for the unit. This leaves out the
+-- unit whose answer was taken.
 abbrev pub KeepsNoneInFlight : Project → List (Event BadUnit) → Option ℕ → World → Type 0
 KeepsNoneInFlight project es asked w = (index : ℕ) (u : Planned) → unit_at project index ≡ Some u → slice_get (states_in project es) index ≡ Some Begun → asked ≢ Some index → is_started es index ≡ true → HasNoRecord project u w
 
--- if no child was started for a unit in flight, its folder and its record are as at first; the unit whose answer was
--- taken is excepted
+-- If no child was started for a unit in flight, its folder and its record are as they were at
+-- first. This leaves out the unit whose answer was taken.
 abbrev pub KeepsChildless : Project → List (Event BadUnit) → Option ℕ → World → World → Type 0
 KeepsChildless project es asked first w = (index : ℕ) (u : Planned) (q : List ℕ) → unit_at project index ≡ Some u → slice_get (states_in project es) index ≡ Some Begun → asked ≢ Some index → is_started es index ≡ false → is_of (records_folder project) u.key q ≡ true
     → finite.get w.files q ≡ finite.get first.files q
 
--- the first difference of the unit at an index when it began, in a world in which only units that had begun before had
--- changed anything. A child was started for the unit if and only if something differed, and the difference is noted
+-- The unit at this index had this first difference when it began. In the world at that moment, only
+-- units that had begun before had changed anything. A child was started for the unit if and only if
+-- something differed. The difference is noted.
 pub record BeganFor (project : Project) (sources : World) (command : ℕ → Planned → Command) (es : List (Event BadUnit)) (reasons : Reasons) (first now : World) (index : ℕ) : Type 0 where
   pub unit : Planned
   pub there : unit_at project index ≡ Some unit
@@ -211,98 +214,102 @@ pub record BeganFor (project : Project) (sources : World) (command : ℕ → Pla
   pub kept_stays : difference ≡ None → lacks_number (records (records_folder project) first unit.key) ≡ false → (q : List ℕ) → is_of (records_folder project) unit.key q ≡ true → finite.get now.files q ≡ finite.get first.files q
   pub unstarted : started_by (events_before es index) ≡ [] → ((p : ℕ) → LacksNumber project first p false) → world ≡ first
 
--- each unit that has begun has begun for its first difference (`BeganFor`)
+-- each unit that has begun did so for its first difference, as `BeganFor` says
 abbrev pub AllBegan : Project → World → (ℕ → Planned → Command) → List (Event BadUnit) → Reasons → World → World → Type 0
 AllBegan project sources command es reasons first now = (index : ℕ) → HasBegun (states_in project es) index → BeganFor project sources command es reasons first now index
 
--- if a unit could not begin because of its start, or because memory ran out as its child was tried,
--- something had differed for it. This is stated as if its child had been started
+-- If a unit could not begin because its start failed, or because memory ran out in the spawn,
+-- something had differed for it. This is stated as if its child had been started.
 abbrev pub HadDiffered : Project → World → (ℕ → Planned → Command) → BuildFault → List (Event BadUnit) → List (Event BadUnit) → World → World → Type 0
 HadDiffered project sources command fault before es first now =
     (index : ℕ) (spawned : Bool) → es ≡ Began index spawned ∷ before → (is_of_start fault ≡ true) ⊎ (spawned ≡ true) → (reasons : Reasons) × BeganFor project sources command (Began index true ∷ before) reasons first now index
 
--- for any records, true or not: each unit began for its first difference, with the sources of the
--- first world, and with its command after the directives that are noted
+-- Over any records, true or not, each unit began for its first difference. The sources are those of
+-- the first world, and each unit had its command after the noted directives.
 abbrev pub AllBeganOnAny : Setup → Project → List (Option (List Directive)) → List (Event BadUnit) → Reasons → World → World → Type 0
 AllBeganOnAny setup project done es reasons first now = AllBegan project (from_nothing project.workspace.target first) (λ index u. command_of setup project u done) es reasons first now
 
--- and something had differed for a unit that could not begin
+-- over any records, true or not, something had differed for a unit whose start failed
 abbrev pub StartedOnAny : Setup → Project → List (Option (List Directive)) → BuildFault → List (Event BadUnit) → List (Event BadUnit) → World → World → Type 0
 StartedOnAny setup project done fault before es first now = HadDiffered project (from_nothing project.workspace.target first) (λ index u. command_of setup project u done) fault before es first now
 
--- for a build context: each unit began for its first difference, with the sources of the context,
--- and with its command after the outcomes of a clean build
+-- In a build context, each unit began for its first difference. The sources are those of the
+-- context, and each unit had its command after the outcomes of a clean build.
 abbrev pub AllBeganFor : BuildContext → List (Event BadUnit) → Reasons → World → World → Type 0
 AllBeganFor b es reasons first now = AllBegan b.project b.sources (command_in b) es reasons first now
 
--- and something had differed for a unit that could not begin
+-- in a build context, something had differed for a unit whose start failed
 abbrev pub StartedFor : BuildContext → BuildFault → List (Event BadUnit) → List (Event BadUnit) → World → World → Type 0
 StartedFor b fault before es first now = HadDiffered b.project b.sources (command_in b) fault before es first now
 
--- a bad unit for which a child was started has no record
+-- if a child was started for a bad unit, no record counts for the unit
 abbrev pub KeepsNoneOfBad : Project → List (Event BadUnit) → World → Type 0
 KeepsNoneOfBad project es w = (index : ℕ) (u : Planned) (answer : Answer BadUnit) → unit_at project index ≡ Some u → slice_get (states_in project es) index ≡ Some (Answered answer) → IsSome answer.fault → is_started es index ≡ true → HasNoRecord project u w
 
--- a unit in flight has begun; if it has a child, the child writes into the unit's folder, and the unit has no record
+-- The unit in flight has begun and not answered. If the unit has a child, the child writes into the
+-- unit's folder, and no record counts for the unit.
 pub record FliesIn (project : Project) (es : List (Event BadUnit)) (world : World) (flying : List ChildInFlight) (a : RunningUnit) : Type 0 where
   pub state : slice_get (states_in project es) a.unit ≡ Some Begun
   pub started : is_started es a.unit ≡ is_some (child_of a.begun)
   pub gone : (u : Planned) → unit_at project a.unit ≡ Some u → IsSome (child_of a.begun) → HasNoRecord project u world
   pub writes : (u : Planned) → unit_at project a.unit ≡ Some u → WritesTo u.out (child_of a.begun) flying
 
--- by these events a unit in flight has begun, with or without a child, and it is not the unit whose answer was taken
+-- By these events, the unit in flight has begun, with or without a child, and has not answered. The
+-- unit whose answer was taken is another.
 pub record FliesBeside (project : Project) (es : List (Event BadUnit)) (asked : Option ℕ) (a : RunningUnit) : Type 0 where
   pub state : slice_get (states_in project es) a.unit ≡ Some Begun
   pub started : is_started es a.unit ≡ is_some (child_of a.begun)
   pub other : asked ≢ Some a.unit
 
--- only files in the folders of units that have begun with a child and not answered were changed; the unit whose answer
--- was taken is not among these
+-- Only the output folders of units that have begun with a child and not answered were changed. The
+-- folder of the unit whose answer was taken was not.
 pub record ChangesInFlight (project : Project) (es : List (Event BadUnit)) (asked : Option ℕ) (old new : World) : Type 0 where
   pub variables : new.variables ≡ old.variables
   pub files : (q : List ℕ) → ((index : ℕ) (u : Planned) → slice_get (states_in project es) index ≡ Some Begun → asked ≢ Some index → is_started es index ≡ true → unit_at project index ≡ Some u → is_at_or_below u.out q ≡ false) → finite.get new.files q ≡ finite.get old.files q
 
--- the units in flight and what has changed, whatever the build rests on
+-- the units in flight and what they have changed, whatever the build assumes
 pub record Changes (project : Project) (first : World) (running : List RunningUnit) (es : List (Event BadUnit)) (world : World) (flying : List ChildInFlight) : Type 0 where
   pub flies : AllByRecursion (FliesIn project es world flying) running
   pub only : OnlyOf project es first world
   pub unkept : KeepsNoneOfBad project es world
 
--- each unit without a child answered by the record that it had at first
+-- each unit without a child has answered with the record that it had at first
 abbrev pub AllAnswerAgain : Setup → Project → List (Event BadUnit) → List (Option (List Directive)) → World → Type 0
 AllAnswerAgain setup project es done first = (index : ℕ) (answer : Answer BadUnit) → slice_get (states_in project es) index ≡ Some (Answered answer) → is_started es index ≡ false
     → AnswersAgain setup project done first index answer
 
--- as `AllAnswerAgain`; and each unit in flight without a child waits to answer in this way
+-- Each unit without a child has answered with the record that it had at first. Each unit in flight
+-- without a child will answer with this record, too.
 pub record Replays (setup : Setup) (project : Project) (done : List (Option (List Directive))) (running : List RunningUnit) (es : List (Event BadUnit)) (first now : World) : Type 0 where
   pub waits : AllByRecursion (λ (a : RunningUnit). FliesAgain setup project done first now a) running
   pub gave : AllAnswerAgain setup project es done first
 
--- each unit with a child answered by the child's reply to what it sees of this world, whether the
--- records are true or not
+-- Each unit with a child has answered with the child's reply to what it sees of this world. This is
+-- so whether the records are true or not.
 abbrev pub AllAnswerAnew : Answers → Setup → Project → List (Event BadUnit) → List (Option (List Directive)) → World → Type 0
 AllAnswerAnew child setup project es done now = (index : ℕ) (answer : Answer BadUnit) → slice_get (states_in project es) index ≡ Some (Answered answer) → is_started es index ≡ true → AnswersAnew child setup project done now index answer
 
--- as `AllAnswerAnew`; and each unit in flight with a child waits to answer in this way
+-- Each unit with a child has answered with the child's reply, as `AllAnswerAnew` says. Each unit in
+-- flight with a child will answer with the child's reply, too.
 pub record Replies (child : Answers) (setup : Setup) (project : Project) (done : List (Option (List Directive))) (running : List RunningUnit) (es : List (Event BadUnit)) (now : World) (flying : List ChildInFlight) (still : ℕ → Type 0) : Type 0 where
   pub waits : AllByRecursion (FliesAnew child setup project done now flying still) running
   pub gave : AllAnswerAnew child setup project es done now
 
--- the events before the unit at an index answered
+-- the events that came before the unit at this index answered
 abbrev pub events_until : List (Event BadUnit) → ℕ → List (Event BadUnit)
 events_until [] place = []
 events_until (Began unit spawned ∷ es) place = events_until es place
 events_until (Gave unit answer ∷ es) place = if unit == place then es else events_until es place
 
--- the record of a unit for which a child was started: its command, its child's reply to what it sees of this world, the
--- present values of the inputs, the numbers of the needed units, and this run number
+-- The record of a unit for which a child was started. The record has the unit's command, the
+-- child's reply to what it sees of this world, and the present values of the inputs. The numbers of
+-- the needed units, and this run number, are also in the record.
 abbrev pub record_anew : Answers → Setup → Project → List (Option (List Directive)) → World → Planned → ℕ → Record
 record_anew child setup project done now u number = record_of project u (command_of setup project u done) number (ended_by (reply_in child (command_of setup project u done) now)) now
 
--- the record of a unit that has answered.
--- Good, with a child: the record of that child, with the number that was next as the unit began.
--- Good, without a child: the first record, with a number if it had none.
--- Bad, without a child: what was there at first
+-- The record of a unit that has answered. A good unit with a child has the record of the child's
+-- reply, with the number that was next when it began. A good unit without a child has its first
+-- record, with a number if that had none. A bad unit without a child has what was there at first.
 pub record LeavesRecord (child : Answers) (setup : Setup) (project : Project) (done : List (Option (List Directive))) (started : Bool) (before until : List (Event BadUnit)) (next : Option ℕ) (first now : World) (index : ℕ) (answer : Answer BadUnit) : Type 0 where
   pub unit : Planned
   pub there : unit_at project index ≡ Some unit
@@ -313,61 +320,61 @@ pub record LeavesRecord (child : Answers) (setup : Setup) (project : Project) (d
       × (records (records_folder project) now unit.key ≡ migrated number (numbered (records (records_folder project) now) (needed_keys project unit)) (records (records_folder project) first unit.key))
   pub bad : started ≡ false → IsSome answer.fault → finite.get now.files (place_of (records_folder project) unit.key) ≡ finite.get first.files (place_of (records_folder project) unit.key)
 
--- each unit that answered has left such a record, whether the records are true or not
+-- Each unit that has answered has left a record as `LeavesRecord` says. This is so whether the
+-- records are true or not.
 abbrev pub AllLeaveRecords : Answers → Setup → Project → List (Event BadUnit) → List (Option (List Directive)) → Option ℕ → World → World → Type 0
 AllLeaveRecords child setup project es done next first now = (index : ℕ) (answer : Answer BadUnit) → slice_get (states_in project es) index ≡ Some (Answered answer)
     → LeavesRecord child setup project done (is_started es index) (events_before es index) (events_until es index) next first now index answer
 
--- the child of a unit in flight was launched with the run number that was next as the unit began
+-- the child of a unit in flight has the run number that was next when the unit began
 abbrev pub CarriesNumber : Project → List (Event BadUnit) → Option ℕ → World → RunningUnit → Type 0
 CarriesNumber project es next first a = IfSome (child_of a.begun) (λ launched. NumbersGiven (LacksNumber project first) (events_before es a.unit) next (Some launched.number))
 
--- the records of the units that answered, and the numbers of those in flight
+-- the records of the units that have answered, and the run numbers of the units in flight
 pub record Recordings (child : Answers) (setup : Setup) (project : Project) (done : List (Option (List Directive))) (running : List RunningUnit) (es : List (Event BadUnit)) (next : Option ℕ) (first now : World) : Type 0 where
   pub carries : AllByRecursion (CarriesNumber project es next first) running
   pub gave : AllLeaveRecords child setup project es done next first now
 
--- a unit in flight has begun as in `IsBegun`, and all that it reaches is good
+-- the unit in flight has begun as `IsBegun` says, and all units that it reaches are good
 pub record FliesSo (b : BuildContext) (es : List (Event BadUnit)) (next : Option ℕ) (world : World) (flying : List ChildInFlight) (still : ℕ → Type 0) (a : RunningUnit) : Type 0 where
   pub state : slice_get (states_in b.project es) a.unit ≡ Some Begun
   pub begun_so : IsBegun b a.unit a.begun next world flying still
   pub reaches : (u : Planned) → unit_at b.project a.unit ≡ Some u → are_good (states_in b.project es) u.reaches ≡ true
   pub started : is_started es a.unit ≡ is_some (child_of a.begun)
 
--- what has happened: `BuildInvariant` is true, each unit in flight has begun, and each unit that
--- has answered has its outcome
+-- `BuildInvariant` is true. Each unit in flight has begun, and each unit that has answered has its outcome.
 pub record HistoryHolds (b : BuildContext) (done : List (Option (List Directive))) (running : List RunningUnit) (next : Option ℕ) (es : List (Event BadUnit)) (world : World) (flying : List ChildInFlight) (still : ℕ → Type 0) : Type 0 where
   pub keeps : BuildInvariant b (states_in b.project es) done next world
   pub begun : AllByRecursion (FliesSo b es next world flying still) running
   pub gave : (index : ℕ) (answer : Answer BadUnit) → slice_get (states_in b.project es) index ≡ Some (Answered answer) → HasGiven b es done index answer
 
--- if no record lacked a number at first, the world is the first one as long as no child is started
+-- if no record lacked a number at first, the world is unchanged as long as no child is started
 abbrev pub IsQuiet : Project → List (Event BadUnit) → World → World → Type 0
 IsQuiet project es first now = started_by es ≡ [] → ((index : ℕ) → LacksNumber project first index false) → now ≡ first
 
--- the note of a unit that has not begun is as at first
+-- the note of a unit that has not begun is as it was at first
 abbrev pub NotesUnbegun : Project → List (Event BadUnit) → Reasons → Reasons → Type 0
 NotesUnbegun project es first now = (index : ℕ) → slice_get (states_in project es) index ≡ Some Untouched → slice_get now index ≡ slice_get first index
 
--- for each unit that has begun, its first difference is noted, or that nothing differed; a
--- difference is noted if and only if a child was started for the unit
+-- For each unit that has begun, its first difference is noted, or that nothing differed. A
+-- difference is noted if and only if a child was started for the unit.
 abbrev pub NotesStarted : Project → List (Event BadUnit) → Reasons → Type 0
 NotesStarted project es now = (index : ℕ) (s : State BadUnit) → slice_get (states_in project es) index ≡ Some s → s ≢ Untouched
     → (d : Option Difference) × (slice_get now index ≡ Some (Some d)) × (is_some d ≡ is_started es index)
 
--- The story.
+-- The history as a whole.
 
--- the states while no unit has begun
+-- the states of the units before any unit has begun
 abbrev pub untouched : Project → List (State BadUnit)
 untouched project = states_in project []
 
--- for each build context that satisfied `BuildInvariant` at first, this is true
+-- `Since` is true of each build context that satisfied `BuildInvariant` at first
 abbrev pub FromFirst : Answers → UnitExecutor → BuildState → UnitExecutor → (BuildContext → Type 0) → Type 0
 FromFirst child first at c Since = (premise : Premise) (sources : World)
     → BuildInvariant (build_context premise child c.setup c.project sources) (untouched c.project) first.done.items first.store.next at.world
     → Since (build_context premise child c.setup c.project sources)
 
--- the story of a crew between two moments
+-- what has happened to an executor between two moments
 pub record History (is_modelled : Bool) (child : Answers) (first : UnitExecutor) (at : BuildState) (c : UnitExecutor) (now : BuildState) (still : ℕ → Type 0) (es : List (Event BadUnit)) (given : ℕ) : Type 0 where
   pub setup : c.setup ≡ first.setup
   pub project : c.project ≡ first.project
@@ -388,20 +395,21 @@ pub record History (is_modelled : Bool) (child : Answers) (first : UnitExecutor)
   pub unnoted : NotesUnbegun c.project es first.reasons.items c.reasons.items
   pub noted : NotesStarted c.project es c.reasons.items
 
--- the last event is the beginning of the unit of this key
+-- the last event is that the unit with this key began
 abbrev pub IsBeginning : Project → List ℕ → Bool → List (Event BadUnit) → List (Event BadUnit) → Type 0
 IsBeginning project key spawned before es = (unit : ℕ) × (key_at project unit ≡ key ∷ []) × (es ≡ Began unit spawned ∷ before)
 
--- a fault came after these events; if a unit could not begin, these are the events before its beginning, and it has no
--- child in flight
+-- A fault came after these events. If a unit could not begin, `before` are the events before it
+-- began, and it has no child in flight.
 abbrev pub CameAfter : Project → BuildFault → List (Event BadUnit) → List (Event BadUnit) → Type 0
 CameAfter project (Child key CannotStart) before es = IsBeginning project key true before es
 CameAfter project (Device key fault) before es = (es ≡ before) ⊎ IsBeginning project key false before es
 CameAfter project OutOfMemory before es = (es ≡ before) ⊎ ((unit : ℕ) × (spawned : Bool) × (es ≡ Began unit spawned ∷ before))
 CameAfter project fault before es = es ≡ before
 
--- the unit that a fault names: the unit whose answer was taken, after all these events; if no
--- answer was taken, the unit that could not begin. The sink and out of memory name no unit
+-- The unit that a fault names. If an answer was taken, this is the unit of the answer, after all
+-- these events. If not, this is the unit that could not begin. The sink and out of memory name no
+-- unit.
 abbrev pub NamesUnit : Project → BuildFault → Option ℕ → List (Event BadUnit) → List (Event BadUnit) → Type 0
 NamesUnit project (Child key fault) None before es = IsBeginning project key true before es
 NamesUnit project (Child key fault) (Some unit) before es = (key_at project unit ≡ key ∷ []) × (es ≡ before)
@@ -409,8 +417,8 @@ NamesUnit project (Device key fault) None before es = IsBeginning project key fa
 NamesUnit project (Device key fault) (Some unit) before es = (key_at project unit ≡ key ∷ []) × (es ≡ before)
 NamesUnit project fault asked before es = Unit {0}
 
--- the story up to a fault: if the answer of a unit was taken, it is this unit's. The units in
--- flight are in flight by the events before the fault, and this unit is not among them
+-- What has happened up to a fault. If an answer was taken, it is that of the unit `asked`. The
+-- units in flight are those by the events before the fault, without this unit.
 pub record StoryEnds (is_modelled : Bool) (child : Answers) (fault : BuildFault) (asked : Option ℕ) (first : UnitExecutor) (at : BuildState) (c : UnitExecutor) (now : BuildState) (still : ℕ → Type 0) (es : List (Event BadUnit)) : Type 0 where
   pub setup : c.setup ≡ first.setup
   pub project : c.project ≡ first.project

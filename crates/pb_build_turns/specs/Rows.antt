@@ -1,5 +1,4 @@
--- The outcomes of the units of a build, one after another in plan order, and what a build reports
--- about them.
+-- The outcomes of a build's units, one after another in plan order, and what a build reports about the units.
 use Rattle.std.specs.Prelude.{ℕ, suc, Bool, true, false, ◌==◌, ◌+◌, List, [], ◌∷◌, ◌++◌, length, take, Option, Some, None, if◌then◌else◌, slice_get, is_none}
 use Rattle.std.specs.List.{flat_map}
 use Rattle.pb_build_result.specs.declared.bad_unit.BadUnit.{BadUnit}
@@ -20,7 +19,7 @@ use Rattle.pb_store.specs.declared.difference.Difference.{Difference}
 use Rattle.pb_unit.specs.declared.plan.Planned.{Planned}
 use Rattle.pb_message_units.specs.Telling.{unit_lines}
 
--- a unit of the build and its outcome
+-- a unit of the build with its outcome
 pub record Row : Type 0 where
   pub unit : Planned
   pub outcome : Outcome
@@ -30,7 +29,7 @@ is_bad Waiting = false
 is_bad (Good files directives messages) = false
 is_bad (Bad bad messages) = true
 
--- the units in plan order, up to and including the first bad one
+-- the units with their outcomes, in plan order, up to and including the first bad unit
 abbrev pub to_first_bad : List Planned → List Outcome → List Row
 to_first_bad [] os = []
 to_first_bad (u ∷ us) [] = []
@@ -39,7 +38,7 @@ to_first_bad (u ∷ us) (o ∷ os) = record { unit = u; outcome = o } ∷ (if is
 abbrev pub rows_of : Answers → Setup → Project → World → List Row
 rows_of child setup project sources = to_first_bad project.plan.planned (outcomes child setup project sources)
 
--- What a build reports about them.
+-- What a build reports about these units.
 
 abbrev pub messages_in : Outcome → List Message
 messages_in Waiting = []
@@ -51,13 +50,14 @@ fault_in Waiting = None
 fault_in (Good files directives messages) = None
 fault_in (Bad bad messages) = Some bad
 
--- a child was started for the unit at an index when it began
+-- a child was started for the unit at this index when it began
 abbrev pub is_started : List (Event BadUnit) → ℕ → Bool
 is_started [] place = false
 is_started (Began unit spawned ∷ es) place = if unit == place then spawned else is_started es place
 is_started (Gave unit answer ∷ es) place = is_started es place
 
--- the lines of these units, from the i-th unit on; each line says whether a child was started for its unit
+-- The lines of these units, the first of which has the index `i`. Each line says if a child was
+-- started for its unit.
 abbrev pub said_from : Project → List (Event BadUnit) → ℕ → List Row → List ℕ
 said_from project es i [] = []
 said_from project es i (row ∷ rows) = unit_lines project row.unit (is_started es i) (messages_in row.outcome) ++ said_from project es (suc i) rows
@@ -66,7 +66,7 @@ abbrev pub keyed : List ℕ → Option (List Directive) → List (List ℕ × Li
 keyed key None = []
 keyed key (Some directives) = (key, directives) ∷ []
 
--- the keys and the directives of the runs of build scripts among these units
+-- the keys and the directives of those of these units that are runs
 abbrev pub directives_told : List Row → List (List ℕ × List Directive)
 directives_told [] = []
 directives_told (row ∷ rows) = keyed row.unit.key (directives_in row.outcome) ++ directives_told rows
@@ -76,7 +76,7 @@ bad_or key Waiting rest = rest
 bad_or key (Good files directives messages) rest = rest
 bad_or key (Bad bad messages) rest = Some (key, bad)
 
--- the first bad unit
+-- the key of the first bad unit, and why it is bad
 abbrev pub bad_of : List Row → Option (List ℕ × BadUnit)
 bad_of [] = None
 bad_of (row ∷ rows) = bad_or row.unit.key row.outcome (bad_of rows)
@@ -85,11 +85,11 @@ abbrev pub is_success : Option (List ℕ × BadUnit) → Bool
 is_success None = true
 is_success (Some bad) = false
 
--- the keys of the units whose child was started, in the order in which they started
+-- the keys of the units for which a child was started, in the order of these starts
 abbrev pub started_keys : Project → List (Event BadUnit) → List (List ℕ)
 started_keys project es = flat_map (λ index. key_in (unit_at project index)) (started_by es)
 
--- the key and the fault of a bad unit (below: what its child printed)
+-- The key and the fault of a bad unit. `said_told` is what its child printed.
 abbrev pub key_told : Option (List ℕ × BadUnit) → Option (List ℕ × UnitFault)
 key_told None = None
 key_told (Some bad) = Some (bad.0, bad.1.fault)
@@ -98,19 +98,19 @@ abbrev pub said_told : Option (List ℕ × BadUnit) → List ℕ
 said_told None = []
 said_told (Some bad) = bad.1.said
 
--- the note of the first difference of each unit: a unit that has not begun has no note; the note of
--- any other unit is a difference, or that nothing differed
+-- A note for each unit of its first difference. A unit that has not begun has no note. The note of
+-- any other unit is a difference, or that nothing differed.
 abbrev pub Reasons : Type 0
 Reasons = List (Option (Option Difference))
 
--- the first difference of a unit for which a child was started
+-- the first difference of a unit, if a difference is noted
 abbrev pub difference_in : Option (Option (Option Difference)) → List Difference
 difference_in None = []
 difference_in (Some None) = []
 difference_in (Some (Some None)) = []
 difference_in (Some (Some (Some difference))) = difference ∷ []
 
--- the first differences of the units that were started, in the order in which they started
+-- the first differences of the units for which a child was started, in the order of these starts
 abbrev pub differences_of : List (Event BadUnit) → Reasons → List Difference
 differences_of es reasons = flat_map (λ index. difference_in (slice_get reasons index)) (started_by es)
 
@@ -119,7 +119,7 @@ kept_key key None = []
 kept_key key (Some None) = key ∷ []
 kept_key key (Some (Some difference)) = []
 
--- the keys, in plan order, of the units that have begun without a difference from their records
+-- the keys, in plan order, of those units that have begun without a difference from their record
 abbrev pub kept_of : List Planned → Reasons → List (List ℕ)
 kept_of [] reasons = []
 kept_of (u ∷ us) [] = []
@@ -136,7 +136,7 @@ summary_of project es reasons rows = record {
   directives = directives_told rows;
 }
 
--- The same reports, made from the answers. They also work over a place that is not modelled.
+-- The same reports, made from the answers. These definitions also work over a place that is not modelled.
 
 abbrev pub fault_of : State BadUnit → Option BadUnit
 fault_of Untouched = None
@@ -152,25 +152,25 @@ bad_with None s = None
 bad_with (Some u) None = None
 bad_with (Some u) (Some s) = with_key u.key (fault_of s)
 
--- the key of the unit at an index, and the fault in its answer
+-- the key of the unit at this index, and why it is bad
 abbrev pub bad_told : List Planned → List (State BadUnit) → Option ℕ → Option (List ℕ × BadUnit)
 bad_told units states None = None
 bad_told units states (Some index) = bad_with (slice_get units index) (slice_get states index)
 
--- the keys of these units, each with the directives that are noted for it
+-- the keys of those of these units for which directives are noted, with the directives
 abbrev pub noted_of : List Planned → List (Option (List Directive)) → List (List ℕ × List Directive)
 noted_of [] noted = []
 noted_of (u ∷ us) [] = []
 noted_of (u ∷ us) (d ∷ noted) = keyed u.key d ++ noted_of us noted
 
--- the number of reported units: all units, or those up to and including the first bad one, which
--- has this index
+-- the number of reported units: all units, or, if the unit at this index is the first bad one,
+-- those up to and including it
 abbrev pub count_told : ℕ → Option ℕ → ℕ
 count_told units None = units
 count_told units (Some place) = place + 1
 
--- the noted directives of the reported units: all units, or those up to and including the first bad
--- one
+-- the noted directives of the reported units, which are all units, or those up to and including the
+-- first bad one
 abbrev pub noted_told : List Planned → List (Option (List Directive)) → Option ℕ → List (List ℕ × List Directive)
 noted_told units noted bad = noted_of (take (count_told (length units) bad) units) (take (count_told (length units) bad) noted)
 
@@ -178,7 +178,7 @@ noted_told units noted bad = noted_of (take (count_told (length units) bad) unit
 abbrev pub keys_at : List Planned → List ℕ → List (List ℕ)
 keys_at units places = flat_map (λ index. key_in (slice_get units index)) places
 
--- the first differences of the units at these indices
+-- the first differences of the units at these indices, if they are noted
 abbrev pub differences_at : Reasons → List ℕ → List Difference
 differences_at reasons places = flat_map (λ index. difference_in (slice_get reasons index)) places
 

@@ -1,5 +1,6 @@
--- The command of a unit: its program, folder, arguments and environment, and what it may read; and the
--- query of a compiler's version (The Cargo Book, cargo build, Build Scripts, Environment Variables).
+-- The command of a unit: its program, folder, arguments and environment, and what it may read. Also
+-- the command that asks a compiler for its version (The Cargo Book, cargo build, Build Scripts,
+-- Environment Variables).
 use Rattle.std.specs.Prelude.{ℕ, codes, List, [], ◌∷◌, ◌++◌, Option, Some, None}
 use Rattle.pb_directive.specs.declared.directive.Directive.{Directive}
 use Rattle.pb_place_types.specs.declared.command.Command.{Command}
@@ -15,7 +16,8 @@ use Rattle.pb_command_arguments.specs.Externs.{library_words, reads_of}
 use Rattle.pb_command_arguments.specs.Said.{said_words}
 use Rattle.pb_command_environment.specs.Pairs.{pairs_of}
 
--- the query of a compiler's version, given the compiler, the workspace's root and the target folder
+-- the command that asks a compiler for its version, given the compiler, the workspace's root and
+-- the target folder
 abbrev pub query_of : List ℕ → List ℕ → List ℕ → Command
 query_of rustc root target = record {
   program = rustc;
@@ -28,19 +30,20 @@ query_of rustc root target = record {
   reads = [];
 }
 
--- the arguments for what is compiled and how: the crate; what is made and where; settings; features
+-- the arguments that say what is compiled and how: the crate, its output and its folder, settings and features
 abbrev pub crate_part : Project → Planned → Package → List (List ℕ)
 crate_part project unit p = crate_words project unit p ++ output_words unit p ++ settings_words unit.unit.what unit.settings ++ feature_words project unit p
 
--- the arguments for what is linked and requested: libraries; what build scripts request; the user's flags
+-- the arguments that say what is linked and requested: libraries, what build scripts request, and
+-- the user's flags
 abbrev pub asked_part : Setup → Project → Planned → List (Option (List Directive)) → Package → List (List ℕ)
 asked_part setup project unit done p = library_words project unit p ++ said_words project unit done p ++ setup.flags
 
--- the arguments of a compile
+-- all arguments of a compile
 abbrev pub words_of : Setup → Project → Planned → List (Option (List Directive)) → Package → List (List ℕ)
 words_of setup project unit done p = crate_part project unit p ++ asked_part setup project unit done p
 
--- the command of a compile, which starts in the workspace's root
+-- the command of a compile; it starts in the workspace's root
 abbrev pub compile_of : Setup → Project → Planned → List (Option (List Directive)) → Package → Command
 compile_of setup project unit done p = record {
   program = setup.rustc;
@@ -57,18 +60,17 @@ compile_of setup project unit done p = record {
 abbrev pub script_path : Project → Planned → List ℕ
 script_path project unit = script_source (script_file project unit)
 
--- the program of a run: the runner, or the script itself without a runner
+-- the program of a run: the runner if there is one, or else the script
 abbrev pub run_program : List (List ℕ) → List ℕ → List ℕ
 run_program [] script = script
 run_program (program ∷ words) script = program
 
--- the arguments of a run: the runner's other words and the script's path; a run without a runner
--- has none
+-- the arguments of a run: the other words of the runner and the script's path; without a runner there are none
 abbrev pub run_words : List (List ℕ) → List ℕ → List (List ℕ)
 run_words [] script = []
 run_words (program ∷ words) script = words ++ script ∷ []
 
--- the command of a run, which starts in its package's folder
+-- the command of a run; it starts in its package's folder
 abbrev pub run_of : Setup → Project → Planned → List (Option (List Directive)) → Package → Command
 run_of setup project unit done p = record {
   program = run_program setup.runner (script_path project unit);
@@ -85,7 +87,7 @@ abbrev pub command_by : What → Setup → Project → Planned → List (Option 
 command_by Run setup project unit done p = run_of setup project unit done p
 command_by _ setup project unit done p = compile_of setup project unit done p
 
--- a filler for the command of a unit whose package does not exist; a plan has no such unit
+-- A command that stands for that of a unit whose package does not exist. No plan has such a unit.
 abbrev pub nothing_of : Setup → Project → Command
 nothing_of setup project = record {
   program = setup.rustc;
@@ -102,6 +104,6 @@ abbrev pub command_for : Setup → Project → Planned → List (Option (List Di
 command_for setup project unit done None = nothing_of setup project
 command_for setup project unit done (Some p) = command_by unit.unit.what setup project unit done p
 
--- the command of a unit, given the directives of the runs before it
+-- the command of a unit, given the directives of the runs that come before it in the plan
 abbrev pub command_of : Setup → Project → Planned → List (Option (List Directive)) → Command
 command_of setup project unit done = command_for setup project unit done (package_of project unit)

@@ -1,5 +1,5 @@
--- Which replies to a command are good. Only the command decides this. So if no plan has a unit any
--- more, the unit's answer is judged as it was when a plan had the unit.
+-- Which replies to a command are good. Only the command decides this. So the answer of a unit that
+-- no plan has any more is judged as it was when a plan had the unit.
 use Rattle.std.specs.Prelude.{◌≡◌, ℕ, Bool, if◌then◌else◌, codes, List, [], ◌∷◌, ◌++◌, Option, Some, None, Result, Ok, Err, slice_get}
 use Rattle.std.specs.FinMap as finite
 use Rattle.std.specs.Str.{bytes_eq}
@@ -23,11 +23,11 @@ use Rattle.pb_command_types.specs.declared.project.Setup.{Setup}
 use Rattle.pb_command_reply.specs.Answers.{compile_answered, run_answered, unless_fault, ended_fault, answered_of}
 use Rattle.pb_command.specs.Command.{command_of}
 
--- how the child of this reply ended
+-- how the child that gave this reply ended
 abbrev pub ended_by : Reply → Ended
 ended_by r = record { status = r.status; stdout = r.stdout; stderr = r.stderr }
 
--- the files of a reply in an output folder that was empty before
+-- the files that this reply puts into an output folder that was empty
 abbrev pub replied_files : List ℕ → Reply → Map
 replied_files out r = files_in out (put_files out r.files finite.empty)
 
@@ -35,26 +35,26 @@ abbrev pub file_at : Option (List ℕ) → Map → Option (List ℕ)
 file_at None files = None
 file_at (Some path) files = finite.get files path
 
--- the output folder belongs to a unit that runs a script: its last word is `run`
+-- the output folder is that of a unit that runs a script: the last word of its path is `run`
 abbrev pub is_of_run : List ℕ → Bool
 is_of_run out = bytes_eq (last_word out) (codes "run")
 
--- the name of the compiled crate: the second argument. In each compile of a plan the first argument
--- is `--crate-name`; here it does not matter.
+-- The name of the compiled crate, which is the second argument. In each compile of a plan the first
+-- argument is `--crate-name`, but this definition does not need that.
 abbrev pub crate_in : List (List ℕ) → List ℕ
 crate_in [] = []
 crate_in (option ∷ []) = []
 crate_in (option ∷ name ∷ words) = name
 
--- the dep-info of a compile: the file `C.d` in its output folder
+-- the content of a compile's dep-info, which is the file `C.d` in its output folder
 abbrev pub dep_info_in : Command → List ℕ → Map → Option (List ℕ)
 dep_info_in c out files = file_at (file_in out (crate_in c.words ++ codes ".d")) files
 
--- the judged answer of a child with these files; a script is run in its package's folder
+-- The answer of a child that ended so and left these files. A script is run in its package's folder.
 abbrev pub answered_in : Command → List ℕ → Ended → Map → Result CheckedReply UnitFault
 answered_in c out e files = unless_fault (ended_fault e) (if is_of_run out then run_answered c c.folder e else compile_answered c (dep_info_in c out files))
 
--- the inputs that were found, if there is no fault
+-- the names of the inputs that a good answer has; a bad answer has none
 abbrev pub inputs_if : Result CheckedReply UnitFault → Option (List InputName)
 inputs_if (Ok answered) = Some answered.inputs
 inputs_if (Err fault) = None
@@ -63,11 +63,12 @@ abbrev pub judge_in : Command → Option (List ℕ) → Reply → Option (List I
 judge_in c None r = None
 judge_in c (Some out) r = inputs_if (answered_in c out (ended_by r) (replied_files out r))
 
--- the names of the inputs that are found in a good reply to a command; a bad reply has none
+-- the names of the inputs that a good reply to a command has; a bad reply has none
 unfoldable pub judge : Command → Reply → Option (List InputName)
 judge c r = judge_in c c.out r
 
--- For the command of each unit of a plan, this is the judgement of the unit's answer.
+-- For the command of each unit of a plan, `judge` accepts a reply if and only if the unit's answer
+-- is good. Both have the same inputs.
 abbrev pub JudgesAsAnswered : Type 0
 JudgesAsAnswered = (setup : Setup) (project : Project) (u : Planned) (done : List (Option (List Directive))) (selection : Selection) (index : ℕ) (r : Reply)
     → IsSettled project.workspace → IsPlan project.workspace project.features selection project.profile project.plan → slice_get project.plan.planned index ≡ Some u

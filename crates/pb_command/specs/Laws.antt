@@ -1,4 +1,4 @@
--- What is true of each command, in words that do not follow the code.
+-- What is true of each command, defined without following the code.
 use Rattle.std.specs.Prelude.{◌≡◌, ℕ, List, All, IfSome, Option, true, false}
 use Rattle.std.specs.Cmp.Lexicographic.{slice_cmp}
 use Rattle.std.specs.Ordering.{nat_cmp, ordering_then}
@@ -15,29 +15,29 @@ use Rattle.pb_command.specs.Command.{command_of}
 use Rattle.pb_command_arguments.specs.Externs.{extern_key}
 use Rattle.pb_command_environment.specs.Pairs.{composed, pairs_of}
 
--- the names of the variables are in ascending byte order, so each occurs once
+-- the names of the variables are in ascending byte order, so no name occurs twice
 abbrev pub PairsRise : Type 0
 PairsRise = (setup : Setup) (project : Project) (unit : Planned) (done : List (Option (List Directive))) → IsAscending (names_of (command_of setup project unit done).pairs)
 
--- the last value of a variable counts. So a script's value wins over the builder's value, and a
--- later line wins over an earlier line
+-- The last value of a variable counts. So a script's value replaces the builder's value, and the
+-- value of a later line replaces that of an earlier line.
 abbrev pub LastValuesCount : Type 0
 LastValuesCount = (setup : Setup) (project : Project) (unit : Planned) (done : List (Option (List Directive))) (p : Package) (name : List ℕ)
     → value_at name (pairs_of setup project unit done p) ≡ last_value name (composed setup project unit done p)
 
--- libraries are ordered by their names and then by their paths, since a name has no byte 0
+-- Libraries are sorted by their names and then by their paths. This is so because a name has no byte 0.
 abbrev pub LibrariesInOrder : Type 0
 LibrariesInOrder = (name other path next : List ℕ) → has_byte_0 name ≡ false → has_byte_0 other ≡ false
     → slice_cmp nat_cmp (extern_key name path) (extern_key other next) ≡ ordering_then (slice_cmp nat_cmp name other) (slice_cmp nat_cmp path next)
 
--- the folders of a project are normalised absolute paths
+-- all folders of a project have normalised absolute paths
 pub record HasPaths (project : Project) : Type 0 where
   pub root : is_path project.workspace.root ≡ true
   pub target : is_path project.workspace.target ≡ true
   pub packages : All (λ (p : Package). is_path p.folder ≡ true) project.workspace.packages
   pub units : All (λ (unit : Planned). is_path unit.out ≡ true) project.plan.planned
 
--- all paths of a command are normalised absolute paths
+-- all paths in a command are normalised absolute paths
 pub record IsAbsolute (command : Command) : Type 0 where
   pub folder : is_path command.folder ≡ true
   pub target : is_path command.target ≡ true

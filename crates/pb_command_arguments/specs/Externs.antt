@@ -1,5 +1,5 @@
--- The libraries of a compile: the folders in which the compiler looks for them, and the names by which it gets them
--- (The Cargo Book, Specifying Dependencies, Renaming dependencies in Cargo.toml).
+-- Which libraries a compile gets, by which names, and where the compiler looks for them (The Cargo
+-- Book, Specifying Dependencies, Renaming dependencies in Cargo.toml).
 use Rattle.std.specs.Prelude.{ℕ, ◌&&◌, Bool, false, if◌then◌else◌, codes, List, [], ◌∷◌, ◌++◌, Option, Some, None, slice_get}
 use Rattle.std.specs.List.{flat_map}
 use Rattle.pb_data.specs.Ascii.{equals}
@@ -18,7 +18,7 @@ use Rattle.pb_command_types.specs.NamedTexts.{in_order}
 use Rattle.pb_command_types.specs.Targets.{unit_at, library_in, library_name, library_file, is_library}
 use Rattle.pb_command_arguments.specs.Words.{option}
 
--- the output folder of a unit, if there is one
+-- the output folder of the unit, if there is one
 abbrev pub folder_in : Option Planned → List (List ℕ)
 folder_in None = []
 folder_in (Some unit) = unit.out ∷ []
@@ -30,7 +30,7 @@ read_at project index = folder_in (unit_at project index)
 abbrev pub reads_of : Project → Planned → List (List ℕ)
 reads_of project unit = flat_map (read_at project) unit.reaches
 
--- `-L` and a folder of libraries
+-- the option `-L` with a folder of libraries
 unfoldable pub folder_words : List ℕ → List (List ℕ)
 folder_words folder = option (codes "-L") (codes "dependency=" ++ folder)
 
@@ -38,66 +38,67 @@ abbrev pub folder_words_in : Option Planned → List (List ℕ)
 folder_words_in None = []
 folder_words_in (Some unit) = if is_library unit.unit.what then folder_words unit.out else []
 
--- `-L` and the folder of the unit at an index, if the unit is a library
+-- the option `-L` with the output folder of the unit at an index, if this unit is a library
 abbrev pub folder_words_at : Project → ℕ → List (List ℕ)
 folder_words_at project index = folder_words_in (unit_at project index)
 
--- `-L` and the folder of each library that a unit reaches, in plan order
+-- the option `-L` with the folder of each library that a unit reaches, in plan order
 abbrev pub dependency_words : Project → Planned → List (List ℕ)
 dependency_words project unit = flat_map (folder_words_at project) unit.reaches
 
--- an entry of this kind is for such a unit: a normal entry for libraries and binaries, a build
--- entry for scripts
+-- An entry of this kind counts for a unit of this kind. Normal entries count for libraries and
+-- binaries, build entries for scripts.
 abbrev pub leads : What → DependencyKind → Bool
 leads Lib kind = is_normal kind
 leads (Bin name) kind = is_normal kind
 leads Script kind = is_build kind
 leads Run kind = false
 
--- the crate name of the library of the package at an index
+-- the crate name of the library that the package at an index has
 abbrev pub library_name_at : Project → ℕ → List ℕ
 library_name_at project index = library_name (library_in (slice_get project.workspace.packages index))
 
--- the name of the library in source code: the dependency's key with `_` for each `-` if `package` renames it, else its
--- own crate name
+-- The name that source code has for an entry's library. If `package` renames the library, this is
+-- the entry's key with `_` for each `-`. If not, this is the library's crate name.
 abbrev pub entry_name : Project → Entry → List ℕ
 entry_name project entry = if entry.renamed then underscored entry.key else library_name_at project entry.to
 
--- the sort key of a library: its name and then its path, separated by byte 0, which is in neither and comes before all
--- other bytes
+-- The key by which a library is sorted: its name and its path, with byte 0 between them. A name and
+-- a path have no byte 0, which comes before all other bytes.
 unfoldable pub extern_key : List ℕ → List ℕ → List ℕ
 extern_key name path = name ++ 0 ∷ path
 
--- `NAME=PATH`
+-- the text `NAME=PATH`
 unfoldable pub extern_text : List ℕ → List ℕ → List ℕ
 extern_text name path = name ++ equals ∷ path
 
--- the name and the file of a library; none if the unit needs no such library
+-- the sort key and the text of a library, or nothing if the unit needs no such library
 abbrev pub extern : List ℕ → Option (List ℕ) → List (List ℕ × List ℕ)
 extern name None = []
 extern name (Some path) = (extern_key name path, extern_text name path) ∷ []
 
--- the library of an entry, if the entry is enabled and the unit needs its library
+-- the library of an entry, if the entry is enabled and counts for the unit
 abbrev pub entry_extern : Project → Planned → ℕ → Entry → List (List ℕ × List ℕ)
 entry_extern project unit n entry =
     if is_enabled project.features unit.unit.owner unit.unit.side n && leads unit.unit.what entry.kind then extern (entry_name project entry) (library_file project unit entry.to) else []
 
--- for a binary: its own library
+-- the library of a binary's own package; other units have no such library
 abbrev pub own_extern : Project → Planned → What → List (List ℕ × List ℕ)
 own_extern project unit (Bin name) = extern (library_name_at project unit.unit.owner) (library_file project unit unit.unit.owner)
 own_extern project unit _ = []
 
--- all libraries of a unit
+-- all libraries that a unit is compiled with, each with its sort key
 abbrev pub externs : Project → Planned → Package → List (List ℕ × List ℕ)
 externs project unit p = placed (entry_extern project unit) 0 p.entries ++ own_extern project unit unit.unit.what
 
 abbrev pub extern_word : List ℕ × List ℕ → List (List ℕ)
 extern_word e = option (codes "--extern") e.1
 
--- `--extern` and `NAME=PATH`, each once, in byte order of the name and then of the path
+-- the option `--extern` with `NAME=PATH` for each library, each once, in byte order of the names
+-- and then of the paths
 abbrev pub extern_words : Project → Planned → Package → List (List ℕ)
 extern_words project unit p = flat_map extern_word (in_order (externs project unit p))
 
--- the arguments for the folders of libraries, and for the libraries
+-- the arguments for the folders of libraries, followed by those for the libraries
 abbrev pub library_words : Project → Planned → Package → List (List ℕ)
 library_words project unit p = dependency_words project unit ++ extern_words project unit p

@@ -1,5 +1,5 @@
--- The arguments of a compile that build scripts have requested (The Cargo Book, Build Scripts, Outputs of the Build
--- Script).
+-- Which arguments of a compile build scripts request (The Cargo Book, Build Scripts, Outputs of the
+-- Build Script).
 use Rattle.std.specs.Prelude.{ℕ, if◌then◌else◌, is_none, codes, List, [], ◌++◌, Option}
 use Rattle.std.specs.List.{flat_map}
 use Rattle.std.specs.Str.{bytes_eq}
@@ -14,7 +14,7 @@ use Rattle.pb_command_types.specs.declared.project.Project.{Project}
 use Rattle.pb_command_types.specs.Targets.{said_at, own_said}
 use Rattle.pb_command_arguments.specs.Words.{option, setting}
 
--- The arguments from one directive.
+-- The arguments that one directive requests.
 
 abbrev pub search_word : Directive → List (List ℕ)
 search_word (LinkSearch folder) = option (codes "-L") folder
@@ -44,29 +44,29 @@ abbrev pub binary_word : List ℕ → Directive → List (List ℕ)
 binary_word name (LinkArgBin binary flag) = if bytes_eq binary name then setting (codes "link-arg=") flag else []
 binary_word name _ = []
 
--- The arguments from all directives.
+-- The arguments that all directives request.
 
--- the search folders for libraries from the run at an index, in printed order
+-- the search folders that the run at an index requests, in printed order
 abbrev pub searched_words : List (Option (List Directive)) → ℕ → List (List ℕ)
 searched_words done place = flat_map search_word (said_at done place)
 
--- the search folders for libraries from each run that the unit reaches, in plan order
+-- the search folders that each run which the unit reaches requests, in plan order
 abbrev pub search_words : Planned → List (Option (List Directive)) → List (List ℕ)
 search_words unit done = flat_map (searched_words done) unit.reaches
 
--- the conditions that are on, and then the expected conditions
+-- the conditions that are on, followed by the conditions that are expected
 abbrev pub condition_words : List Directive → List (List ℕ)
 condition_words said = flat_map condition_word said ++ flat_map check_word said
 
--- the linker flags of a binary: the flags for all targets, for all binaries, and for this binary
+-- the linker flags of a binary: those for all targets, those for all binaries, and those for this binary
 abbrev pub argument_words : List ℕ → List Directive → List (List ℕ)
 argument_words name said = flat_map argument_word said ++ flat_map binaries_word said ++ flat_map (binary_word name) said
 
--- the libraries to link; a binary gets them only if its package has no library
+-- the libraries that a binary links; it gets them only if its package has no library
 abbrev pub binary_link_words : Option Library → List Directive → List (List ℕ)
 binary_link_words library said = if is_none library then flat_map link_word said else []
 
--- the arguments of a unit from the run of its own package
+-- the arguments that the run of a unit's own package requests for the unit
 abbrev pub own_words : What → Option Library → List Directive → List (List ℕ)
 own_words Lib library said = flat_map link_word said ++ condition_words said
 own_words (Bin name) library said = binary_link_words library said ++ condition_words said ++ argument_words name said

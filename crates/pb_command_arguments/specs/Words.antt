@@ -1,5 +1,5 @@
--- The arguments of a compile, group by group (The Cargo Book, Build Cache, Profiles, Features; the compiler's own
--- command line).
+-- The arguments of a compile, group by group (The Cargo Book, Build Cache, Profiles, Features, and
+-- the compiler's own command line).
 use Rattle.std.specs.Prelude.{ℕ, Bool, true, false, not, ◌&&◌, ◌||◌, if◌then◌else◌, codes, List, [], ◌∷◌, ◌++◌, Option, Some, None}
 use Rattle.std.specs.Fmt.{decimal}
 use Rattle.std.specs.List.{flat_map, join_by}
@@ -34,25 +34,25 @@ name_words name = option (codes "--crate-name") name
 unfoldable pub edition_word : Edition → List ℕ
 edition_word edition = codes "--edition=" ++ edition_text edition
 
--- diagnostics are reported as JSON
+-- the option by which the compiler reports diagnostics as JSON
 unfoldable pub format_words : List (List ℕ)
 format_words = codes "--error-format=json" ∷ []
 
--- the crate's name, its edition, its source, and the form of its diagnostics
+-- the arguments for the crate's name, its edition, its source, and the form of its diagnostics
 abbrev pub crate_words : Project → Planned → Package → List (List ℕ)
 crate_words project unit p = name_words (crate_name_of project unit) ++ edition_word p.edition ∷ source_by p unit.unit.what ∷ format_words
 
 -- The output, and its folder.
 
--- `--crate-type` and the type
+-- the option `--crate-type` with a crate type
 unfoldable pub type_word : CrateType → List (List ℕ)
 type_word t = option (codes "--crate-type") (crate_type_text t)
 
--- `--crate-type` and the type, for each type
+-- the option `--crate-type` with each of these crate types
 abbrev pub type_words : List CrateType → List (List ℕ)
 type_words types = flat_map type_word types
 
--- what the compiler writes
+-- the option that says what the compiler writes: dep-info and the linked file
 unfoldable pub emit_words : List (List ℕ)
 emit_words = codes "--emit=dep-info,link" ∷ []
 
@@ -64,11 +64,11 @@ output_words unit p = type_words (crate_types p.library unit.unit.what) ++ emit_
 
 -- Settings.
 
--- `-C` and a setting
+-- the option `-C` with the setting of a key
 unfoldable pub setting : List ℕ → List ℕ → List (List ℕ)
 setting key value = option (codes "-C") (key ++ value)
 
--- a setting as the compiler spells it, with this word for `true`
+-- a setting as the compiler spells it; `shown` is the spelling of `true`
 abbrev pub value_text : List ℕ → Setting → List ℕ
 value_text shown (Truth true) = shown
 value_text shown (Truth false) = codes "off"
@@ -83,12 +83,12 @@ abbrev pub is_value : Option Setting → Setting → Bool
 is_value None value = false
 is_value (Some other) value = same other value
 
--- whether a key has no option: the compiler has this value without an option, or only binaries have
--- the key and the unit is no binary
+-- The key has no option for this unit. Either the compiler has this value without an option, or
+-- only binaries have the option and the unit is no binary.
 abbrev pub is_untold : What → ProfileKey → Setting → Bool
 is_untold what k value = ((row k).of_binaries && not (is_binary what)) || is_value (row k).untold value
 
--- the option of a key, if it has one
+-- the option of a key, or no argument if the key has none
 abbrev pub key_words : What → List Setting → ProfileKey → List (List ℕ)
 key_words what s k = if is_untold what k (setting_at s k) then [] else setting (row k).option (value_text (row k).yes (setting_at s k))
 
@@ -103,21 +103,21 @@ quoted name = codes "\"" ++ name ++ codes "\""
 unfoldable pub feature_text : List ℕ → List ℕ
 feature_text name = codes "feature=" ++ quoted name
 
--- `--cfg` and `feature="F"`
+-- the option `--cfg` with `feature="F"`
 abbrev pub feature_word : List ℕ → List (List ℕ)
 feature_word name = option (codes "--cfg") (feature_text name)
 
--- `cfg(feature, values("F", "G"))`, with all features of the package
+-- the text `cfg(feature, values("F", "G"))`, which names all features of the package
 unfoldable pub expected_text : List Feature → List ℕ
 expected_text features = codes "cfg(feature, values(" ++ join_by (λ (f : Feature). quoted f.name) (codes ", ") features ++ codes "))"
 
--- the features of the unit's package that are on
+-- the options for those features of the unit's package that are on
 abbrev pub active_words : Project → Planned → List (List ℕ)
 active_words project unit = flat_map feature_word (features_at project.features unit.unit.owner unit.unit.side)
 
 unfoldable pub expected_words : List Feature → List (List ℕ)
 expected_words features = option (codes "--check-cfg") (expected_text features)
 
--- each feature that is on, and then all features of the package
+-- the options for the features that are on, followed by the option that names all features of the package
 abbrev pub feature_words : Project → Planned → Package → List (List ℕ)
 feature_words project unit p = active_words project unit ++ expected_words p.features

@@ -1,4 +1,4 @@
--- The variables of a command (The Cargo Book, Environment Variables).
+-- Which variables the command of a unit sets (The Cargo Book, Environment Variables).
 use Rattle.std.specs.Prelude.{ℕ, Bool, true, false, if◌then◌else◌, codes, List, [], ◌∷◌, ◌++◌, map, Option, Some, None, Result, Ok, Err}
 use Rattle.std.specs.Fmt.{decimal}
 use Rattle.std.specs.List.{flat_map, list_any, join_by}
@@ -29,18 +29,18 @@ use Rattle.pb_command_types.specs.NamedTexts.{in_order}
 
 -- For all units.
 
--- the variables of the builder and of the package
+-- the variables that name the builder and the package
 abbrev pub package_pairs : Setup → Package → List (List ℕ × List ℕ)
 package_pairs setup p =
     (codes "CARGO", setup.tool) ∷ (codes "CARGO_MANIFEST_DIR", p.folder) ∷ (codes "CARGO_MANIFEST_PATH", p.manifest) ∷ (codes "CARGO_PKG_NAME", p.name) ∷ []
 
--- the package's description of itself
+-- the variables that contain what the package tells people about itself
 abbrev pub about_pairs : About → List (List ℕ × List ℕ)
 about_pairs a =
     (codes "CARGO_PKG_AUTHORS", a.authors) ∷ (codes "CARGO_PKG_DESCRIPTION", a.description) ∷ (codes "CARGO_PKG_HOMEPAGE", a.homepage) ∷ (codes "CARGO_PKG_LICENSE", a.license)
     ∷ (codes "CARGO_PKG_LICENSE_FILE", a.license_file) ∷ (codes "CARGO_PKG_README", a.readme) ∷ (codes "CARGO_PKG_REPOSITORY", a.repository) ∷ (codes "CARGO_PKG_RUST_VERSION", a.rust_version) ∷ []
 
--- the numbers of a version and its pre-release
+-- the three numbers of a version, and its other parts; zeros if it cannot be read
 abbrev pub numbers_in : {E : Type 0} → Result (ℕ × ℕ × ℕ × List ℕ × List ℕ) E → ℕ × ℕ × ℕ × List ℕ × List ℕ
 numbers_in (Ok parts) = parts
 numbers_in (Err e) = (0, 0, 0, [], [])
@@ -52,7 +52,7 @@ abbrev pub version_texts : List ℕ → List ℕ → List ℕ → List ℕ → L
 version_texts version major minor patch pre =
     (codes "CARGO_PKG_VERSION", version) ∷ (codes "CARGO_PKG_VERSION_MAJOR", major) ∷ (codes "CARGO_PKG_VERSION_MINOR", minor) ∷ (codes "CARGO_PKG_VERSION_PATCH", patch) ∷ (codes "CARGO_PKG_VERSION_PRE", pre) ∷ []
 
--- the version and its parts
+-- the variables for the version and its parts
 abbrev pub version_pairs : List ℕ → List (List ℕ × List ℕ)
 version_pairs v = version_texts v (decimal (version_numbers v).0) (decimal (version_numbers v).1) (decimal (version_numbers v).2) (version_numbers v).3
 
@@ -68,12 +68,12 @@ abbrev pub env_pair : Directive → List (List ℕ × List ℕ)
 env_pair (Env name value) = (name, value) ∷ []
 env_pair _ = []
 
--- the folder of a run's files, as `OUT_DIR`
+-- the variable `OUT_DIR` with the output folder of a run, if there is a run
 abbrev pub out_pairs : Option Planned → List (List ℕ × List ℕ)
 out_pairs None = []
 out_pairs (Some unit) = (codes "OUT_DIR", unit.out) ∷ []
 
--- the folder of the run at an index, and the variables that the run has set
+-- `OUT_DIR` of the run at an index, followed by the variables that this run has set
 abbrev pub run_at : Project → List (Option (List Directive)) → ℕ → List (List ℕ × List ℕ)
 run_at project done index = out_pairs (unit_at project index) ++ flat_map env_pair (said_at done index)
 
@@ -81,7 +81,7 @@ abbrev pub run_there : Project → List (Option (List Directive)) → Option ℕ
 run_there project done None = []
 run_there project done (Some index) = run_at project done index
 
--- the folder of the run of the unit's own package, and the variables that this run has set
+-- `OUT_DIR` of the run of the unit's own package, followed by the variables that this run has set
 abbrev pub own_run_pairs : Project → Planned → List (Option (List Directive)) → List (List ℕ × List ℕ)
 own_run_pairs project unit done = run_there project done (own_run project unit)
 
@@ -94,15 +94,15 @@ links_pairs (Some links) = (codes "CARGO_MANIFEST_LINKS", links) ∷ []
 unfoldable pub feature_name : List ℕ → List ℕ
 feature_name name = codes "CARGO_FEATURE_" ++ in_capitals name
 
--- `CARGO_FEATURE_NAME` for a feature that is on
+-- the variable `CARGO_FEATURE_NAME` for a feature that is on
 abbrev pub feature_pair : List ℕ → List ℕ × List ℕ
 feature_pair name = (feature_name name, codes "1")
 
--- what the package links, and the features that are on
+-- the variables for what the package links, and for the features that are on
 abbrev pub described_pairs : Project → Planned → Package → List (List ℕ × List ℕ)
 described_pairs project unit p = links_pairs p.links ++ map feature_pair (features_at project.features unit.unit.owner unit.unit.side)
 
--- the text, unless it is absent or empty
+-- the text, if there is one and it is not empty
 abbrev pub unless_empty : Option (List ℕ) → Option (List ℕ)
 unless_empty None = None
 unless_empty (Some []) = None
@@ -112,7 +112,7 @@ abbrev pub host_in_text : Option (List ℕ) → Option (List ℕ)
 host_in_text None = None
 host_in_text (Some line) = unless_empty (after_prefix (codes "host: ") line)
 
--- the host that a line names after `host: `, if the line is UTF-8 and the host is not empty
+-- the host that follows `host: ` in a line, if the line is UTF-8 and the host is not empty
 abbrev pub host_in : List ℕ → Option (List ℕ)
 host_in line = host_in_text (text_of line)
 
@@ -124,7 +124,7 @@ abbrev pub first_host : List (List ℕ) → List ℕ
 first_host [] = []
 first_host (line ∷ lines) = or_else (host_in line) (first_host lines)
 
--- the compiler's host triple: the host in the first line that names a host
+-- the host triple of the compiler: the host in the first line that names one
 abbrev pub triple_of : List ℕ → List ℕ
 triple_of toolchain = first_host (lines_of toolchain)
 
@@ -139,27 +139,27 @@ abbrev pub released_text : Result (List Seen) ProfileFault → List ℕ
 released_text (Ok line) = if is_released line then codes "release" else codes "debug"
 released_text (Err fault) = codes "debug"
 
--- `release` for the profile `release` and all that inherit from it, else `debug`
+-- `release` for the profile `release` and for each profile that inherits from it; `debug` for any other profile
 abbrev pub profile_word : Project → List ℕ
 profile_word project = released_text (checked_line project.workspace.profiles project.profile)
 
--- the platform that is compiled for, the host, and the number of jobs
+-- the variables for the platform that is compiled for, for the host, and for the number of jobs
 abbrev pub platform_pairs : List ℕ → List (List ℕ × List ℕ)
 platform_pairs triple = (codes "TARGET", triple) ∷ (codes "HOST", triple) ∷ (codes "NUM_JOBS", codes "1") ∷ []
 
--- the settings of the package, in the role of the run's side
+-- the variables for the settings of the package, in the role of the run's side
 abbrev pub settings_pairs : List Setting → List ℕ → List (List ℕ × List ℕ)
 settings_pairs s profile = (codes "OPT_LEVEL", spelled (opt_level s)) ∷ (codes "DEBUG", truth_text (is_debugged (debug s))) ∷ (codes "PROFILE", profile) ∷ []
 
--- arguments with byte 0x1f between them
+-- the arguments as one text, with byte 0x1f between them
 abbrev pub encoded : List (List ℕ) → List ℕ
 encoded flags = join_by (λ flag. flag) (31 ∷ []) flags
 
--- the compiler and its flags
+-- the variables for the compiler and its flags
 abbrev pub compiler_pairs : Setup → List (List ℕ × List ℕ)
 compiler_pairs setup = (codes "RUSTC", setup.rustc) ∷ (codes "CARGO_ENCODED_RUSTFLAGS", encoded setup.flags) ∷ []
 
--- the run's output folder, and how its package is compiled
+-- the variables for the run's output folder, and for how its package is compiled
 abbrev pub building_pairs : Setup → Project → Planned → List (List ℕ × List ℕ)
 building_pairs setup project unit =
     (codes "OUT_DIR", unit.out) ∷ platform_pairs (triple_of setup.toolchain) ++ settings_pairs unit.settings (profile_word project) ++ compiler_pairs setup
@@ -176,11 +176,11 @@ abbrev pub passed_by : Project → Option Planned → List Directive → List (L
 passed_by project None said = []
 passed_by project (Some unit) said = if is_run unit.unit.what then linked_pairs (links_in (package_of project unit)) said else []
 
--- the metadata of the run at an index
+-- the variables for the metadata that the run at an index passes on
 unfoldable pub passed_at : Project → List (Option (List Directive)) → ℕ → List (List ℕ × List ℕ)
 passed_at project done index = passed_by project (unit_at project index) (said_at done index)
 
--- the metadata of each run that the unit needs, in plan order
+-- the variables for the metadata of each run that the unit needs, in plan order
 abbrev pub passed_pairs : Project → Planned → List (Option (List Directive)) → List (List ℕ × List ℕ)
 passed_pairs project unit done = flat_map (passed_at project done) unit.needs
 
@@ -195,10 +195,10 @@ own_pairs setup project unit done p (Bin name) = crate_pairs project unit ++ bin
 own_pairs setup project unit done p Script = crate_pairs project unit
 own_pairs setup project unit done p Run = run_pairs setup project unit done p
 
--- the variables that a command sets; a later one replaces an earlier one
+-- all variables that a command sets; a later variable replaces an earlier one of the same name
 abbrev pub composed : Setup → Project → Planned → List (Option (List Directive)) → Package → List (List ℕ × List ℕ)
 composed setup project unit done p = package_pairs setup p ++ about_pairs p.about ++ version_pairs p.version ++ own_pairs setup project unit done p unit.unit.what
 
--- the variables that are set over the inherited ones, sorted by name, each name once
+-- the variables that are set in addition to the inherited ones, sorted by name, each name once
 abbrev pub pairs_of : Setup → Project → Planned → List (Option (List Directive)) → Package → List (List ℕ × List ℕ)
 pairs_of setup project unit done p = in_order (composed setup project unit done p)

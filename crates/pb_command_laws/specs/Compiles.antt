@@ -1,5 +1,5 @@
--- What the arguments of a compile say (The Cargo Book, Build Cache,
--- Profiles, Features, Build Scripts): all values of each option, in order.
+-- What the arguments of a compile say: which values each option has, in order (The Cargo Book,
+-- Build Cache, Profiles, Features, Build Scripts).
 use Rattle.std.specs.Prelude.{◌≡◌, ℕ, Bool, true, false, ◌&&◌, ◌||◌, if◌then◌else◌, is_some, codes, List, [], ◌∷◌, ◌++◌, map, filter, Option, Some, None}
 use Rattle.std.specs.List.{flat_map, filter_map, join_by}
 use Rattle.std.specs.Option.{option_map, option_to_list}
@@ -38,15 +38,15 @@ is_binary what = is_some (binary_name what)
 
 -- Settings.
 
--- a value as the compiler spells it, unless it is this one
+-- a value as the compiler spells it, unless it is the value `other`
 abbrev pub unless_is : Setting → List ℕ → Setting → Option (List ℕ)
 unless_is other shown value = if same other value then None else Some (value_text shown value)
 
--- the row of a table for a value, if there is one
+-- the row of a table for a value, or no row if there is no value
 abbrev pub row : List ℕ → Option (List ℕ) → List (List ℕ × List ℕ)
 row name value = option_to_list (option_map (λ text. (name, text)) value)
 
--- each setting with its value; a setting without a value has no row
+-- the settings with their values; a setting for which the compiler gets no option has no row
 abbrev pub settings_table : What → List Setting → List (List ℕ × List ℕ)
 settings_table what s =
     (codes "opt-level", value_text (codes "on") (setting_at s key.OptLevel))
@@ -61,8 +61,8 @@ settings_table what s =
 
 -- What the lines of scripts say.
 
--- a line of a script as its key and its value; the key of `rustc-link-arg-bin=BIN=FLAG` is
--- `rustc-link-arg-bin=BIN`; if nothing uses the key of a line, its key and its value are empty
+-- A line of a script as its key and its value. The key of `rustc-link-arg-bin=BIN=FLAG` is
+-- `rustc-link-arg-bin=BIN`. If no argument depends on a line, its key and its value are empty here.
 abbrev pub as_line : Directive → List ℕ × List ℕ
 as_line (LinkSearch folder) = (codes "rustc-link-search", folder)
 as_line (LinkLib name) = (codes "rustc-link-lib", name)
@@ -76,19 +76,19 @@ as_line (RerunIfEnvChanged name) = (codes "rerun-if-env-changed", name)
 as_line (Error text) = (codes "error", text)
 as_line _ = ([], [])
 
--- the values of the lines with a key, in printed order
+-- the values of those lines that have this key, in printed order
 abbrev pub asked : List ℕ → List Directive → List (List ℕ)
 asked key said = values key (map as_line said)
 
--- a unit hears the lines that the run of its own package has printed, if it is a library or a binary
+-- a unit of this kind hears what its package's run has printed, since it is a library or a binary
 abbrev pub hears : What → Bool
 hears what = is_library what || is_binary what
 
--- the directives that a unit hears
+-- the directives that a unit hears from the run of its own package
 abbrev pub heard : Project → Planned → List (Option (List Directive)) → List Directive
 heard project unit done = if hears unit.unit.what then own_said project unit done else []
 
--- the flags of a binary's linker
+-- the linker flags that a binary gets from the directives that it hears
 abbrev pub linker_flags : What → List Directive → List (List ℕ)
 linker_flags (Bin name) said = asked (codes "rustc-link-arg") said ++ asked (codes "rustc-link-arg-bins") said ++ asked (codes "rustc-link-arg-bin=" ++ name) said
 linker_flags _ said = []
@@ -98,43 +98,44 @@ linker_flags _ said = []
 abbrev pub quoted : List ℕ → List ℕ
 quoted name = codes "\"" ++ name ++ codes "\""
 
--- `feature="F"`
+-- the text `feature="F"`
 abbrev pub feature_is_on : List ℕ → List ℕ
 feature_is_on name = codes "feature=" ++ quoted name
 
--- `cfg(feature, values("F", "G"))`
+-- the text `cfg(feature, values("F", "G"))`
 abbrev pub features_there_are : List Feature → List ℕ
 features_there_are features = codes "cfg(feature, values(" ++ join_by (λ (f : Feature). quoted f.name) (codes ", ") features ++ codes "))"
 
 -- Libraries.
 
--- the libraries among the units at these indices
+-- the units at these indices that are libraries
 abbrev pub libraries_at : Project → List ℕ → List Planned
 libraries_at project places = filter (λ (u : Planned). is_library u.unit.what) (filter_map (unit_at project) places)
 
--- What the arguments of a compile say. `lines` are the lines of the script that the unit hears;
--- `Is` is true of the unit's libraries.
+-- What the arguments of a compile say. `lines` are the directives that the unit hears. `Is` is true
+-- of the libraries that the unit gets.
 pub record CompileSays (project : Project) (unit : Planned) (done : List (Option (List Directive))) (p : Package) (lines : List Directive) (Is : List ℕ → List ℕ → Type 0) (said : List (List ℕ × List ℕ)) : Type 0 where
   pub crate_name : values (codes "--crate-name") said ≡ crate_name_of project unit ∷ []
   pub crate_types : values (codes "--crate-type") said ≡ map crate_type_text (crate_types p.library unit.unit.what)
   pub folder : values (codes "--out-dir") said ≡ unit.out ∷ []
   pub alone : values [] said ≡ (codes "--edition=" ++ edition_text p.edition) ∷ source_by p unit.unit.what ∷ codes "--error-format=json" ∷ codes "--emit=dep-info,link" ∷ []
   pub settings : values (codes "-C") said ≡ map assigned (settings_table unit.unit.what unit.settings) ++ map (λ flag. codes "link-arg=" ++ flag) (linker_flags unit.unit.what lines)
-  -- first the features that are on, and the conditions that the script sets; then the features that
-  -- exist, and the conditions that the script expects
+  -- The values of `--cfg` are the features that are on, and then the conditions that the script
+  -- sets. Those of `--check-cfg` are the features that exist, and then the conditions that the
+  -- script expects.
   pub conditions : values (codes "--cfg") said ≡ map feature_is_on (features_at project.features unit.unit.owner unit.unit.side) ++ asked (codes "rustc-cfg") lines
   pub expected : values (codes "--check-cfg") said ≡ features_there_are p.features ∷ asked (codes "rustc-check-cfg") lines
-  -- the folder of each library that the unit reaches, and the folders that the reached runs have
-  -- named
+  -- the values of `-L` are the folders of the libraries that the unit reaches, and then the folders
+  -- that the reached runs have named
   pub searched : values (codes "-L") said ≡ map (λ (library : Planned). codes "dependency=" ++ library.out) (libraries_at project unit.reaches) ++ asked (codes "rustc-link-search") (flat_map (said_at done) unit.reaches)
-  -- what the script links: a binary links it only if its package has no library
+  -- The values of `-l` are what the script links. A binary has them only if its package has no library.
   pub linked : values (codes "-l") said ≡ (if is_binary unit.unit.what && is_some p.library then [] else asked (codes "rustc-link-lib") lines)
   pub libraries : List (List ℕ × List ℕ)
   pub given : values (codes "--extern") said ≡ map assigned libraries
   pub are : AreLibraries Is libraries
 
--- The law: the arguments of a compile say this, and then what the user's flags say. The package
--- belongs to a workspace that was read, and its source has a normalised absolute path
+-- Law: the arguments of a compile say this, followed by what the user's flags say. The package
+-- belongs to a workspace that was read, and its source has a normalised absolute path.
 abbrev pub CompilesSay : Type 0
 CompilesSay = (setup : Setup) (project : Project) (unit : Planned) (done : List (Option (List Directive))) (p : Package)
     → IsSettled project.workspace → package_of project unit ≡ Some p → is_run unit.unit.what ≡ false → is_path (source_by p unit.unit.what) ≡ true

@@ -1,5 +1,5 @@
--- How the answer of a unit's child is judged, in words that do not
--- follow the code (The Cargo Book, Build Cache, Build Scripts).
+-- How the answer of a unit's child is judged. The definitions do not follow the code (The Cargo
+-- Book, Build Cache, Build Scripts).
 use Rattle.std.specs.Prelude.{◌≡◌, ◌≢◌, ◌≤◌, ◌↔◌, ℕ, Bool, true, false, ◌&&◌, not, ◌++◌, ◌==◌, if◌then◌else◌, codes, List, [], ◌∷◌, filter, length, map, Option, Some, None, pos, Result, Ok, Err}
 use Rattle.std.specs.List.{find, flat_map, list_any}
 use Rattle.std.specs.Option.{option_to_list}
@@ -25,41 +25,41 @@ use Rattle.pb_unit.specs.declared.plan.Planned.{Planned}
 use Rattle.pb_unit.specs.declared.unit.What.{What}
 use Rattle.pb_command_laws.specs.Compiles.{asked}
 
--- bytes are at most 4 MiB; no stream of a child and no dep-info may be longer
+-- The bytes are at most 4 MiB. No stream of a child and no dep-info may be longer.
 abbrev pub IsShort : List ℕ → Type 0
 IsShort bytes = length bytes ≤ max_stream_bytes
 
--- the child ended well: each stream is short, and the status is 0
+-- the child ended well: its two streams are short, and its status is 0
 abbrev pub EndedWell : Ended → Type 0
 EndedWell e = IsShort e.stdout × IsShort e.stderr × (e.status ≡ pos 0)
 
--- the path that a text names from a folder; a text with byte 0 names no path
+-- the path that a text spells from a folder; a text with byte 0 spells no path
 abbrev pub path_said : List ℕ → List ℕ → List (List ℕ)
 path_said folder text = option_to_list (result_ok (joined folder text))
 
--- the paths that texts name from a folder, each once, in order of first mention
+-- the paths that these texts spell from a folder, each once, in order of first mention
 abbrev pub paths_said : List ℕ → List (List ℕ) → List (List ℕ)
 paths_said folder texts = once (flat_map (path_said folder) texts)
 
--- the dep-info of a compile exists, is short, and reads as this
+-- the dep-info of a compile exists, is short, and is read as `info`
 abbrev pub IsInfo : Option (List ℕ) → DepInfo → Type 0
 IsInfo file info = (bytes : List ℕ) × (file ≡ Some bytes) × IsShort bytes × (dep_info_of bytes ≡ Ok info)
 
--- a path is in the target folder, but not in a folder that the command may read
+-- the path is in the target folder, but in no folder that the command may read
 abbrev pub is_foreign : Command → List ℕ → Bool
 is_foreign c path = is_at_or_below c.target path && not (list_any (λ folder. is_at_or_below folder path) c.reads)
 
--- the paths and variables that a child reports as inputs:
--- - a compile: those of its dep-info, except variables that the command sets
--- - a run: those of its lines; if no line names an input, its package's folder
+-- The paths and variables that a child reports as inputs.
+-- - A compile reports those of its dep-info, except variables that the command sets.
+-- - A run reports those of its lines, or its package's folder if no line names an input.
 pub data IsTold (what : What) (c : Command) (folder : List ℕ) (e : Ended) (dep_info : Option (List ℕ)) : Option (List Directive) → List (List ℕ) → List (List ℕ) → Type 0 where
   compile : (is : is_run what ≡ false) (info : DepInfo) (read : IsInfo dep_info info) → IsTold what c folder e dep_info None (paths_said c.folder info.words) (inherited c info.variables)
   run : (is : is_run what ≡ true) (said : List Directive) (read : directives_of e.stdout ≡ Ok said) (fine : asked (codes "error") said ≡ []) → IsTold what c folder e dep_info (Some said)
       (if length (asked (codes "rerun-if-changed") said ++ asked (codes "rerun-if-env-changed") said) == 0 then folder ∷ [] else paths_said folder (asked (codes "rerun-if-changed") said)) (once (asked (codes "rerun-if-env-changed") said))
 
--- the answer of a child, checked in this order: how the child ended; a run's lines or a compile's
--- dep-info; the inputs. If no path is foreign, the inputs are the paths outside the target folder,
--- and the variables
+-- The answer of a child. The way in which it ended is checked first, then a run's lines or a
+-- compile's dep-info, and then the inputs. If no path is foreign, the inputs are the paths outside
+-- the target folder, and the variables.
 pub data IsAnswer (what : What) (c : Command) (folder : List ℕ) (e : Ended) (dep_info : Option (List ℕ)) : Result CheckedReply UnitFault → Type 0 where
   too_long : (is : IsShort e.stdout × IsShort e.stderr → ⊥) → IsAnswer what c folder e dep_info (Err unit_fault.OutputTooLong)
   status : (short : IsShort e.stdout × IsShort e.stderr) (is : e.status ≢ pos 0) → IsAnswer what c folder e dep_info (Err (unit_fault.Status e.status))

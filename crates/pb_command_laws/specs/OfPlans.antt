@@ -1,4 +1,4 @@
--- All laws of commands in one, for a unit that is in the plan of its project (The Cargo Book, cargo
+-- All laws of commands together, for a unit in the plan of its project (The Cargo Book, cargo
 -- build, Build Scripts, Environment Variables, Specifying Dependencies).
 use Rattle.std.specs.Prelude.{◌≡◌, ℕ, true, false, ◌&&◌, ◌++◌, codes, is_some, List, [], Option, Some, None}
 use Rattle.pb_command.specs.Command.{command_of}
@@ -20,14 +20,14 @@ use Rattle.pb_command_laws.specs.Reading.{said_by}
 use Rattle.pb_command_laws.specs.Starts.{StartsCompiler, StartsScript}
 use Rattle.pb_command_laws.specs.Variables.{HasVariables, compile_table, run_table}
 
--- what a compile hears of its package's script: a library or a binary hears
--- the lines of the run on its own side, whose files are in this folder
+-- What a compile hears of its package's script. A library or a binary hears the lines of the run on
+-- its own side. Any other unit hears nothing.
 pub data Hears (project : Project) (u : Planned) (p : Package) (done : List (Option (List Directive))) : List Directive → Option (List ℕ) → Type 0 where
   nothing : (is : (hears u.unit.what && is_some p.script) ≡ false) → Hears project u p done [] None
   own_run : (is : (hears u.unit.what && is_some p.script) ≡ true) (index : ℕ) (run : Planned) (there : unit_at project index ≡ Some run) (same : run.unit ≡ unit u.unit.owner u.unit.side Run) → Hears project u p done (said_at done index) (Some run.out)
 
--- a compile: what it starts, what it hears, its variables, and what its arguments say. The names of
--- the variables ascend, so each occurs once
+-- The command is that of a compile: it starts the compiler, has these variables, and has arguments
+-- that say what `CompileSays` states. The names of the variables ascend, so each occurs once.
 pub record IsCompile (setup : Setup) (project : Project) (u : Planned) (done : List (Option (List Directive))) (p : Package) (command : Command) : Type 0 where
   pub starts : StartsCompiler setup project u command
   pub lines : List Directive
@@ -39,14 +39,15 @@ pub record IsCompile (setup : Setup) (project : Project) (u : Planned) (done : L
   pub words : said_by command.words ≡ said ++ said_by setup.flags
   pub says : CompileSays project u done p lines (IsWanted project u p) said
 
--- a run starts the script of its package on its side; the names of its variables also ascend
+-- The command is that of a run: it starts the script of its package on its side, and has these
+-- variables. The names of the variables ascend, so each occurs once.
 pub record IsRun (setup : Setup) (project : Project) (u : Planned) (done : List (Option (List Directive))) (p : Package) (command : Command) : Type 0 where
   pub starts : StartsScript setup project u p (Some (below (folder_of project (unit u.unit.owner u.unit.side Script)) (codes "build_script_build"))) command
   pub has : HasVariables command (run_table setup project u done p)
   pub order : IsAscending (names_of command.pairs)
 
--- The laws. The package belongs to a workspace that was read, and its source has a normalised
--- absolute path.
+-- The laws. The package belongs to a workspace that was read, and a compile's source has a
+-- normalised absolute path.
 
 abbrev pub CompilesOfPlans : Type 0
 CompilesOfPlans = (setup : Setup) (project : Project) (u : Planned) (done : List (Option (List Directive))) (p : Package)

@@ -1,5 +1,5 @@
--- Which units of a plan a command is about: the libraries that are passed to a compile, the run that a
--- compile hears, and the script that a run starts (The Cargo Book, Specifying Dependencies, Build Scripts).
+-- Which units of a plan a command is about. A compile gets libraries and hears a run; a run starts
+-- a script (The Cargo Book, Specifying Dependencies, Build Scripts).
 use Rattle.std.specs.Prelude.{◌≡◌, ◌↔◌, ℕ, ◌++◌, true, false, if◌then◌else◌, codes, is_some, List, Some, None, slice_get}
 use Rattle.pb_feature_types.specs.Features.{is_enabled}
 use Rattle.pb_directive.specs.Metadata.{underscored}
@@ -20,7 +20,7 @@ use Rattle.pb_unit.specs.declared.unit.What.TheVariants.{Lib, Bin, Script, Run}
 use Rattle.pb_command_laws.specs.Compiles.{hears}
 use Rattle.pb_command_laws.specs.Libraries.{IsLibrary}
 
--- a unit is in the plan of its project
+-- the unit is in the plan of its project, and belongs to the package
 pub record StandsInPlan (project : Project) (u : Planned) (p : Package) : Type 0 where
   pub selection : Selection
   pub place : ℕ
@@ -28,11 +28,11 @@ pub record StandsInPlan (project : Project) (u : Planned) (p : Package) : Type 0
   pub there : slice_get project.plan.planned place ≡ Some u
   pub owner : package_of project u ≡ Some p
 
--- the output folder of a unit: `TARGET/PROFILE/KEY`
+-- the output folder of a unit, which is `TARGET/PROFILE/KEY`
 abbrev pub folder_of : Project → OfPlan → List ℕ
 folder_of project u = below (profile_folder project.workspace project.profile) (key_of project.workspace u)
 
--- the crate name and the file of the library of the package at an index, on a side
+-- the package at an index has a library with this crate name, which on this side is compiled to this file
 pub record IsLibraryOf (project : Project) (index : ℕ) (side : Side) (crate file : List ℕ) : Type 0 where
   pub owner : Package
   pub library : Library
@@ -41,28 +41,28 @@ pub record IsLibraryOf (project : Project) (index : ℕ) (side : Side) (crate fi
   pub crate_is : crate ≡ library.name
   pub file_is : file_in (folder_of project (unit index side Lib)) (codes "lib" ++ crate ++ codes ".rlib") ≡ Some file
 
--- a library of this name and file is wanted:
--- - the library of an entry in the unit's role, if the entry is enabled on the unit's side and
---   leads to a package with a library; the entry is of `[build-dependencies]` for a script, and of
---   `[dependencies]` for any other unit
--- - a binary's own library
+-- A library with this name and this file is wanted by a unit.
+-- - It may be the library of an entry, on the side of the unit's role, if the entry is enabled on
+--   the unit's side. The entry is of `[build-dependencies]` for a script, and of `[dependencies]`
+--   for any other unit.
+-- - It may be the library of a binary's own package.
 pub data IsWanted (project : Project) (u : Planned) (p : Package) : List ℕ → List ℕ → Type 0 where
   by_entry : (n : ℕ) (entry : Entry) (crate file : List ℕ) (there : slice_get p.entries n ≡ Some entry) (enabled : is_enabled project.features u.unit.owner u.unit.side n ≡ true)
       (kind : entry.kind ≡ (if is_script u.unit.what then Build else Normal)) (library : IsLibraryOf project entry.to (role_of u.unit) crate file) → IsWanted project u p (if entry.renamed then underscored entry.key else crate) file
   own : (binary crate file : List ℕ) (is : u.unit.what ≡ Bin binary) (library : IsLibraryOf project u.unit.owner u.unit.side crate file) → IsWanted project u p crate file
 
--- These are the libraries that are passed to a compile of a plan.
+-- The libraries that are passed to a compile of a plan are exactly the wanted ones.
 abbrev pub LibrariesAreWanted : Type 0
 LibrariesAreWanted = (project : Project) (u : Planned) (p : Package) → StandsInPlan project u p → is_run u.unit.what ≡ false → (name file : List ℕ) → IsLibrary project u p name file ↔ IsWanted project u p name file
 
--- the run of the package at an index, on a side, is at this index of the plan
+-- the plan has, at this index, the run of the package with the index `owner` on this side
 pub record IsRunOf (project : Project) (owner : ℕ) (side : Side) (index : ℕ) : Type 0 where
   pub run : Planned
   pub there : unit_at project index ≡ Some run
   pub is : run.unit ≡ unit owner side Run
 
--- A library or a binary hears the run of its package on its side, if the package has a script;
--- otherwise it hears no run.
+-- If its package has a script, a library or a binary hears the run of this package on its own side.
+-- If not, the unit hears no run.
 pub record HearsOwnRun (project : Project) (u : Planned) (p : Package) : Type 0 where
   pub some : is_some p.script ≡ true → (index : ℕ) × (own_run project u ≡ Some index) × IsRunOf project u.unit.owner u.unit.side index
   pub none : is_some p.script ≡ false → own_run project u ≡ None
@@ -70,7 +70,7 @@ pub record HearsOwnRun (project : Project) (u : Planned) (p : Package) : Type 0 
 abbrev pub CompilesHearRuns : Type 0
 CompilesHearRuns = (project : Project) (u : Planned) (p : Package) → StandsInPlan project u p → hears u.unit.what ≡ true → HearsOwnRun project u p
 
--- A run starts the script of its package on its side.
+-- A run starts the script of its own package on its own side.
 abbrev pub RunsStartScripts : Type 0
 RunsStartScripts = (project : Project) (u : Planned) (p : Package) → StandsInPlan project u p → is_run u.unit.what ≡ true
     → script_file project u ≡ Some (below (folder_of project (unit u.unit.owner u.unit.side Script)) (codes "build_script_build"))

@@ -1,4 +1,4 @@
--- What a command starts, where, and what it may read (The Cargo Book, cargo build, Build Scripts).
+-- What a command starts, in which folder, and what it may read (The Cargo Book, cargo build, Build Scripts).
 use Rattle.std.specs.Prelude.{◌≡◌, ℕ, true, false, List, [], ◌∷◌, ◌++◌, map, Option, Some}
 use Rattle.std.specs.List.{filter_map}
 use Rattle.pb_directive.specs.declared.directive.Directive.{Directive}
@@ -10,8 +10,8 @@ use Rattle.pb_command_types.specs.declared.project.Project.{Project}
 use Rattle.pb_command_types.specs.declared.project.Setup.{Setup}
 use Rattle.pb_command.specs.Command.{command_of}
 
--- a unit's command starts in a folder and writes into the unit's folder; in the target folder it
--- may read the folders of all units that this unit reaches, in plan order
+-- The command starts in this folder and writes into the unit's folder. In the target folder the
+-- command may read the folders of all units that the unit reaches, in plan order.
 pub record IsOfUnit (setup : Setup) (project : Project) (unit : Planned) (folder : List ℕ) (command : Command) : Type 0 where
   pub folder_is : command.folder ≡ folder
   pub out : command.out ≡ Some unit.out
@@ -23,11 +23,12 @@ pub record IsOfUnit (setup : Setup) (project : Project) (unit : Planned) (folder
 abbrev pub StartsCompiler : Setup → Project → Planned → Command → Type 0
 StartsCompiler setup project unit command = (command.program ≡ setup.rustc) × IsOfUnit setup project unit project.workspace.root command
 
--- the command of a run: the words of the runner, if there is one, and then the script, if there is one; in the package's folder
+-- The command starts a script in the package's folder. The words of the runner come first, if there
+-- is one, and then the script.
 abbrev pub StartsScript : Setup → Project → Planned → Package → Option (List ℕ) → Command → Type 0
 StartsScript setup project unit p file command = ((script : List ℕ) → file ≡ Some script → command.program ∷ command.words ≡ setup.runner ++ script ∷ []) × IsOfUnit setup project unit p.folder command
 
--- The laws.
+-- The laws of what a command starts.
 
 abbrev pub CompilesStart : Type 0
 CompilesStart = (setup : Setup) (project : Project) (unit : Planned) (done : List (Option (List Directive))) (p : Package)

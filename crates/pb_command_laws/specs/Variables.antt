@@ -1,5 +1,5 @@
--- The variables of a command (The Cargo Book, Environment Variables):
--- tables of names and values, in which the last value of a name counts.
+-- Which variables a command sets (The Cargo Book, Environment Variables). Tables of names and
+-- values say this; in a table the last value of a name counts.
 use Rattle.std.specs.Prelude.{◌≡◌, ℕ, true, false, if◌then◌else◌, codes, List, [], ◌∷◌, ◌++◌, map, reverse, Option, Some, None}
 use Rattle.std.specs.Fmt.{decimal}
 use Rattle.std.specs.List.{flat_map, list_any, join_by}
@@ -28,18 +28,20 @@ use Rattle.pb_command.specs.Command.{command_of}
 use Rattle.pb_command_environment.specs.Pairs.{triple_of}
 use Rattle.pb_command_laws.specs.Compiles.{binary_name, row, hears, heard}
 
--- a command has exactly the variables of a table: each name has the
--- last value of that name in the table, and no other name is set
+-- The command sets exactly the variables of the table. Each of these names has the last value that
+-- the table has for it.
 abbrev pub HasVariables : Command → List (List ℕ × List ℕ) → Type 0
 HasVariables command table = (name : List ℕ) → value_at name command.pairs ≡ value_at name (reverse table)
 
 -- For every unit.
 
--- the parts of a version, which each package has: three numbers, and what comes after `-` and after `+`
+-- The parts of a version: three numbers, and the texts after `-` and after `+`. The version of each
+-- package has them.
 abbrev pub parts_of : List ℕ → ℕ × ℕ × ℕ × List ℕ × List ℕ
 parts_of version = result_unwrap_or (version_parts version) (0, 0, 0, [], [])
 
--- the variables for the builder, and for the unit's package and its description of itself
+-- the variables about the builder, about the unit's package, and with what the package tells people
+-- about itself
 abbrev pub package_table : Setup → Package → List (List ℕ × List ℕ)
 package_table setup p =
     (codes "CARGO", setup.tool) ∷ (codes "CARGO_MANIFEST_DIR", p.folder) ∷ (codes "CARGO_MANIFEST_PATH", p.manifest) ∷ (codes "CARGO_PKG_NAME", p.name)
@@ -56,42 +58,43 @@ abbrev pub variable_set : Directive → List (List ℕ × List ℕ)
 variable_set (Env name value) = (name, value) ∷ []
 variable_set _ = []
 
--- the variables of a compile: those of every unit; the crate; a binary's name; for a library or a
--- binary whose package has a run, the folder of the run's files; and all variables that this run
--- sets, which win. `said` are the lines of this run, `ran` is its folder
+-- The variables of a compile. Those of every unit come first, then the name of the crate, and for a
+-- binary its own name. `ran` is the output folder of the run that the unit hears, if there is one.
+-- `said` are the lines of this run; the variables that they set come last, and so replace earlier
+-- ones.
 abbrev pub compile_table : Setup → Project → Planned → Package → List Directive → Option (List ℕ) → List (List ℕ × List ℕ)
 compile_table setup project unit p said ran =
     package_table setup p ++ (codes "CARGO_CRATE_NAME", crate_name_of project unit) ∷ row (codes "CARGO_BIN_NAME") (binary_name unit.unit.what) ++ row (codes "OUT_DIR") ran ++ flat_map variable_set said
 
--- the output folder of the unit at an index
+-- the output folder of the unit at an index, if there is such a unit
 abbrev pub folder_at : Project → Option ℕ → Option (List ℕ)
 folder_at project None = None
 folder_at project (Some index) = option_map (λ (u : Planned). u.out) (unit_at project index)
 
--- The law of compiles.
+-- The law about the variables of compiles.
 abbrev pub CompilesHave : Type 0
 CompilesHave = (setup : Setup) (project : Project) (unit : Planned) (done : List (Option (List Directive))) (p : Package)
     → package_of project unit ≡ Some p → is_run unit.unit.what ≡ false → HasVariables (command_of setup project unit done) (compile_table setup project unit p (heard project unit done) (if hears unit.unit.what then folder_at project (own_run project unit) else None))
 
 -- For runs.
 
--- `true` if there is any debug information
+-- the text `true` if there is any debug information, and `false` otherwise
 abbrev pub debug_text : Word → List ℕ
 debug_text word.Zero = codes "false"
 debug_text _ = codes "true"
 
--- what the package of a run links, if it links something
+-- the native library that the package of a run links, if it links one
 abbrev pub links_of_run : Project → Planned → Option (List ℕ)
 links_of_run project u = if is_run u.unit.what then option_and_then (λ (p : Package). p.links) (package_of project u) else None
 
--- the metadata of the run at an index, as variables for what its package links
+-- the metadata of the run at an index, as variables named after the native library that its package links
 abbrev pub handed_on : Project → List (Option (List Directive)) → ℕ → List (List ℕ × List ℕ)
 handed_on project done index = option_map_or (λ links. passed links (said_at done index)) (option_and_then (links_of_run project) (unit_at project index)) []
 
--- the variables of a run: those of every unit, what its package links, `1` for each feature that is
--- on, its folder, the platform, the settings of its package, the compiler and its flags, and the
--- metadata of the runs that it needs, in plan order; `PROFILE` is `release` if the profile, or a
--- profile from which it inherits, is `release`
+-- The variables of a run. Those of every unit come first, then what its package links, and `1` for
+-- each feature that is on. Then come its folder, the platform, the settings of its package, the
+-- compiler and its flags. The metadata of the runs that it needs comes last, in plan order.
+-- `PROFILE` is `release` if the profile is `release` or inherits from it.
 abbrev pub run_table : Setup → Project → Planned → List (Option (List Directive)) → Package → List (List ℕ × List ℕ)
 run_table setup project unit done p =
     package_table setup p ++ row (codes "CARGO_MANIFEST_LINKS") p.links
@@ -101,7 +104,7 @@ run_table setup project unit done p =
     ∷ (codes "PROFILE", if list_any (λ (s : Seen). bytes_eq s.name (codes "release")) (result_unwrap_or (checked_line project.workspace.profiles project.profile) []) then codes "release" else codes "debug")
     ∷ (codes "RUSTC", setup.rustc) ∷ (codes "CARGO_ENCODED_RUSTFLAGS", join_by (λ flag. flag) (31 ∷ []) setup.flags) ∷ flat_map (handed_on project done) unit.needs
 
--- The law of runs.
+-- The law about the variables of runs.
 abbrev pub RunsHave : Type 0
 RunsHave = (setup : Setup) (project : Project) (unit : Planned) (done : List (Option (List Directive))) (p : Package)
     → package_of project unit ≡ Some p → is_run unit.unit.what ≡ true → HasVariables (command_of setup project unit done) (run_table setup project unit done p)

@@ -1,4 +1,5 @@
--- How the reply of a unit's child is judged, and which inputs it has (The Cargo Book, Build Cache, Build Scripts).
+-- How the reply of a unit's child is judged, and which inputs a good reply has (The Cargo Book,
+-- Build Cache, Build Scripts).
 use Rattle.std.specs.Prelude.{ℕ, Bool, true, false, not, ◌||◌, ◌&&◌, nat_lt, if◌then◌else◌, List, [], ◌∷◌, ◌++◌, map, filter, length, Option, Some, None, pos, Result, Ok, Err}
 use Rattle.std.specs.List.{flat_map, find, list_any}
 use Rattle.std.specs.Ordering.{int_eq}
@@ -28,11 +29,12 @@ use Rattle.pb_command_types.specs.Targets.{folder_of}
 
 -- How the child ended.
 
--- the greatest length of a child's stream, or of dep-info, in bytes
+-- the bytes of a child's stream, or of dep-info, are more than we accept
 abbrev pub is_too_long : List ℕ → Bool
 is_too_long bytes = nat_lt max_stream_bytes (length bytes)
 
--- the fault of how a child ended: a stream that is too long, else a status other than 0
+-- The fault of how a child ended, if it has one. A stream that is too long comes first, and then a
+-- status other than 0.
 abbrev pub ended_fault : Ended → Option UnitFault
 ended_fault e = if is_too_long e.stdout || is_too_long e.stderr then Some unit_fault.OutputTooLong else (if int_eq e.status (pos 0) then None else Some (unit_fault.Status e.status))
 
@@ -42,19 +44,20 @@ abbrev pub path_or_none : Result (List ℕ) PathFault → List (List ℕ)
 path_or_none (Ok path) = path ∷ []
 path_or_none (Err fault) = []
 
--- the path of a text relative to a folder, or none if the text contains byte 0
+-- the path that a text spells from a folder, or none if the text has byte 0
 unfoldable pub path_said : List ℕ → List ℕ → List (List ℕ)
 path_said folder text = path_or_none (joined folder text)
 
--- the paths of some texts relative to a folder, without repeats, in order of first mention
+-- the paths that these texts spell from a folder, without repeats, in order of first mention
 abbrev pub paths_from : List ℕ → List (List ℕ) → List (List ℕ)
 paths_from folder texts = once (flat_map (path_said folder) texts)
 
--- a path in the folder of a reached unit is covered by that unit
+-- the path is at or below the output folder of a unit that the command's unit reaches, so that this
+-- unit stands for it
 unfoldable pub is_covered : Command → List ℕ → Bool
 is_covered command path = list_any (λ folder. is_at_or_below folder path) command.reads
 
--- a path is foreign if it is in the target folder and nothing covers it
+-- the path is in the target folder, and no folder that the command reads covers it
 unfoldable pub is_foreign : Command → List ℕ → Bool
 is_foreign command path = is_at_or_below command.target path && not (is_covered command path)
 
@@ -65,17 +68,17 @@ abbrev pub unless_foreign : Option (List ℕ) → List (List ℕ) → Result (Li
 unless_foreign None paths = Ok paths
 unless_foreign (Some path) paths = Err (unit_fault.ForeignInput path)
 
--- the paths outside the target folder; the first foreign path is a fault
+-- the paths outside the target folder; if some path is foreign, the first one is a fault
 abbrev pub sources_in : Command → List (List ℕ) → Result (List (List ℕ)) UnitFault
 sources_in command paths = unless_foreign (find (is_foreign command) paths) (filter (is_source command) paths)
 
--- the inputs: first paths, then variables
+-- the inputs with these names: the paths first, and then the variables
 abbrev pub inputs_of : Command → List (List ℕ) → List (List ℕ) → Result (List InputName) UnitFault
 inputs_of command paths variables = sources_in command paths >>= (λ sources. Ok (map Path sources ++ map Variable variables))
 
 -- Compiles.
 
--- the dep-info, or `NoDepInfo` if it cannot be read
+-- the dep-info that was read, or the fault `NoDepInfo`
 abbrev pub read_or_none : Result DepInfo LineFault → Result DepInfo UnitFault
 read_or_none (Ok info) = Ok info
 read_or_none (Err fault) = Err unit_fault.NoDepInfo
@@ -83,16 +86,17 @@ read_or_none (Err fault) = Err unit_fault.NoDepInfo
 abbrev pub info_in : List ℕ → Result DepInfo UnitFault
 info_in bytes = read_or_none (dep_info_of bytes)
 
--- the dep-info of a compile, which must exist, be short enough, and be readable
+-- the dep-info of a compile, which must exist, must not be too long, and must be readable
 abbrev pub read_info : Option (List ℕ) → Result DepInfo UnitFault
 read_info None = Err unit_fault.NoDepInfo
 read_info (Some bytes) = if is_too_long bytes then Err unit_fault.NoDepInfo else info_in bytes
 
--- the variables that the command does not set
+-- the variables that the command does not set, so that the child inherits them
 abbrev pub inherited : Command → List (List ℕ) → List (List ℕ)
 inherited command names = filter (λ name. not (is_mentioned (map (λ (pair : List ℕ × List ℕ). pair.0) command.pairs) name)) names
 
--- the inputs of dep-info: its paths relative to the command's folder, and its variables that the command does not set
+-- the inputs that dep-info names: its paths, from the command's folder, and those of its variables
+-- that the command does not set
 abbrev pub info_inputs : Command → DepInfo → Result (List InputName) UnitFault
 info_inputs command info = inputs_of command (paths_from command.folder info.words) (inherited command info.variables)
 
@@ -109,12 +113,12 @@ abbrev pub changed_variable : Directive → List (List ℕ)
 changed_variable (RerunIfEnvChanged name) = name ∷ []
 changed_variable _ = []
 
--- the inputs for these paths relative to a folder and these variables, without repeats
+-- the inputs for these paths, from a folder, and these variables, without repeats
 abbrev pub marked_inputs : Command → List ℕ → List (List ℕ) → List (List ℕ) → Result (List InputName) UnitFault
 marked_inputs command folder paths names = inputs_of command (paths_from folder paths) (once names)
 
--- the inputs that `rerun-if-changed` and `rerun-if-env-changed` lines name,
--- or the whole folder if there are no such lines
+-- the inputs that lines `rerun-if-changed` and `rerun-if-env-changed` name; without such lines, the
+-- whole folder is the input
 abbrev pub rerun_inputs : Command → List ℕ → List (List ℕ) → List (List ℕ) → Result (List InputName) UnitFault
 rerun_inputs command folder [] [] = inputs_of command (folder ∷ []) []
 rerun_inputs command folder [] (name ∷ names) = marked_inputs command folder [] (name ∷ names)
@@ -130,7 +134,7 @@ is_error _ = false
 abbrev pub unless_error : List Directive → Result (List Directive) UnitFault
 unless_error said = if list_any is_error said then Err unit_fault.ScriptError else Ok said
 
--- the directives of a run, if all its lines can be read and none reports an error
+-- the directives of a run, if all its lines can be read and no line reports an error
 abbrev pub said_in : Ended → Result (List Directive) UnitFault
 said_in ended = lifted unit_fault.Directive (directives_of ended.stdout) >>= unless_error
 
@@ -148,12 +152,12 @@ abbrev pub unless_fault : Option UnitFault → Result CheckedReply UnitFault →
 unless_fault None answered = answered
 unless_fault (Some fault) answered = Err fault
 
--- what a reply yields: how the child ended is checked first,
--- then a run's lines or a compile's dep-info, then the inputs
+-- What a reply yields. The way in which the child ended is checked first. Then a run's lines or a
+-- compile's dep-info are read. The inputs come last.
 abbrev pub answered_of : Project → Planned → Command → Ended → Option (List ℕ) → Result CheckedReply UnitFault
 answered_of project unit command ended dep_info = unless_fault (ended_fault ended) (answered_by unit.unit.what command (folder_of project unit) ended dep_info)
 
--- only the names of the inputs
+-- the names of the inputs, without the directives
 abbrev pub named_in : Result CheckedReply UnitFault → Result (List InputName) UnitFault
 named_in (Ok answered) = Ok answered.inputs
 named_in (Err fault) = Err fault

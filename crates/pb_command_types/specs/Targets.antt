@@ -1,5 +1,5 @@
--- What a unit produces and where: crate names, sources and files, looked up by index (The Cargo Book, Cargo Targets,
--- Build Scripts). Nothing is found at an index without a unit or package.
+-- What a unit produces and where: crate names, sources and files, looked up by index (The Cargo
+-- Book, Cargo Targets, Build Scripts). An index without a unit or a package yields nothing.
 use Rattle.std.specs.Prelude.{ℕ, ◌==◌, ◌&&◌, Bool, true, false, if◌then◌else◌, codes, List, [], ◌∷◌, ◌++◌, Option, Some, None, slice_get}
 use Rattle.std.specs.List.{find}
 use Rattle.std.specs.Str.{bytes_eq}
@@ -32,7 +32,7 @@ abbrev pub package_folder : List ℕ → Option Package → List ℕ
 package_folder root None = root
 package_folder root (Some p) = p.folder
 
--- the folder of a unit's package, or the workspace's if there is no such package
+-- the folder of the unit's package, or the workspace's root if there is no such package
 abbrev pub folder_of : Project → Planned → List ℕ
 folder_of project unit = package_folder project.workspace.root (package_of project unit)
 
@@ -42,8 +42,8 @@ abbrev pub library_name : Option Library → List ℕ
 library_name None = []
 library_name (Some library) = library.name
 
--- the name of the crate: the library's own, a binary's with `_` for each `-`, and one name for all scripts; a run
--- compiles none
+-- The name of the crate that a unit compiles. A library has its own name. A binary has its name
+-- with `_` for each `-`. All scripts have one name. A run compiles no crate.
 abbrev pub crate_name : Option Library → What → List ℕ
 crate_name library Lib = library_name library
 crate_name library (Bin name) = underscored name
@@ -57,7 +57,7 @@ abbrev pub library_types : Option Library → List CrateType
 library_types None = []
 library_types (Some library) = library.crate_types
 
--- the crate types: those of the library, and `bin` for binaries and scripts
+-- the crate types that a unit is compiled to: those of the library, and `bin` for a binary or a script
 abbrev pub crate_types : Option Library → What → List CrateType
 crate_types library Lib = library_types library
 crate_types library (Bin name) = crate_type.Bin ∷ []
@@ -76,11 +76,11 @@ abbrev pub script_source : Option (List ℕ) → List ℕ
 script_source None = []
 script_source (Some source) = source
 
--- the binary of this name
+-- the binary with this name, if there is one
 abbrev pub binary_named : List ℕ → List Binary → Option Binary
 binary_named name binaries = find (λ (binary : Binary). bytes_eq name binary.name) binaries
 
--- the path of the source
+-- the path of the source that a unit compiles
 abbrev pub source_by : Package → What → List ℕ
 source_by p Lib = library_source p.library
 source_by p (Bin name) = binary_source (binary_named name p.binaries)
@@ -89,18 +89,18 @@ source_by p Run = []
 
 -- Files.
 
--- the file of this name in a folder, if it is a name
+-- the path of the file with this name in a folder, if the name is a relative path
 abbrev pub file_in : List ℕ → List ℕ → Option (List ℕ)
 file_in folder name = if is_relative name then Some (below folder name) else None
 
--- the file that a crate is compiled to: `libC.rlib` for a library, `C` for a binary or a script
+-- the file to which a crate is compiled: `libC.rlib` for a library, and `C` for a binary or a script
 abbrev pub file_by : What → List ℕ → List ℕ → Option (List ℕ)
 file_by Lib folder name = file_in folder (codes "lib" ++ name ++ codes ".rlib")
 file_by (Bin binary) folder name = file_in folder name
 file_by Script folder name = file_in folder name
 file_by Run folder name = None
 
--- the file that a compile produces; a run produces none
+-- the file that a unit's compile produces; a run produces none
 abbrev pub made_file_of : Project → Planned → Option (List ℕ)
 made_file_of project unit = file_by unit.unit.what unit.out (crate_name_of project unit)
 
@@ -108,11 +108,11 @@ abbrev pub dep_info_by : What → List ℕ → List ℕ → Option (List ℕ)
 dep_info_by Run folder name = None
 dep_info_by _ folder name = file_in folder (name ++ codes ".d")
 
--- the file in which a compile reports what it has read: `C.d`; a run has none
+-- the file `C.d`, in which a unit's compile reports what it has read; a run has none
 abbrev pub dep_info_of : Project → Planned → Option (List ℕ)
 dep_info_of project unit = dep_info_by unit.unit.what unit.out (crate_name_of project unit)
 
--- What a unit needs, by its package.
+-- What a unit needs, looked up by package.
 
 abbrev pub is_library : What → Bool
 is_library Lib = true
@@ -126,16 +126,16 @@ abbrev pub is_run : What → Bool
 is_run Run = true
 is_run _ = false
 
--- there is a unit, it passes this test, and it is of the package at this index
+-- there is a unit, it is of the tested kind, and it belongs to the package at this index
 abbrev pub is_one_of : (What → Bool) → ℕ → Option Planned → Bool
 is_one_of test owner None = false
 is_one_of test owner (Some unit) = test unit.unit.what && (unit.unit.owner == owner)
 
--- the index of the needed unit that passes this test and is of the package at this index
+-- the index of a needed unit of the tested kind that belongs to the package at this index, if there is one
 abbrev pub needed : (What → Bool) → Project → Planned → ℕ → Option ℕ
 needed test project unit owner = find (λ index. is_one_of test owner (unit_at project index)) unit.needs
 
--- the run of its own package's script, if the unit needs it
+-- the index of the run of the unit's own package, if the unit needs this run
 abbrev pub own_run : Project → Planned → Option ℕ
 own_run project unit = needed is_run project unit unit.unit.owner
 
@@ -147,11 +147,11 @@ abbrev pub file_at : Project → Option ℕ → Option (List ℕ)
 file_at project None = None
 file_at project (Some index) = file_there project (unit_at project index)
 
--- the file of the library of this package that the unit needs
+-- the file of the library of the package at this index, if the unit needs this library
 abbrev pub library_file : Project → Planned → ℕ → Option (List ℕ)
 library_file project unit owner = file_at project (needed is_library project unit owner)
 
--- the file of the script of its own package that the unit needs
+-- the file of the script of the unit's own package, if the unit needs this script
 abbrev pub script_file : Project → Planned → Option (List ℕ)
 script_file project unit = file_at project (needed is_script project unit unit.unit.owner)
 
@@ -162,7 +162,7 @@ said_in None = []
 said_in (Some None) = []
 said_in (Some (Some directives)) = directives
 
--- the directives of the run at an index of the plan
+-- the directives of the run at an index of the plan, or none if no run has ended there
 abbrev pub said_at : List (Option (List Directive)) → ℕ → List Directive
 said_at done index = said_in (slice_get done index)
 
@@ -170,6 +170,6 @@ abbrev pub said_there : List (Option (List Directive)) → Option ℕ → List D
 said_there done None = []
 said_there done (Some index) = said_at done index
 
--- the directives of the run of the unit's own package
+-- the directives of the run of the unit's own package, if the unit needs this run
 abbrev pub own_said : Project → Planned → List (Option (List Directive)) → List Directive
 own_said project unit done = said_there done (own_run project unit)

@@ -1,4 +1,4 @@
--- The bytes that rules name.
+-- Names for the ASCII bytes that the rules of this builder use.
 use Rattle.std.specs.Prelude.{ℕ}
 
 abbrev pub tab : ℕ

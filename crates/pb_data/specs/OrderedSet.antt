@@ -1,26 +1,26 @@
--- Texts each once, in order of first mention.
+-- Lists of texts without repeats, in order of first mention.
 use Rattle.std.specs.Prelude.{ℕ, not, Bool, List, [], ◌∷◌, ◌++◌, if◌then◌else◌, filter}
 use Rattle.std.specs.List.{list_any, IsDistinct}
 use Rattle.std.specs.Str.{bytes_eq}
 
--- one of the texts is this one
+-- the list contains the text
 abbrev pub is_mentioned : List (List ℕ) → List ℕ → Bool
 is_mentioned texts text = list_any (bytes_eq text) texts
 
--- the texts with one more at the end, unless it is there already
+-- the texts, with the given text at the end if it is not among them
 abbrev pub mentioned : List (List ℕ) → List ℕ → List (List ℕ)
 mentioned texts text = if is_mentioned texts text then texts else texts ++ text ∷ []
 
--- the texts with more texts, one after another
+-- the first texts, to which the second texts are added one by one as `mentioned` says
 abbrev pub mentioned_all : List (List ℕ) → List (List ℕ) → List (List ℕ)
 mentioned_all texts [] = texts
 mentioned_all texts (text ∷ more) = mentioned_all (mentioned texts text) more
 
--- the texts without this one
+-- the texts other than the given one
 abbrev pub without : List ℕ → List (List ℕ) → List (List ℕ)
 without text texts = filter (λ other. not (bytes_eq text other)) texts
 
--- each of the texts once, in order of first mention
+-- all different texts of the list, each once, in order of first mention
 abbrev pub once : List (List ℕ) → List (List ℕ)
 once [] = []
 once (text ∷ texts) = text ∷ without text (once texts)

@@ -1,4 +1,4 @@
--- Truth values as words.
+-- Truth values as the words `true` and `false`.
 use Rattle.std.specs.Prelude.{ℕ, Bool, true, false, codes, List}
 
 abbrev pub truth_text : Bool → List ℕ

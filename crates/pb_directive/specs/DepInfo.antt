@@ -1,4 +1,4 @@
--- What the dep-info of a compiler names (The Cargo Book, "Build Cache", "Dep-Info Files").
+-- Which files and variables a compiler's dep-info names (The Cargo Book, "Build Cache", "Dep-Info Files").
 use Rattle.std.specs.Prelude.{◌≡◌, ◌≢◌, ℕ, ◌+◌, ◌==◌, ◌&&◌, not, Bool, true, List, [], ◌∷◌, ◌++◌, if◌then◌else◌, codes, filter, is_some, Option, Some, None, Result, Ok, Err, MatchResult}
 use Rattle.std.specs.List.{onto_first, before_first}
 use Rattle.std.specs.Str.Lines.{strip_carriage_return}
@@ -27,18 +27,17 @@ joined a b = record { words = a.words ++ b.words; variables = a.variables ++ b.v
 
 -- ---- a rule
 
--- a colon before these bytes ends the outputs of a rule if the bytes begin with a space, or if
--- there are none
+-- these bytes may follow the colon that ends a rule's outputs: they begin with a space, or there are none
 abbrev pub ends_outputs : List ℕ → Bool
 ends_outputs [] = true
 ends_outputs (b ∷ bytes) = b == space
 
--- what follows the outputs of a rule, if the outputs end
+-- what follows the outputs of a rule, if a colon ends the outputs
 abbrev pub after_outputs : List ℕ → Option (List ℕ)
 after_outputs [] = None
 after_outputs (b ∷ bytes) = if (b == colon) && ends_outputs bytes then Some bytes else after_outputs bytes
 
--- the parts between spaces; `\ ` is a space inside a part, and any other `\` is itself
+-- The parts between spaces. The bytes `\ ` are a space inside a part, and any other `\` stands for itself.
 abbrev pub parts_of : List ℕ → List (List ℕ)
 parts_of [] = [] ∷ []
 parts_of (b ∷ []) = if b == space then [] ∷ [] ∷ [] else (b ∷ []) ∷ []
@@ -47,18 +46,18 @@ parts_of (b ∷ c ∷ bytes) =
     else (if (b == backslash) && (c == space) then onto_first space (parts_of bytes)
     else onto_first b (parts_of (c ∷ bytes)))
 
--- the words of a rule: the parts that are not empty
+-- the parts of a rule that are not empty
 abbrev pub rule_words : List ℕ → List (List ℕ)
 rule_words bytes = filter (λ part. not (is_empty part)) (parts_of bytes)
 
--- what a rule names: its words, none of which may contain byte 0
+-- The words that a rule names. A rule whose outputs do not end, or with byte 0 after its outputs, is refused.
 abbrev pub rule_info : Option (List ℕ) → Result DepInfo Problem
 rule_info None = Err problem.BadValue
 rule_info (Some rest) = if has_byte 0 rest then Err problem.BadValue else Ok (only_words (rule_words rest))
 
 -- ---- a line
 
--- the variable of `NAME` or `NAME=VALUE`; its name is not empty and has no byte 0
+-- The variable that `NAME` or `NAME=VALUE` names. A name that is empty or has byte 0 is refused.
 abbrev pub variable_info : List ℕ → Result DepInfo Problem
 variable_info text =
     let name = before_first (λ b. b == equals) text in
@@ -66,7 +65,7 @@ variable_info text =
     else (if has_byte 0 name then Err problem.BadValue
     else Ok (one_variable name))
 
--- what a line that begins with `#` names
+-- what a line that begins with `#` names: a variable after `# env-dep:`, and nothing otherwise
 abbrev pub comment_info : Option (List ℕ) → Result DepInfo Problem
 comment_info None = Ok nothing
 comment_info (Some variable) = variable_info variable
@@ -80,13 +79,14 @@ abbrev pub text_info : Option (List ℕ) → Result DepInfo Problem
 text_info None = Err problem.NotText
 text_info (Some text) = if is_empty text then Ok nothing else full_line text
 
--- what a line names
+-- what a line names, or its fault
 abbrev pub line_info : List ℕ → Result DepInfo Problem
 line_info line = text_info (text_of (strip_carriage_return line))
 
 -- ---- a text
 
--- what the lines name, one after another, or the fault of the first line that has one; the first line has this number
+-- What the lines name, line by line, or the fault of the first line that has one. The first line of
+-- the list has this number.
 abbrev pub info_from : ℕ → List (List ℕ) → Result DepInfo LineFault
 info_from number [] = Ok nothing
 info_from number (line ∷ lines) =
@@ -98,23 +98,23 @@ info_from number (line ∷ lines) =
 abbrev pub each_once : DepInfo → DepInfo
 each_once info = record { words = once info.words; variables = once info.variables }
 
--- all names of a text, line by line
+-- all names in a text, line by line and with repeats
 abbrev pub all_names_of : List ℕ → Result DepInfo LineFault
 all_names_of bytes = info_from 1 (lines_of bytes)
 
--- what a text names
+-- what a text names, each name once, or its first fault
 abbrev pub dep_info_of : List ℕ → Result DepInfo LineFault
 dep_info_of bytes = all_names_of bytes >>= (λ info. Ok (each_once info))
 
--- the names with those that are named after them
+-- the old names, to which those that come after them are added
 abbrev pub with_info : DepInfo → DepInfo → DepInfo
 with_info old more = record { words = mentioned_all old.words more.words; variables = mentioned_all old.variables more.variables }
 
--- what was named has been added, unless memory ran out
+-- what a line names was added to the old names, unless memory ran out
 abbrev pub AddsInfo : {U : Type 0} → Result U Problem → DepInfo → DepInfo → Result DepInfo Problem → Type 0
 AddsInfo result old new answer = MatchResult result (λ _. (answer >>= (λ more. Ok (with_info old more))) ≡ Ok new) (λ e. e ≢ problem.OutOfMemory → answer ≡ Err e)
 
--- the parts with this text in front of the first
+-- the parts, with this text in front of the first part
 abbrev pub onto_part : List ℕ → List (List ℕ) → List (List ℕ)
 onto_part front [] = front ∷ []
 onto_part front (part ∷ parts) = (front ++ part) ∷ parts

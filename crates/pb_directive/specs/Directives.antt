@@ -1,4 +1,4 @@
--- What the output of a build script means (The Cargo Book, "Build Scripts", "Outputs of the Build Script").
+-- What a build script's output means (The Cargo Book, "Build Scripts", "Outputs of the Build Script").
 use Rattle.std.specs.Prelude.{◌≡◌, ◌≢◌, ℕ, ◌+◌, ◌==◌, not, Bool, List, [], ◌∷◌, ◌++◌, if◌then◌else◌, codes, length, filter, Option, Some, None, Result, Ok, Err, MatchResult}
 use Rattle.std.specs.List.{slice_split}
 use Rattle.std.specs.Str.{bytes_eq}
@@ -19,19 +19,19 @@ is_empty text = length text == 0
 
 -- ---- the forms of a value
 
--- a value without byte 0
+-- the value, which must not have byte 0
 abbrev pub plain : List ℕ → Result (List ℕ) Problem
 plain value = if has_byte 0 value then Err problem.BadValue else Ok value
 
--- a value without byte 0 that is not empty
+-- the value, which must not be empty or have byte 0
 abbrev pub filled : List ℕ → Result (List ℕ) Problem
 filled value = if is_empty value then Err problem.BadValue else plain value
 
--- the name of a variable: not empty, no `=`, no byte 0
+-- the name of a variable, which must not be empty or have `=` or byte 0
 abbrev pub variable : List ℕ → Result (List ℕ) Problem
 variable value = if has_byte 61 value then Err problem.BadValue else filled value
 
--- what comes before and after the first `=`
+-- what comes before and after the first `=` of a value, which must have `=` and no byte 0
 abbrev pub halves_of : Option (List ℕ × List ℕ) → Result (List ℕ × List ℕ) Problem
 halves_of None = Err problem.BadValue
 halves_of (Some halves) = Ok halves
@@ -39,21 +39,21 @@ halves_of (Some halves) = Ok halves
 abbrev pub halves : List ℕ → Result (List ℕ × List ℕ) Problem
 halves value = plain value >>= (λ text. halves_of (split_first equals text))
 
--- `NAME=VALUE`, with a name that is not empty
+-- the name and the value in `NAME=VALUE`; the name must not be empty
 abbrev pub named_value : List ℕ → Result (List ℕ × List ℕ) Problem
 named_value value = halves value >>= (λ p. if is_empty p.0 then Err problem.BadValue else Ok p)
 
 -- ---- the flags of `rustc-flags`
 
--- the words of a text: the parts between spaces that are not empty
+-- the words of a text: those parts between spaces that are not empty
 abbrev pub words_of : List ℕ → List (List ℕ)
 words_of text = filter (λ word. not (is_empty word)) (slice_split (λ b. b == space) text)
 
--- the words with one more in front, unless it is empty
+-- the words with one more word in front, unless this word is empty
 abbrev pub some_word : List ℕ → List (List ℕ) → List (List ℕ)
 some_word word words = if is_empty word then words else word ∷ words
 
--- the name, which is not empty, after a flag's letter
+-- the name that follows a flag's letter, if it is not empty
 abbrev pub flag_name : Option (List ℕ) → Option (List ℕ)
 flag_name None = None
 flag_name (Some name) = if is_empty name then None else Some name
@@ -66,11 +66,12 @@ abbrev pub library_flag : Option (List ℕ) → Result Directive Problem → Res
 library_flag None other = other
 library_flag (Some name) other = Ok (says.LinkLib name)
 
--- the flag `-lX` or `-LX` in one word
+-- the flag that one word `-lX` or `-LX` means
 abbrev pub flag_of : List ℕ → Result Directive Problem
 flag_of word = library_flag (flag_name (after_prefix (codes "-l") word)) (search_flag (flag_name (after_prefix (codes "-L") word)))
 
--- the flags of these words, in one word each, or `-l` and `-L` with their X in the next word
+-- The flags that these words mean. A flag is one word `-lX` or `-LX`, or it is `-l` or `-L` with
+-- its X in the next word.
 abbrev pub flags_of : List (List ℕ) → Result (List Directive) Problem
 flags_of [] = Ok []
 flags_of (word ∷ []) = flag_of word >>= (λ flag. Ok (flag ∷ []))
@@ -79,17 +80,17 @@ flags_of (word ∷ next ∷ words) =
     else (if bytes_eq word (codes "-L") then flags_of words >>= (λ more. Ok (says.LinkSearch next ∷ more))
     else flag_of word >>= (λ flag. flags_of (next ∷ words) >>= (λ more. Ok (flag ∷ more))))
 
--- the next word was taken as a name, unless memory ran out
+-- the next word was taken as a name, unless memory ran out; without a next word the flag is bad
 abbrev pub NextName : Result (List ℕ) Problem → List (List ℕ) → List (List ℕ) → Type 0
 NextName result old new = MatchResult result (λ name. old ≡ name ∷ new) (λ e. e ≢ problem.OutOfMemory → (e ≡ problem.BadFlag) × (old ≡ []))
 
--- the flag that begins with a word was taken, and these words are left, unless memory ran out
+-- the flag that begins with this word was taken, and the words of `new` are left, unless memory ran out
 abbrev pub TakesFlag : Result Directive Problem → List ℕ → List (List ℕ) → List (List ℕ) → Type 0
 TakesFlag result word old new = MatchResult result (λ flag. flags_of (word ∷ old) ≡ flags_of new >>= (λ more. Ok (flag ∷ more))) (λ e. e ≢ problem.OutOfMemory → flags_of (word ∷ old) ≡ Err e)
 
 -- ---- the table of keys
 
--- the keys after `cargo::` and after `cargo:`
+-- the key that a name spells both after `cargo::` and after `cargo:`, if there is one
 abbrev pub key_of : List ℕ → Option Key
 key_of name =
     if bytes_eq name (codes "rerun-if-changed") then Some key.RerunIfChanged
@@ -110,7 +111,7 @@ key_of name =
     else (if bytes_eq name (codes "warning") then Some key.Warning
     else None)))))))))))))))
 
--- the keys after `cargo::`
+-- the key that a name spells after `cargo::`, if there is one
 abbrev pub new_key_of : List ℕ → Option Key
 new_key_of name =
     if bytes_eq name (codes "metadata") then Some key.Metadata
@@ -120,7 +121,7 @@ new_key_of name =
 abbrev pub one : Directive → Result (List Directive) Problem
 one directive = Ok (directive ∷ [])
 
--- the directives of a key with a value
+-- the directives that a key with a value means
 abbrev pub directives_at : Key → List ℕ → Result (List Directive) Problem
 directives_at key.RerunIfChanged value = filled value >>= (λ path. one (says.RerunIfChanged path))
 directives_at key.RerunIfEnvChanged value = variable value >>= (λ name. one (says.RerunIfEnvChanged name))
@@ -143,7 +144,7 @@ directives_at key.Error value = one (says.Error value)
 
 -- ---- a line
 
--- after `cargo::` a key must be known
+-- the directives of a key after `cargo::`, which must be a known key
 abbrev pub known : Option Key → List ℕ → Result (List Directive) Problem
 known None value = Err problem.UnknownKey
 known (Some k) value = directives_at k value
@@ -155,7 +156,7 @@ new_setting (Some p) = known (new_key_of p.0) p.1
 abbrev pub metadata : List ℕ → List ℕ → Result Directive Problem
 metadata name value = filled name >>= (λ k. plain value >>= (λ v. Ok (says.Metadata k v)))
 
--- after `cargo:` a key that is not in the table is metadata
+-- the directives of a key after `cargo:`; a key that is not in the table is metadata
 abbrev pub or_metadata : Option Key → List ℕ → List ℕ → Result (List Directive) Problem
 or_metadata None name value = metadata name value >>= one
 or_metadata (Some k) name value = directives_at k value
@@ -176,13 +177,14 @@ abbrev pub text_directives : Option (List ℕ) → Result (List Directive) Probl
 text_directives None = Ok []
 text_directives (Some text) = new_line (after_prefix (codes "cargo::") text) text
 
--- the directives of a line
+-- the directives that a line means, or its fault
 abbrev pub line_directives : List ℕ → Result (List Directive) Problem
 line_directives line = text_directives (text_of (trimmed line))
 
 -- ---- a text
 
--- the directives of these lines, in order, or the fault of the first line that has one; the first line has this number
+-- The directives of these lines, in order, or the fault of the first line that has one. The first
+-- line of the list has this number.
 abbrev pub directives_from : ℕ → List (List ℕ) → Result (List Directive) LineFault
 directives_from number [] = Ok []
 directives_from number (line ∷ lines) =
@@ -190,10 +192,10 @@ directives_from number (line ∷ lines) =
     directives_from (number + 1) lines >>= (λ more.
     Ok (here ++ more)))
 
--- the directives of a text
+-- the directives that a text means, or its first fault
 abbrev pub directives_of : List ℕ → Result (List Directive) LineFault
 directives_of bytes = directives_from 1 (lines_of bytes)
 
--- the directives have been added at the end, unless memory ran out
+-- the directives of a line were added at the end, unless memory ran out
 abbrev pub Adds : {U : Type 0} → Result U Problem → List Directive → List Directive → Result (List Directive) Problem → Type 0
 Adds result old new answer = MatchResult result (λ _. (answer >>= (λ more. Ok (old ++ more))) ≡ Ok new) (λ e. e ≢ problem.OutOfMemory → answer ≡ Err e)

@@ -1,4 +1,4 @@
--- What can be wrong with a line, and with a text.
+-- Which faults a line may have, and which faults a text may have.
 use Rattle.std.specs.Prelude.{ℕ, Result}
 use Rattle.pb_data.specs.UnlessOom.{UnlessOom as GivesUnless}
 use Rattle.pb_directive.specs.declared.fault.Problem.{Problem}
@@ -6,7 +6,7 @@ use Rattle.pb_directive.specs.declared.fault.Problem.TheVariants as problem
 use Rattle.pb_directive.specs.declared.fault.LineFault.{LineFault}
 use Rattle.pb_directive.specs.declared.fault.LineFault.TheVariants as fault
 
--- the problem with the number of its line
+-- the fault of a text for a line's problem and the line's number
 abbrev pub fault_at : ℕ → Problem → LineFault
 fault_at line problem.NotText = fault.NotText line
 fault_at line problem.UnknownKey = fault.UnknownKey line
@@ -14,10 +14,10 @@ fault_at line problem.BadValue = fault.BadValue line
 fault_at line problem.BadFlag = fault.BadFlag line
 fault_at line problem.OutOfMemory = fault.OutOfMemory
 
--- the result is the line's answer, unless memory ran out
+-- the result is exactly the line's answer, unless memory ran out
 abbrev pub LineGives : {T : Type 0} → Result T Problem → Result T Problem → Type 0
 LineGives result answer = GivesUnless problem.OutOfMemory (λ x. x) result answer
 
--- the result is the text's answer, unless memory ran out
+-- the result is exactly the text's answer, unless memory ran out
 abbrev pub TextGives : {T : Type 0} → Result T LineFault → Result T LineFault → Type 0
 TextGives result answer = GivesUnless fault.OutOfMemory (λ x. x) result answer

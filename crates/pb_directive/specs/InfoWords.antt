@@ -1,5 +1,5 @@
--- What a line of dep-info names, in words that do not follow
--- the code (The Cargo Book, "Build Cache", "Dep-Info Files").
+-- What a line of dep-info names, defined without following the code (The Cargo Book, "Build Cache",
+-- "Dep-Info Files").
 use Rattle.std.specs.Prelude.{◌≡◌, ◌≢◌, ◌↔◌, ℕ, true, false, codes, List, [], ◌∷◌, ◌++◌, Some, Result, Ok, Err}
 use Rattle.std.specs.Str.{is_utf8}
 use Rattle.std.specs.Str.Lines.{strip_carriage_return}
@@ -10,14 +10,14 @@ use Rattle.pb_directive.specs.declared.dep_info.DepInfo.{DepInfo}
 use Rattle.pb_directive.specs.declared.fault.Problem.{Problem}
 use Rattle.pb_directive.specs.declared.fault.Problem.TheVariants as problem
 
--- a text is empty, or is `=` and a value
+-- the text is empty, or it is `=` and a value
 abbrev pub IsValue : List ℕ → Type 0
 IsValue [] = Unit {0}
 IsValue (b ∷ value) = b ≡ 61
 
--- what a line without its carriage return names:
--- an empty line names nothing; `# env-dep:NAME` or `# env-dep:NAME=VALUE` a variable; any other line with `#` nothing;
--- a rule names the words after its outputs, which contain no byte 0
+-- What a line without its carriage return names. An empty line names nothing. The line `#
+-- env-dep:NAME` or `# env-dep:NAME=VALUE` names a variable. Any other line with `#` names nothing.
+-- A rule names the words after its outputs, which must have no byte 0.
 pub data IsInfo (text : List ℕ) : Result DepInfo Problem → Type 0 where
   raw : (is : is_utf8 text ≡ false) → IsInfo text (Err problem.NotText)
   empty : (is : text ≡ []) → IsInfo text (Ok nothing)
@@ -27,6 +27,6 @@ pub data IsInfo (text : List ℕ) : Result DepInfo Problem → Type 0 where
   rule : (utf8 : is_utf8 text ≡ true) (some : text ≢ []) (no_comment : (rest : List ℕ) → text ≢ hash ∷ rest) (rest : List ℕ) (behind : after_outputs text ≡ Some rest) (plain : IsPlain rest) → IsInfo text (Ok record { words = rule_words rest; variables = [] })
   rule_refused : (utf8 : is_utf8 text ≡ true) (some : text ≢ []) (no_comment : (rest : List ℕ) → text ≢ hash ∷ rest) (none : (rest : List ℕ) → after_outputs text ≡ Some rest → IsPlain rest → ⊥) → IsInfo text (Err problem.BadValue)
 
--- the reader reads this from a line if and only if the line names it
+-- the reader returns this for a line if and only if it is what the line names
 abbrev pub InfosSay : Type 0
 InfosSay = (line : List ℕ) (answer : Result DepInfo Problem) → (line_info line ≡ answer) ↔ IsInfo (strip_carriage_return line) answer

@@ -1,4 +1,4 @@
--- Words for the laws of texts that follow one another.
+-- Words for laws about texts that follow one another.
 use Rattle.std.specs.Prelude.{ℕ, ◌+◌, List, ◌∷◌, ◌++◌, length, Result, Ok}
 use Rattle.pb_data.specs.Ascii.{line_feed}
 use Rattle.pb_data.specs.UnlessOom.{◌>>=◌, lifted}
@@ -9,7 +9,7 @@ use Rattle.pb_directive.specs.declared.directive.Directive.{Directive}
 use Rattle.pb_directive.specs.declared.fault.LineFault.{LineFault}
 use Rattle.pb_directive.specs.declared.fault.LineFault.TheVariants as fault
 
--- the fault, n lines further down
+-- the same fault, in a line that comes n lines later
 abbrev pub later_by : ℕ → LineFault → LineFault
 later_by lines (fault.NotText number) = fault.NotText (lines + number)
 later_by lines (fault.UnknownKey number) = fault.UnknownKey (lines + number)
@@ -21,15 +21,16 @@ later_by lines fault.OutOfMemory = fault.OutOfMemory
 abbrev pub followed_by : List ℕ → List ℕ → List ℕ
 followed_by text more = text ++ line_feed ∷ more
 
--- the directives of the first text and then those of the second; or the first fault. The line
--- number of a fault of the second text also counts the lines of the first.
+-- The directives of the first text, followed by those of the second, or the first fault. For a
+-- fault of the second text, the line's number also counts the lines of the first.
 abbrev pub then_said : ℕ → Result (List Directive) LineFault → Result (List Directive) LineFault → Result (List Directive) LineFault
 then_said lines first second = first >>= (λ said. lifted (later_by lines) second >>= (λ more. Ok (said ++ more)))
 
--- the same for names
+-- The names of the first text, followed by those of the second, or the first fault. Lines are
+-- numbered as in `then_said`.
 abbrev pub then_named : ℕ → Result DepInfo LineFault → Result DepInfo LineFault → Result DepInfo LineFault
 then_named lines first second = first >>= (λ named. lifted (later_by lines) second >>= (λ more. Ok (joined named more)))
 
--- how many lines a text has
+-- the number of lines of a text
 abbrev pub line_count : List ℕ → ℕ
 line_count text = length (lines_of text)

@@ -1,5 +1,5 @@
--- What a line of a build script's output means, key by key, in words that do not
--- follow the code (The Cargo Book, "Build Scripts", "Outputs of the Build Script").
+-- What a line of a build script's output means, key by key. The definitions do not follow the code
+-- (The Cargo Book, "Build Scripts", "Outputs of the Build Script").
 use Rattle.std.specs.Prelude.{◌≡◌, ◌≢◌, ◌↔◌, ℕ, true, false, not, ◌&&◌, if◌then◌else◌, codes, List, [], ◌∷◌, ◌++◌, Result, Ok, Err}
 use Rattle.std.specs.Str.{bytes_eq, is_utf8}
 use Rattle.pb_data.specs.Ascii.{colon, equals}
@@ -10,7 +10,8 @@ use Rattle.pb_directive.specs.declared.directive.Directive.TheVariants as says
 use Rattle.pb_directive.specs.declared.fault.Problem.{Problem}
 use Rattle.pb_directive.specs.declared.fault.Problem.TheVariants as problem
 
--- a text is plain if it has no byte 0, filled if it is also not empty, and uncut if it has no `=`
+-- A text is plain if it has no byte 0. A text is filled if it is plain and not empty. A text is
+-- uncut if it has no `=`.
 abbrev pub IsPlain : List ℕ → Type 0
 IsPlain text = has_byte 0 text ≡ false
 
@@ -20,7 +21,7 @@ IsFilled text = (text ≢ []) × IsPlain text
 abbrev pub IsUncut : List ℕ → Type 0
 IsUncut text = has_byte 61 text ≡ false
 
--- words are flags of `rustc-flags`: `-lX` or `-LX` in one word, or in two
+-- These words mean these flags of `rustc-flags`. A flag is one word `-lX` or `-LX`, or two words.
 pub data AreFlags : List (List ℕ) → List Directive → Type 0 where
   none : AreFlags [] []
   library : (name : List ℕ) (some : name ≢ []) (words : List (List ℕ)) (more : List Directive) (behind : AreFlags words more) → AreFlags ((codes "-l" ++ name) ∷ words) (says.LinkLib name ∷ more)
@@ -28,7 +29,7 @@ pub data AreFlags : List (List ℕ) → List Directive → Type 0 where
   library_next : (name : List ℕ) (words : List (List ℕ)) (more : List Directive) (behind : AreFlags words more) → AreFlags (codes "-l" ∷ name ∷ words) (says.LinkLib name ∷ more)
   search_next : (name : List ℕ) (words : List (List ℕ)) (more : List Directive) (behind : AreFlags words more) → AreFlags (codes "-L" ∷ name ∷ words) (says.LinkSearch name ∷ more)
 
--- a key with a value means these directives
+-- a key with this value means these directives, both after `cargo::` and after `cargo:`
 pub data IsSaid : List ℕ → List ℕ → List Directive → Type 0 where
   rerun_if_changed : (path : List ℕ) (is : IsFilled path) → IsSaid (codes "rerun-if-changed") path (says.RerunIfChanged path ∷ [])
   rerun_if_env_changed : (name : List ℕ) (is : IsFilled name) (whole : IsUncut name) → IsSaid (codes "rerun-if-env-changed") name (says.RerunIfEnvChanged name ∷ [])
@@ -47,37 +48,39 @@ pub data IsSaid : List ℕ → List ℕ → List Directive → Type 0 where
   env : (name value : List ℕ) (some : name ≢ []) (whole : IsUncut name) (is : IsPlain (name ++ equals ∷ value)) → IsSaid (codes "rustc-env") (name ++ equals ∷ value) (says.Env name value ∷ [])
   warning : (text : List ℕ) → IsSaid (codes "warning") text (says.Warning text ∷ [])
 
--- the same after `cargo::`, which also has the keys `metadata` and `error`
+-- A key with this value means these directives after `cargo::`. There the keys `metadata` and
+-- `error` have a meaning, too.
 pub data IsSaidNew (key value : List ℕ) (said : List Directive) : Type 0 where
   known : (is : IsSaid key value said) → IsSaidNew key value said
   metadata : (is_key : key ≡ codes "metadata") (name text : List ℕ) (some : name ≢ []) (whole : IsUncut name) (is : IsPlain value) (parts : value ≡ name ++ equals ∷ text) (same : said ≡ says.Metadata name text ∷ []) → IsSaidNew key value said
   error : (is_key : key ≡ codes "error") (same : said ≡ says.Error value ∷ []) → IsSaidNew key value said
 
--- a key has no meaning, whatever its value is
+-- the key has no meaning, whatever its value is
 abbrev pub IsUnknown : (List ℕ → List ℕ → List Directive → Type 0) → List ℕ → Type 0
 IsUnknown Says key = (value : List ℕ) (said : List Directive) → Says key value said → ⊥
 
--- the same after `cargo:`, after which any other key is metadata
+-- A key with this value means these directives after `cargo:`. There a key without another meaning is metadata.
 pub data IsSaidOld (key value : List ℕ) (said : List Directive) : Type 0 where
   known : (is : IsSaid key value said) → IsSaidOld key value said
   metadata : (other : IsUnknown IsSaid key) (is : IsFilled key) (plain : IsPlain value) (same : said ≡ says.Metadata key value ∷ []) → IsSaidOld key value said
 
--- a key after `cargo:` does not begin with `:`
+-- the key does not begin with `:`, so that it is a key after `cargo:` and not after `cargo::`
 abbrev pub IsOld : List ℕ → Type 0
 IsOld key = (rest : List ℕ) → key ≢ colon ∷ rest
 
--- what is wrong with a value that its key does not accept
+-- the fault of a value that its key does not accept
 abbrev pub problem_at : List ℕ → List ℕ → Problem
 problem_at key value = if bytes_eq key (codes "rustc-flags") && not (has_byte 0 value) then problem.BadFlag else problem.BadValue
 
--- a line, without the blanks at its ends, is UTF-8 and is a prefix, a key, the first `=` after the prefix, and a value
+-- Without the blanks at its ends, the line is UTF-8. The line consists of this prefix, this key,
+-- `=` and this value. The key has no `=`.
 pub record IsSetting (line prefix key value : List ℕ) : Type 0 where
   pub text : is_utf8 (trimmed line) ≡ true
   pub whole : trimmed line ≡ prefix ++ key ++ equals ∷ value
   pub first : IsUncut key
 
--- what a line means: a line `cargo::KEY=VALUE` or `cargo:KEY=VALUE` means what its key means; a
--- line with `cargo::` must have a value; any other line means nothing
+-- What a line means. The line `cargo::KEY=VALUE` or `cargo:KEY=VALUE` means what its key means. A
+-- line with `cargo::` must have `=` and a value. Any other line means nothing.
 pub data IsLine (line : List ℕ) : Result (List Directive) Problem → Type 0 where
   new : (key value : List ℕ) (said : List Directive) (at : IsSetting line (codes "cargo::") key value) (is : IsSaidNew key value said) → IsLine line (Ok said)
   new_unknown : (key value : List ℕ) (at : IsSetting line (codes "cargo::") key value) (unknown : IsUnknown IsSaidNew key) → IsLine line (Err problem.UnknownKey)
@@ -87,6 +90,6 @@ pub data IsLine (line : List ℕ) : Result (List Directive) Problem → Type 0 w
   old_refused : (key value : List ℕ) (at : IsSetting line (codes "cargo:") key value) (is_old : IsOld key) (unsaid : (said : List Directive) → IsSaidOld key value said → ⊥) → IsLine line (Err (problem_at key value))
   silent : (no_new : (setting : List ℕ) → is_utf8 (trimmed line) ≡ true → trimmed line ≡ codes "cargo::" ++ setting → ⊥) (no_old : (key value : List ℕ) → IsSetting line (codes "cargo:") key value → ⊥) → IsLine line (Ok [])
 
--- the reader reads this from a line if and only if the line means it
+-- the reader returns this for a line if and only if it is what the line means
 abbrev pub LinesSay : Type 0
 LinesSay = (line : List ℕ) (answer : Result (List Directive) Problem) → (line_directives line ≡ answer) ↔ IsLine line answer

@@ -1,4 +1,5 @@
--- Whether a requested text is a feature of a package; only private functions need these definitions.
+-- How it is decided if a requested text is a feature of a package. Only private functions need
+-- these definitions.
 use Rattle.std.specs.Prelude.{◌≡◌, ℕ, Bool, false, List, Option, Some, None, Contains, slice_get}
 use Rattle.std.specs.List.{list_any}
 use Rattle.pb_manifest_types.specs.declared.feature.Feature.{Feature}
@@ -19,7 +20,7 @@ is_owner_at ps text p = owner_is (slice_get ps p) text
 abbrev pub is_answered : List Package → List ℕ → List ℕ → Bool
 is_answered ps places text = list_any (is_owner_at ps text) places
 
--- a requested text is a feature of no selected package
+-- a requested text is a feature of none of the selected packages
 pub record IsUnanswered (ps : List Package) (selection : Selection) : Type 0 where
   pub text : List ℕ
   pub asked : Contains selection.features text

@@ -1,4 +1,5 @@
--- The first fault of the packages looked at so far; only private functions need these definitions.
+-- The first fault among the packages that have been looked at so far. Only private functions need
+-- these definitions.
 use Rattle.std.specs.Prelude.{◌≡◌, ℕ, ◌<◌, Bool, true, false, List, Option, Some, None, slice_get, if◌then◌else◌}
 use Rattle.std.specs.Ordering.{nat_cmp, is_lt}
 use Rattle.std.specs.Cmp.Lexicographic.{slice_cmp}
@@ -7,11 +8,11 @@ use Rattle.pb_feature.specs.declared.fault.FeatureFault.{FeatureFault}
 use Rattle.pb_feature.specs.declared.checks.First.{First}
 use Rattle.pb_feature.specs.Faults.{package_fault}
 
--- the name of the first package is less
+-- the name of `p` is less than the name of `q` in byte order
 abbrev pub is_lesser : Package → Package → Bool
 is_lesser p q = is_lt (slice_cmp nat_cmp p.name q.name)
 
--- the package at this index has this fault, and no package of a lesser name among the first n has one
+-- The package at this index has this fault. Of the first n packages, none with a lesser name has a fault.
 pub record IsFirstBelow (ps : List Package) (n index : ℕ) (fault : FeatureFault) : Type 0 where
   pub owner : Package
   pub package_at : slice_get ps index ≡ Some owner
@@ -22,7 +23,8 @@ abbrev pub IsSofar : List Package → ℕ → Option First → Type 0
 IsSofar ps n None = (q : ℕ) (other : Package) → q < n → slice_get ps q ≡ Some other → package_fault other ≡ None
 IsSofar ps n (Some first) = IsFirstBelow ps n first.place first.fault
 
--- the package at an index has a lesser name than the one that was found; this is true if none was found
+-- The package at an index has a lesser name than the package with the first fault so far. This is
+-- also true if there is no fault so far.
 abbrev pub lesser_of : Option Package → Option Package → Bool
 lesser_of None w = false
 lesser_of (Some p) None = false
@@ -32,7 +34,7 @@ abbrev pub is_lesser_at : List Package → ℕ → Option First → Bool
 is_lesser_at ps n None = true
 is_lesser_at ps n (Some first) = lesser_of (slice_get ps n) (slice_get ps first.place)
 
--- what has been found after one more package
+-- the first fault, updated for the fault of one more package
 abbrev pub picked : Option FeatureFault → Option First → Bool → ℕ → Option First
 picked None first lesser n = first
 picked (Some fault) None lesser n = Some (record { place = n; fault = fault })

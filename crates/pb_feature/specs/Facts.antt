@@ -1,4 +1,5 @@
--- Which packages, features and entries are on: the least set of facts closed under the rules of The Cargo Book, Features (resolver 2).
+-- Which packages, features and entries are on. This is the least set of facts that is closed under
+-- the rules of The Cargo Book, Features (resolver 2).
 use Rattle.std.specs.Prelude.{◌≡◌, ℕ, true, false, codes, List, ◌∷◌, ◌++◌, Contains}
 use Rattle.pb_data.specs.Ascii.{slash}
 use Rattle.pb_manifest_types.specs.declared.feature.FeatureItem.TheVariants.{Own, Dependency, Of, OfEnabled}
@@ -9,8 +10,9 @@ use Rattle.pb_workspace_types.specs.declared.options.Selection.{Selection}
 use Rattle.pb_workspace_types.specs.declared.workspace.Workspace.{Workspace}
 use Rattle.pb_workspace_types.specs.Workspace.{side_of, HasEntry, ListsItem, HasFeature}
 
--- a package, known by its index, is on at a side; it has a feature there; its entry
--- of an index is enabled there; a feature is requested of the package of that entry
+-- A fact about the package with the index `p` on a side. The package is on, or has this feature.
+-- The package's entry with this index is enabled, or this feature is requested of the package to
+-- which the entry leads.
 pub data Fact : Type 0 where
   On : (p : ℕ) (s : Side) → Fact
   Has : (p : ℕ) (s : Side) (feature : List ℕ) → Fact
@@ -21,8 +23,9 @@ pub data Fact : Type 0 where
 abbrev pub of_package : List ℕ → List ℕ → List ℕ
 of_package name feature = name ++ slash ∷ feature
 
--- what is chosen for a package among its features: all of them; a feature
--- requested by its name; one requested of this package; `default`
+-- The package has this feature, and the feature is chosen. A feature is chosen if all features are
+-- requested, or this feature by its name, or this feature of this package. `default` is also
+-- chosen, unless `--no-default-features` is given.
 pub data IsChosen (ws : Workspace) (selection : Selection) (p : ℕ) : List ℕ → Type 0 where
   all : (feature : List ℕ) (asked : selection.all_features ≡ true) (there : HasFeature ws p feature) → IsChosen ws selection p feature
   asked : (feature : List ℕ) (is : Contains selection.features feature) (there : HasFeature ws p feature) → IsChosen ws selection p feature
@@ -30,25 +33,27 @@ pub data IsChosen (ws : Workspace) (selection : Selection) (p : ℕ) : List ℕ 
   default : (kept : selection.no_default_features ≡ false) (there : HasFeature ws p (codes "default")) → IsChosen ws selection p (codes "default")
 
 pub data Holds (ws : Workspace) (selection : Selection) : Fact → Type 0 where
-  -- a selected package is on at the target, with what is chosen for it
+  -- a selected package is on for the target, and has there the features that are chosen for it
   selected : (p : ℕ) (is : Contains selection.packages p) → Holds ws selection (On p Target)
   chosen : (p : ℕ) (feature : List ℕ) (is : Contains selection.packages p) (chosen : IsChosen ws selection p feature) → Holds ws selection (Has p Target feature)
-  -- a package that is on enables its entries that are not optional
+  -- if a package is on, its entries that are not optional are enabled
   required : (p : ℕ) (s : Side) (n : ℕ) (e : Entry) (on : Holds ws selection (On p s)) (has : HasEntry ws p n e) (needed : e.optional ≡ false) → Holds ws selection (Enabled p s n)
-  -- a feature turns on the features that it lists
+  -- if a package has a feature, it also has the features of its own that this feature lists
   listed : (p : ℕ) (s : Side) (f g : List ℕ) (on : Holds ws selection (Has p s f)) (lists : ListsItem ws p f (Own g)) → Holds ws selection (Has p s g)
-  -- `dep:N` enables the entries N; the implicit feature N lists it
+  -- The item `dep:N` of a feature enables the entries N. The feature that an optional entry makes
+  -- has this item.
   named : (p : ℕ) (s : Side) (f : List ℕ) (n : ℕ) (e : Entry) (on : Holds ws selection (Has p s f)) (lists : ListsItem ws p f (Dependency e.key)) (has : HasEntry ws p n e) → Holds ws selection (Enabled p s n)
-  -- `N/F` enables the entries N and requests the feature F of them; it also turns on the feature N,
-  -- if there is one and an entry N is optional
+  -- The item `N/F` of a feature enables the entries N and requests the feature F of their packages.
+  -- If an entry N is optional and there is a feature N, the package also has the feature N.
   of_enables : (p : ℕ) (s : Side) (f g : List ℕ) (n : ℕ) (e : Entry) (on : Holds ws selection (Has p s f)) (lists : ListsItem ws p f (Of e.key g)) (has : HasEntry ws p n e) → Holds ws selection (Enabled p s n)
   of_asks : (p : ℕ) (s : Side) (f g : List ℕ) (n : ℕ) (e : Entry) (on : Holds ws selection (Has p s f)) (lists : ListsItem ws p f (Of e.key g)) (has : HasEntry ws p n e) → Holds ws selection (Asked p s n g)
   of_gives : (p : ℕ) (s : Side) (f g : List ℕ) (n : ℕ) (e : Entry) (on : Holds ws selection (Has p s f)) (lists : ListsItem ws p f (Of e.key g)) (has : HasEntry ws p n e) (is_optional : e.optional ≡ true) (there : HasFeature ws p e.key) → Holds ws selection (Has p s e.key)
-  -- `N?/F` requests F of the entries N that are enabled
+  -- the item `N?/F` of a feature requests the feature F of the packages of those entries N that are enabled
   of_enabled : (p : ℕ) (s : Side) (f g : List ℕ) (n : ℕ) (e : Entry) (on : Holds ws selection (Has p s f)) (lists : ListsItem ws p f (OfEnabled e.key g)) (has : HasEntry ws p n e) (enabled : Holds ws selection (Enabled p s n)) → Holds ws selection (Asked p s n g)
-  -- an enabled entry turns its package on, at this side or, for a build entry, at the host; the
-  -- package gets the listed and the requested features and, unless the entry says otherwise,
-  -- `default` if it exists
+  -- If an entry is enabled, the package to which it leads is on. A build entry leads to the host's
+  -- side, any other entry to the same side. The package has the features that the entry lists, and
+  -- those that are requested of it. The package also has `default`, if there is such a feature,
+  -- unless the entry says otherwise.
   leads : (p : ℕ) (s : Side) (n : ℕ) (e : Entry) (enabled : Holds ws selection (Enabled p s n)) (has : HasEntry ws p n e) → Holds ws selection (On e.to (side_of e.kind s))
   with_listed : (p : ℕ) (s : Side) (n : ℕ) (e : Entry) (f : List ℕ) (enabled : Holds ws selection (Enabled p s n)) (has : HasEntry ws p n e) (is : Contains e.features f) → Holds ws selection (Has e.to (side_of e.kind s) f)
   with_asked : (p : ℕ) (s : Side) (n : ℕ) (e : Entry) (f : List ℕ) (enabled : Holds ws selection (Enabled p s n)) (asked : Holds ws selection (Asked p s n f)) (has : HasEntry ws p n e) → Holds ws selection (Has e.to (side_of e.kind s) f)

@@ -1,4 +1,4 @@
--- Why no features are resolved (The Cargo Book, Features): what an item names must exist.
+-- Why no features are resolved (The Cargo Book, Features). Whatever an item names must exist.
 use Rattle.std.specs.Prelude.{◌≡◌, ℕ, Bool, true, List, [], ◌∷◌, Contains, Option, Some, None, ◌&&◌, if◌then◌else◌, slice_get}
 use Rattle.std.specs.List.{list_any}
 use Rattle.std.specs.Option.{option_or}
@@ -18,23 +18,23 @@ use Rattle.pb_feature.specs.declared.fault.FeatureFault.{FeatureFault}
 use Rattle.pb_feature.specs.declared.fault.FeatureFault.TheVariants.{NoSuchFeature, NoSuchDependency, NotOptional}
 use Rattle.pb_feature.specs.Facts.{Has, Holds, of_package}
 
--- an entry has this name, in either table; one that has it is optional
+-- Some entry, in either table, has this name. `is_optional_entry` says that some optional entry has it.
 abbrev pub is_entry : Package → List ℕ → Bool
 is_entry p name = list_any (λ (e : Entry). bytes_eq name e.key) p.entries
 
 abbrev pub is_optional_entry : Package → List ℕ → Bool
 is_optional_entry p name = list_any (λ (e : Entry). bytes_eq name e.key && e.optional) p.entries
 
--- the fault of a name without an entry: none if `[dev-dependencies]`
--- has the name, else that there is no such dependency
+-- The fault of a name that no entry has. If `[dev-dependencies]` has the name, there is no fault;
+-- otherwise there is no such dependency.
 abbrev pub absent_fault : Package → List ℕ → Option FeatureFault
 absent_fault p name = if list_any (bytes_eq name) p.development then None else Some NoSuchDependency
 
--- the fault of an item that names an entry
+-- the fault of an item that names an entry, if it has one
 abbrev pub entry_fault : Package → List ℕ → Option FeatureFault
 entry_fault p name = if is_entry p name then None else absent_fault p name
 
--- the fault of an item that names an entry which must be optional
+-- the fault of an item that must name an optional entry, if it has one
 abbrev pub optional_fault : Package → List ℕ → Option FeatureFault
 optional_fault p name = if is_entry p name then (if is_optional_entry p name then None else Some NotOptional) else absent_fault p name
 
@@ -45,7 +45,8 @@ item_fault p (Dependency name) = optional_fault p name
 item_fault p (Of name feature) = entry_fault p name
 item_fault p (OfEnabled name feature) = optional_fault p name
 
--- the first fault: of items in written order, and of features in byte order
+-- The first fault of a list of items, in written order. `features_fault` is the first fault of a
+-- list of features, in byte order.
 abbrev pub items_fault : Package → List FeatureItem → Option FeatureFault
 items_fault p [] = None
 items_fault p (item ∷ items) = option_or (item_fault p item) (items_fault p items)
@@ -57,7 +58,7 @@ features_fault p (feature ∷ features) = option_or (items_fault p feature.items
 abbrev pub package_fault : Package → Option FeatureFault
 package_fault p = features_fault p p.features
 
--- the fault of a package with a wrong item, if no package of a lesser name has one
+-- a package has an item with this fault, and no package with a lesser name has an item with a fault
 pub record IsFirstFault (ws : Workspace) (fault : FeatureFault) : Type 0 where
   pub place : ℕ
   pub owner : Package
@@ -69,12 +70,12 @@ pub record IsFirstFault (ws : Workspace) (fault : FeatureFault) : Type 0 where
 abbrev pub ItemsAreRight : Workspace → Type 0
 ItemsAreRight ws = (index : ℕ) (owner : Package) → slice_get ws.packages index ≡ Some owner → package_fault owner ≡ None
 
--- a requested feature is one of a selected package
+-- some selected package has the requested feature
 pub data IsAnswered (ws : Workspace) (selection : Selection) (text : List ℕ) : Type 0 where
   by_name : (p : ℕ) (selected : Contains selection.packages p) (there : HasFeature ws p text) → IsAnswered ws selection text
   by_package : (p : ℕ) (feature : List ℕ) (selected : Contains selection.packages p) (there : HasFeature ws p feature) (is : text ≡ of_package there.owner.name feature) → IsAnswered ws selection text
 
--- a feature is on for a package that does not have it
+-- a package does not have this feature, although the feature is on for it
 pub record IsMissing (ws : Workspace) (selection : Selection) : Type 0 where
   pub place : ℕ
   pub side : Side
@@ -82,8 +83,8 @@ pub record IsMissing (ws : Workspace) (selection : Selection) : Type 0 where
   pub holds : Holds ws selection (Has place side feature)
   pub missing : HasFeature ws place feature → ⊥
 
--- why nothing is resolved; the first of these counts: an item has a fault; no selected package has
--- a requested feature; a feature is requested of a package that has no feature of that name
+-- Why no features are resolved. The first of these reasons counts. An item has a fault; no selected
+-- package has a requested feature; a feature that is on for a package does not exist there.
 pub data Refuses (ws : Workspace) (selection : Selection) : FeatureFault → Type 0 where
   by_item : (fault : FeatureFault) (first : IsFirstFault ws fault) → Refuses ws selection fault
   by_asked : (right : ItemsAreRight ws) (text : List ℕ) (asked : Contains selection.features text) (none : IsAnswered ws selection text → ⊥) → Refuses ws selection NoSuchFeature

@@ -1,4 +1,4 @@
--- The resolved features as they are made from marked numbers; only private functions need these definitions.
+-- How the resolved features are made from marked numbers. Only private functions need these definitions.
 use Rattle.std.specs.Prelude.{◌≡◌, ℕ, ◌+◌, ◌<◌, Bool, true, false, List, [], ◌∷◌, length, if◌then◌else◌}
 use Rattle.pb_manifest_types.specs.declared.feature.Feature.{Feature}
 use Rattle.pb_workspace_types.specs.declared.package.Side.{Side}
@@ -11,11 +11,11 @@ use Rattle.pb_feature_types.specs.declared.features.Part.{Part}
 use Rattle.pb_feature_types.specs.declared.features.Sides.{Sides}
 use Rattle.pb_feature.specs.Numbers.{on, has, enabled}
 
--- the name of a feature, if it is marked
+-- the name of a feature if its number is marked, and no name otherwise
 abbrev pub marked_name : List Bool → List ℕ → ℕ → Side → ℕ → Feature → List (List ℕ)
 marked_name marks bs p s i f = if is_on marks (has bs p s (i + 1)) then f.name ∷ [] else []
 
--- whether an entry is marked
+-- says whether the number of an entry is marked
 abbrev pub marked_entry : List Bool → List ℕ → ℕ → Side → ℕ → ℕ → Entry → List Bool
 marked_entry marks bs p s features n e = is_on marks (enabled bs p s features n) ∷ []
 
@@ -29,13 +29,13 @@ marked_part marks bs p s owner = record {
 abbrev pub marked_sides : List Bool → List ℕ → ℕ → Package → List Sides
 marked_sides marks bs p owner = (record { target = marked_part marks bs p Target owner; host = marked_part marks bs p Host owner }) ∷ []
 
--- one of the first `count` packages is given a feature that it does not have
+-- among the first `count` packages there is a package for which a feature that it does not have is marked
 pub record IsMarkedMissing (marks : List Bool) (bs : List ℕ) (count : ℕ) : Type 0 where
   pub place : ℕ
   pub side : Side
   pub below : place < count
   pub marked : is_on marks (has bs place side 0) ≡ true
 
--- none of the first `count` packages is
+-- for none of the first `count` packages a feature that it does not have is marked
 abbrev pub NoneMarkedMissing : List Bool → List ℕ → ℕ → Type 0
 NoneMarkedMissing marks bs count = (p : ℕ) → p < count → (is_on marks (has bs p Target 0) ≡ false) × (is_on marks (has bs p Host 0) ≡ false)

@@ -1,6 +1,7 @@
--- The numbers of what can be true, for the rules as they are written down; only private functions need
--- these definitions. A package has a row of numbers: it is on; it is given a feature that it does not
--- have; each of its features; each of its entries. Each number comes twice, once for each side.
+-- Numbers for all facts that may be true, as the rules on numbers use them. Only private functions
+-- need these definitions. A package has a row of numbers. The first number means that the package
+-- is on. The second means that a feature which it does not have is on. Then each of its features
+-- and each of its entries has a number. Each number comes twice, once for each side.
 use Rattle.std.specs.Prelude.{ℕ, zero, suc, ◌+◌, ◌*◌, List, [], ◌∷◌, Option, Some, None, length, slice_get, slice_index_or, if◌then◌else◌}
 use Rattle.std.specs.Str.{bytes_eq}
 use Rattle.pb_manifest_types.specs.declared.feature.Feature.{Feature}
@@ -12,7 +13,7 @@ use Rattle.pb_workspace_types.specs.declared.package.Package.{Package}
 abbrev pub width_of : Package → ℕ
 width_of p = length p.features + length p.entries + 2
 
--- where the row of each package begins, and where the last row ends
+-- The numbers at which the rows of the packages begin. `end_from` is the number at which the last row ends.
 abbrev pub bases_from : ℕ → List Package → List ℕ
 bases_from base [] = []
 bases_from base (p ∷ ps) = base ∷ bases_from (base + width_of p) ps
@@ -31,7 +32,7 @@ number_from base s local = (base + local) * 2 + side_number s
 abbrev pub number_at : List ℕ → ℕ → Side → ℕ → ℕ
 number_at bases p s local = number_from (slice_index_or bases p 0) s local
 
--- the number of a feature, counted from 1; 0 if there is none of that name
+-- the number of a feature with this name, counted from 1, or 0 if there is none
 abbrev pub after : ℕ → ℕ
 after zero = zero
 after (suc k) = suc (suc k)
@@ -47,7 +48,8 @@ features_of (Some p) = p.features
 abbrev pub slot_at : List Package → ℕ → List ℕ → ℕ
 slot_at ps p name = slot (features_of (slice_get ps p)) name
 
--- the numbers that mean: the package is on; it has the feature of this slot; its n-th entry is enabled
+-- The number of the fact that the package is on. `has` is the number of the fact that it has the
+-- feature of a slot. `enabled` is that of the fact that its n-th entry is enabled.
 abbrev pub on : List ℕ → ℕ → Side → ℕ
 on bases p s = number_at bases p s 0
 

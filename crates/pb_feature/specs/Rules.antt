@@ -1,5 +1,5 @@
--- The rules on numbers that the packages of a workspace yield, one after
--- another, and what is chosen; only private functions need these definitions.
+-- The rules on numbers that the packages of a workspace make, and the numbers that are true from
+-- the start. Only private functions need these definitions.
 use Rattle.std.specs.Prelude.{ℕ, ◌+◌, ◌==◌, Bool, not, ◌||◌, ◌&&◌, codes, List, [], ◌∷◌, ◌++◌, Option, Some, None, length, slice_get, if◌then◌else◌}
 use Rattle.std.specs.List.{list_any}
 use Rattle.std.specs.Str.{bytes_eq}
@@ -23,34 +23,35 @@ pair x y z = record { first = x; second = y; gives = z }
 abbrev pub alone : ℕ → ℕ → Rule
 alone x z = pair x x z
 
--- the rule that turns on the feature of a slot, if the test is true and the feature exists
+-- the rule by which `from` makes the feature of a slot be on, if the test is true and the slot is not 0
 abbrev pub there_rules : List ℕ → ℕ → ℕ → Side → Bool → ℕ → List Rule
 there_rules bs from q t test k = if test then (if k == 0 then [] else alone from (has bs q t k) ∷ []) else []
 
--- the rule that turns on the feature of a name
+-- the rule by which `from` makes the feature with this name be on, even if the package does not have it
 abbrev pub given_rules : List Package → List ℕ → ℕ → ℕ → Side → ℕ → List ℕ → List Rule
 given_rules ps bs from q t _ f = alone from (has bs q t (slot_at ps q f)) ∷ []
 
--- the rules of an enabled entry: it puts its package on, with its features
+-- the rules of an enabled entry: the package to which it leads is on, and has the features that the
+-- entry requests
 abbrev pub enabled_rules : List Package → List ℕ → ℕ → Side → Entry → List Rule
 enabled_rules ps bs from t e =
     (alone from (on bs e.to t) ∷ [])
     ++ there_rules bs from e.to t e.default_features (slot_at ps e.to (codes "default"))
     ++ placed (given_rules ps bs from e.to t) 0 e.features
 
--- the rules of an entry: it is enabled if its package is on, unless it is optional
+-- the rules of an entry; if it is not optional, it is enabled as soon as its package is on
 abbrev pub entry_rules : List Package → List ℕ → Side → ℕ → ℕ → ℕ → Entry → List Rule
 entry_rules ps bs s p features n e =
     (if e.optional then [] else alone (on bs p s) (enabled bs p s features n) ∷ [])
     ++ enabled_rules ps bs (enabled bs p s features n) (side_of e.kind s) e
 
--- the rules of an item `N/F` at an entry N
+-- the rules that an item `N/F` makes for an entry N
 abbrev pub of_rules : List ℕ → ℕ → ℕ → Side → ℕ → ℕ → ℕ → Entry → List Rule
 of_rules bs from p s own asked en e =
     (alone from en ∷ alone from (has bs e.to (side_of e.kind s) asked) ∷ [])
     ++ there_rules bs from p s e.optional own
 
--- the rules of an item at an entry that it may name
+-- the rules that an item makes for an entry, if the item names this entry
 abbrev pub item_rules : List Package → List ℕ → Side → ℕ → List Feature → ℕ → FeatureItem → ℕ → Entry → List Rule
 item_rules ps bs s p fs k (Own g) n e = []
 item_rules ps bs s p fs k (Dependency name) n e =
@@ -60,11 +61,11 @@ item_rules ps bs s p fs k (Of name g) n e =
 item_rules ps bs s p fs k (OfEnabled name g) n e =
     if bytes_eq name e.key then pair (has bs p s k) (enabled bs p s (length fs) n) (has bs e.to (side_of e.kind s) (slot_at ps e.to g)) ∷ [] else []
 
--- the same rules on both sides
+-- the rules that an item makes for an entry on both sides
 abbrev pub both_item_rules : List Package → List ℕ → ℕ → List Feature → ℕ → FeatureItem → ℕ → Entry → List Rule
 both_item_rules ps bs p fs k item n e = item_rules ps bs Target p fs k item n e ++ item_rules ps bs Host p fs k item n e
 
--- the rules of an item that names a feature of its own package
+-- the rule of an item that names a feature of its own package
 abbrev pub own_rules : List ℕ → Side → ℕ → List Feature → ℕ → FeatureItem → List Rule
 own_rules bs s p fs k (Own g) = alone (has bs p s k) (has bs p s (slot fs g)) ∷ []
 own_rules bs s p fs k _ = []
@@ -88,16 +89,17 @@ package_rules ps bs p owner = both_entry_rules ps bs p owner ++ placed (feature_
 abbrev pub rules_of : List Package → List ℕ → List Rule
 rules_of ps bs = placed (package_rules ps bs) 0 ps
 
--- one of the requested texts is this feature of the package of this name
+-- the requested text means this feature of the package with this name
 abbrev pub is_text_of : List ℕ → List ℕ → List ℕ → Bool
 is_text_of name feature text = bytes_eq text feature || bytes_eq text (of_package name feature)
 
--- a feature is chosen
+-- the options choose this feature for the package with this name
 abbrev pub is_chosen : Selection → List ℕ → List ℕ → Bool
 is_chosen selection name feature =
     selection.all_features || (not selection.no_default_features && bytes_eq feature (codes "default")) || list_any (is_text_of name feature) selection.features
 
--- the numbers that are true from the start
+-- The number of a feature, if the feature is chosen. The next definitions collect all numbers that
+-- are true from the start.
 abbrev pub chosen_seeds : List ℕ → Selection → ℕ → List ℕ → ℕ → Feature → List ℕ
 chosen_seeds bs selection p name i f = if is_chosen selection name f.name then has bs p Target (i + 1) ∷ [] else []
 

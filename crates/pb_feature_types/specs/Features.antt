@@ -1,4 +1,4 @@
--- What is on: answers to questions about resolved features.
+-- Which features are on, as answers to questions about resolved features.
 use Rattle.std.specs.Prelude.{ℕ, Bool, false, List, [], Option, Some, None, slice_get, slice_index_or}
 use Rattle.pb_workspace_types.specs.declared.package.Side.{Side}
 use Rattle.pb_workspace_types.specs.declared.package.Side.TheVariants.{Target, Host}
@@ -6,7 +6,7 @@ use Rattle.pb_feature_types.specs.declared.features.Part.{Part}
 use Rattle.pb_feature_types.specs.declared.features.Sides.{Sides}
 use Rattle.pb_feature_types.specs.declared.features.Features.{Features}
 
--- one of the two sides of a package
+-- the part of a package's features that belongs to one side
 abbrev pub part_of : Sides → Side → Part
 part_of sides Target = sides.target
 part_of sides Host = sides.host
@@ -23,14 +23,14 @@ abbrev pub enabled_of : Option Sides → Side → ℕ → Bool
 enabled_of None s n = false
 enabled_of (Some sides) s n = slice_index_or (part_of sides s).enabled n false
 
--- whether the package at an index is active on a side
+-- the package at an index is on, on a side
 abbrev pub is_active : Features → ℕ → Side → Bool
 is_active features p s = active_of (slice_get features.packages p) s
 
--- the names of its features that are on there
+-- the names of the features that the package at an index has on a side
 abbrev pub features_at : Features → ℕ → Side → List (List ℕ)
 features_at features p s = names_of (slice_get features.packages p) s
 
--- whether its entry at an index is enabled there
+-- the entry at an index of the package at an index is enabled on a side
 abbrev pub is_enabled : Features → ℕ → Side → ℕ → Bool
 is_enabled features p s n = enabled_of (slice_get features.packages p) s n

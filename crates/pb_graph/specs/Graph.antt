@@ -1,4 +1,4 @@
--- A graph of nodes that need other nodes, and which nodes reach which.
+-- A graph of nodes that need other nodes, and the relation that one node reaches another.
 use Rattle.std.specs.Prelude.{◌≡◌, ◌⊎◌, ℕ, ◌+◌, ◌<◌, max, List, [], ◌∷◌, Contains, length, slice_get, Option, Some, None}
 use Rattle.std.specs.Ordering.{nat_cmp}
 use Rattle.std.specs.declared.cmp.Ordering.TheVariants.{Less}
@@ -13,7 +13,7 @@ abbrev pub key_of : Option Node → List ℕ
 key_of None = []
 key_of (Some node) = node.key
 
--- what a node needs
+-- the numbers of the nodes that a node needs
 abbrev pub needs_at : List Node → ℕ → List ℕ
 needs_at nodes u = needs_of (slice_get nodes u)
 
@@ -35,7 +35,7 @@ pub data Reaches (nodes : List Node) : ℕ → ℕ → Type 0 where
 abbrev pub IsReached : List Node → List ℕ → ℕ → Type 0
 IsReached nodes roots v = Contains roots v ⊎ ((r : ℕ) × Contains roots r × Reaches nodes r v)
 
--- one more than the greatest level, or 0 if there is none
+-- one more than the greatest level in the list, or 0 if the list is empty
 abbrev pub above : List ℕ → ℕ
 above [] = 0
 above (level ∷ levels) = max (level + 1) (above levels)

@@ -1,21 +1,21 @@
--- The index of rules: for each thing, what else the rules need and what they then yield. Only
--- private functions need these definitions.
+-- The index of rules. For each thing it lists what else a rule needs and what the rule then yields.
+-- Only private functions need these definitions.
 use Rattle.std.specs.Prelude.{◌≡◌, ◌⊎◌, ◌↔◌, ◌<◌, ◌≤◌, ◌+◌, ◌==◌, ℕ, zero, suc, Bool, IsTrue, List, [], ◌∷◌, ◌++◌, Option, Some, None, Contains, length, slice_get, slice_index_or, slice_set, if◌then◌else◌}
 use Rattle.pb_graph.specs.declared.table.Rule.{Rule}
 use Rattle.pb_graph.specs.declared.index.Link.{Link}
 use Rattle.pb_graph.specs.Table.{joined_by}
 
--- the link of a number: 0 means none, and any other number is one more than an index
+-- the link with a number: 0 means no link, and any other number is one more than the link's index
 abbrev pub link_at : List Link → ℕ → Option Link
 link_at links zero = None
 link_at links (suc place) = slice_get links place
 
--- a link is read from a number on
+-- a link is read if it has the given number, or if the chain of `next` numbers from there comes to it
 pub data IsRead (links : List Link) : ℕ → Link → Type 0 where
   at_once : (n : ℕ) (l : Link) (at : link_at links n ≡ Some l) → IsRead links n l
   behind : (n : ℕ) (m l : Link) (at : link_at links n ≡ Some m) (read : IsRead links m.next l) → IsRead links n l
 
--- the number of a thing's first link
+-- the number of a thing's first link, or 0 if it has no link
 abbrev pub head_at : List ℕ → ℕ → ℕ
 head_at heads x = slice_index_or heads x 0
 
@@ -24,34 +24,35 @@ pub record HasLink (heads : List ℕ) (links : List Link) (x y z : ℕ) : Type 0
   pub next : ℕ
   pub read : IsRead links (head_at heads x) (record { with = y; gives = z; next = next })
 
--- the links with one more link of a thing, before those that it has
+-- the heads and links after one more link is added for a thing, in front of the links that the thing had
 abbrev pub with_link : List ℕ × List Link → ℕ → ℕ → ℕ → List ℕ × List Link
 with_link s x y z = (slice_set s.0 x (length s.1 + 1), s.1 ++ record { with = y; gives = z; next = head_at s.0 x } ∷ [])
 
--- the links with one more rule, at each of its premises
+-- the heads and links after a rule is added: a link for each of its two premises, or one link if
+-- the premises are equal
 abbrev pub with_rule : List ℕ × List Link → Rule → List ℕ × List Link
 with_rule s r = if r.first == r.second then with_link s r.first r.second r.gives else with_link (with_link s r.first r.second r.gives) r.second r.first r.gives
 
--- the number of links that a rule makes
+-- the number of links that a rule adds
 abbrev pub links_of : Rule → ℕ
 links_of r = if r.first == r.second then 1 else 2
 
--- each link is about things below `n`, and leads to a link of a lower number
+-- each link is about things below `n`, and its `next` is lower than its own number
 pub record IsLinked (n : ℕ) (links : List Link) : Type 0 where
   pub with : (k : ℕ) (l : Link) → link_at links k ≡ Some l → l.with < n
   pub gives : (k : ℕ) (l : Link) → link_at links k ≡ Some l → l.gives < n
   pub lower : (k : ℕ) (l : Link) → link_at links k ≡ Some l → l.next < k
 
--- what the links from a number on yield, among those that need a known thing
+-- `given` lists exactly what the links from `head` on yield if the other thing that they need is known
 pub record IsWalked (known : ℕ → Bool) (links : List Link) (head : ℕ) (given : List ℕ) : Type 0 where
   pub sound : (z : ℕ) → Contains given z → (l : Link) × IsRead links head l × IsTrue (known l.with) × (l.gives ≡ z)
   pub whole : (l : Link) → IsRead links head l → IsTrue (known l.with) → Contains given l.gives
 
--- one of the rules joins them, in one order or the other
+-- one of the rules says that `x` and `y`, in either order, yield `z`
 abbrev pub either_way : List Rule → ℕ → ℕ → ℕ → Type 0
 either_way rules x y z = joined_by rules x y z ⊎ joined_by rules y x z
 
--- the links say exactly this about three things
+-- the links say that `x` and `y` together yield `z` if and only if `Says` says so
 pub record IsIndex (n : ℕ) (Says : ℕ → ℕ → ℕ → Type 0) (heads : List ℕ) (links : List Link) : Type 0 where
   pub long : length heads ≡ n
   pub within : (x : ℕ) → head_at heads x ≤ length links

@@ -1,4 +1,5 @@
--- The order of the nodes that some roots of a graph reach, or the circle or the crowd that prevents an order.
+-- The order of the nodes that some roots of a graph reach. A circle, or a crowd of too many nodes,
+-- prevents an order.
 use Rattle.std.specs.Prelude.{◌≡◌, ◌⊎◌, ◌↔◌, ℕ, ◌<◌, List, map, All, AllPairs, Contains, length, slice_get, Option, Some, None}
 use Rattle.std.specs.List.Sorted.{IsStrictlyIncreasing}
 use Rattle.pb_graph.specs.declared.graph.Node.{Node}
@@ -19,12 +20,13 @@ level_of (Some p) = p.level
 abbrev pub level_at : List Step → ℕ → ℕ
 level_at steps place = level_of (slice_get steps place)
 
--- the indices of the steps with wanted nodes, ascending
+-- `places` lists, in ascending order, the indices of the steps whose nodes are wanted
 pub record ArePlaces (steps : List Step) (Wanted : ℕ → Type 0) (places : List ℕ) : Type 0 where
   pub rises : IsStrictlyIncreasing places
   pub same : (place : ℕ) → Contains places place ↔ ((p : Step) × (slice_get steps place ≡ Some p) × Wanted p.node)
 
--- the steps are the roots and what they reach, in order, each with what it needs and reaches
+-- The steps are the roots and all nodes that they reach, in order. Each step lists the steps that
+-- it needs and those that it reaches.
 pub record IsOrder (nodes : List Node) (roots : List ℕ) (steps : List Step) : Type 0 where
   pub units : (u : ℕ) → Contains (map (λ (p : Step). p.node) steps) u ↔ IsReached nodes roots u
   pub keys : All (λ p. p.key ≡ key_at nodes p.node) steps
@@ -34,13 +36,15 @@ pub record IsOrder (nodes : List Node) (roots : List ℕ) (steps : List Step) : 
   pub reaches : All (λ p. ArePlaces steps (Reaches nodes p.node) p.reaches) steps
   pub no_circle : (u : ℕ) → IsReached nodes roots u → Reaches nodes u u → ⊥
 
--- the circle is all reached nodes that reach themselves, at least one, by the bytes of their keys
+-- The circle lists all reached nodes that reach themselves, in byte order of their keys. At least
+-- one node is in the circle.
 pub record IsCircle (nodes : List Node) (roots circle : List ℕ) : Type 0 where
   pub some : 0 < length circle
   pub nodes_are : (u : ℕ) → Contains circle u ↔ (IsReached nodes roots u × Reaches nodes u u)
   pub order : AllPairs (λ u v. IsBelow (key_at nodes u) (key_at nodes v)) circle
 
--- no reached node reaches itself, and more nodes than this number are reached, listed by the bytes of their keys
+-- No reached node reaches itself. More than `most` nodes are reached, and `found` lists more than
+-- `most` of them in byte order of their keys.
 pub record IsCrowd (nodes : List Node) (roots : List ℕ) (most : ℕ) : Type 0 where
   pub straight : (u : ℕ) → IsReached nodes roots u → Reaches nodes u u → ⊥
   pub found : List ℕ
@@ -48,7 +52,8 @@ pub record IsCrowd (nodes : List Node) (roots : List ℕ) (most : ℕ) : Type 0 
   pub order : AllPairs (λ u v. IsBelow (key_at nodes u) (key_at nodes v)) found
   pub many : most < length found
 
--- why there is no order: a circle, else too many nodes, unless memory ran out
+-- The reason why there is no order is a circle. If there is no circle, it is that too many nodes
+-- are reached. Memory may run out at any time.
 abbrev pub IsWhy : List Node → List ℕ → ℕ → OrderFault → Type 0
 IsWhy nodes roots most OutOfMemory = Unit {0}
 IsWhy nodes roots most (Circle circle) = IsCircle nodes roots circle

@@ -1,4 +1,5 @@
--- Marks, levels, ranks and steps as intermediate results of the code. These definitions serve private functions only.
+-- Marks, levels, ranks and steps: intermediate results of the code. Only private functions need
+-- these definitions.
 use Rattle.std.specs.Prelude.{◌≡◌, ◌⊎◌, ◌↔◌, ℕ, ◌+◌, ◌<◌, ◌≤◌, Bool, true, false, not, List, Contains, length, count_by, slice_index_or, IsTrue, map, All, slice_index, AllPairs, slice_get, Some}
 use Rattle.pb_graph.specs.declared.graph.Node.{Node}
 use Rattle.std.specs.List.Sorted.{IsNonDecreasingBy, IsStrictlyIncreasing}
@@ -8,7 +9,7 @@ use Rattle.std.specs.List.{AllZip}
 use Rattle.pb_graph.specs.declared.graph.Step.{Step}
 use Rattle.pb_graph.specs.Graph.{needs_at, key_at, IsBelow, above, Reaches, IsReached}
 
--- Marked nodes, as a list of truth values by their numbers.
+-- A list of truth values marks nodes by their numbers.
 
 abbrev pub IsMarked : List Bool → ℕ → Type 0
 IsMarked marks v = slice_index_or marks v false ≡ true
@@ -16,7 +17,7 @@ IsMarked marks v = slice_index_or marks v false ≡ true
 abbrev pub unmarked : List Bool → ℕ
 unmarked marks = count_by not marks
 
--- The first `count` nodes of a list are marked; those that were not marked before are waiting.
+-- The first `count` nodes of a list have been marked. The nodes that were not marked before are now waiting.
 pub record Marked (list : List ℕ) (count : ℕ) (old_marks : List Bool) (old_waiting : List ℕ) (marks : List Bool) (waiting : List ℕ) : Type 0 where
   pub long : length marks ≡ length old_marks
   pub each : (k : ℕ) → k < count → IsMarked marks (slice_index_or list k 0)
@@ -31,48 +32,48 @@ pub record Marked (list : List ℕ) (count : ℕ) (old_marks : List Bool) (old_w
 abbrev pub AreClear : List Bool → Type 0
 AreClear marks = (v : ℕ) → IsMarked marks v → ⊥
 
--- only nodes in the rest of a list are still marked
+-- each node that is still marked is in the list at index `count` or later
 pub record Clearing (list : List ℕ) (count : ℕ) (old_marks marks : List Bool) : Type 0 where
   pub long : length marks ≡ length old_marks
   pub left : (v : ℕ) → IsMarked marks v → (k : ℕ) × (count ≤ k) × (k < length list) × (slice_index_or list k 0 ≡ v)
 
--- the nodes found are those that the roots reach, without repeats: as many as are marked
+-- The marked nodes are exactly those that the roots reach. `found` lists each marked node once.
 pub record IsFound (nodes : List Node) (roots : List ℕ) (marks : List Bool) (found : List ℕ) : Type 0 where
   pub long : length marks ≡ length nodes
   pub exact : (v : ℕ) → IsMarked marks v ↔ IsReached nodes roots v
   pub same : (v : ℕ) → Contains found v ↔ IsMarked marks v
   pub count : length found + unmarked marks ≡ length nodes
 
--- the list is the nodes that the roots reach
+-- `found` lists each node that the roots reach once
 abbrev pub AreReached : List Node → List ℕ → List ℕ → Type 0
 AreReached nodes roots found = (marks : List Bool) × IsFound nodes roots marks found
 
--- How many nodes each node reaches, and the levels of nodes.
+-- The number of nodes that each node reaches, and the levels of nodes.
 
 abbrev pub node_of : Extent → ℕ
 node_of e = e.node
 
--- how many nodes a node reaches, and whether it reaches itself
+-- an extent has the number of nodes that its node reaches, and says if the node reaches itself
 pub record IsExtent (nodes : List Node) (e : Extent) : Type 0 where
   pub reached : List ℕ
   pub are : AreReached nodes (needs_at nodes e.node) reached
   pub count : e.count ≡ length reached
   pub turns : IsTrue e.turns ↔ Reaches nodes e.node e.node
 
--- each of these nodes has a level one more than the greatest of those that it needs
+-- the level of each node in the list is one more than the greatest level of its needs, or 0 if it needs nothing
 pub record AreLevels (nodes : List Node) (list levels : List ℕ) : Type 0 where
   pub long : length levels ≡ length nodes
   pub each : (v : ℕ) → Contains list v → slice_index levels v ≡ above (map (slice_index levels) (needs_at nodes v))
 
--- Extents in order of their counts. Their nodes do not reach themselves, and all needs of these
--- nodes are among them.
+-- The extents are sorted by their counts. No node of an extent reaches itself. Whatever such a node
+-- needs is the node of an extent, too.
 pub record AreRising (nodes : List Node) (extents : List Extent) : Type 0 where
   pub each : All (IsExtent nodes) extents
   pub rising : IsNonDecreasingBy (λ e. e.count) extents
   pub straight : (v : ℕ) → Contains (map node_of extents) v → Reaches nodes v v → ⊥
   pub closed : (u v : ℕ) → Contains (map node_of extents) u → Contains (needs_at nodes u) v → Contains (map node_of extents) v
 
--- Nodes by level, and then by the bytes of their keys.
+-- Nodes that are sorted by level, and then by the bytes of their keys.
 
 abbrev pub rank_node : Rank → ℕ
 rank_node r = r.node
@@ -86,26 +87,26 @@ pub record IsRank (nodes : List Node) (levels : List ℕ) (r : Rank) : Type 0 wh
 pub record RanksBefore (a b : Rank) : Type 0 where
   pub order : (a.level < b.level) ⊎ ((a.level ≡ b.level) × IsBelow a.key b.key)
 
--- the ranks are the nodes of a list in order, without repeats
+-- the ranks are the nodes of a list, in order and without repeats
 pub record AreRanked (nodes : List Node) (list levels : List ℕ) (ranks : List Rank) : Type 0 where
   pub each : All (IsRank nodes levels) ranks
   pub same : (v : ℕ) → Contains (map rank_node ranks) v ↔ Contains list v
   pub order : AllPairs RanksBefore ranks
   pub few : length ranks ≤ length list
 
--- Steps of the order.
+-- The steps of the order.
 
--- The table contains the indices of the first `count` ranks.
+-- The table `places` has, for the node of each of the first `count` ranks, the index of that rank.
 pub record PlacesTell (nodes : List Node) (ranks : List Rank) (count : ℕ) (places : List ℕ) : Type 0 where
   pub long : length places ≡ length nodes
   pub tell : (k : ℕ) (r : Rank) → k < count → slice_get ranks k ≡ Some r → slice_index places r.node ≡ k
 
--- the indices of a list's nodes, ascending
+-- `found` lists, in ascending order, what the table has for the nodes of the list
 pub record ArePlacesBy (places list found : List ℕ) : Type 0 where
   pub rises : IsStrictlyIncreasing found
   pub same : (place : ℕ) → Contains found place ↔ Contains (map (slice_index places) list) place
 
--- the step of a rank: its node, with the indices of what it needs and reaches
+-- a step has its rank's node, key and level, and the indices of the nodes that this node needs and reaches
 pub record IsPlaced (nodes : List Node) (places : List ℕ) (rank : Rank) (p : Step) : Type 0 where
   pub node : p.node ≡ rank.node
   pub key : p.key ≡ rank.key
@@ -115,30 +116,31 @@ pub record IsPlaced (nodes : List Node) (places : List ℕ) (rank : Rank) (p : S
   pub are : AreReached nodes (needs_at nodes rank.node) reached
   pub reaches : ArePlacesBy places reached p.reaches
 
--- the steps of all ranks
+-- the plan has one step for each rank, in the order of the ranks
 pub record AreSteps (nodes : List Node) (ranks : List Rank) (plan : List Step) : Type 0 where
   pub places : List ℕ
   pub told : PlacesTell nodes ranks (length ranks) places
   pub each : AllZip (IsPlaced nodes places) ranks plan
 
--- the nodes of a list, by the bytes of their keys
+-- `found` lists the nodes of the list in byte order of their keys
 pub record AreByKey (nodes : List Node) (list found : List ℕ) : Type 0 where
   pub same : (v : ℕ) → Contains found v ↔ Contains list v
   pub order : AllPairs (λ u v. IsBelow (key_at nodes u) (key_at nodes v)) found
 
--- a list has more nodes than this number, listed by the bytes of their keys
+-- the list has more than `most` nodes; `found` lists them in byte order of their keys
 pub record IsCrowded (nodes : List Node) (list : List ℕ) (most : ℕ) : Type 0 where
   pub found : List ℕ
   pub listed : AreByKey nodes list found
   pub many : most < length found
 
--- the extents of all nodes that the roots reach, the least first
+-- the extents of all nodes that the roots reach, in ascending order of their counts
 pub record AreSurveyed (nodes : List Node) (roots : List ℕ) (extents : List Extent) : Type 0 where
   pub same : (v : ℕ) → Contains (map node_of extents) v ↔ IsReached nodes roots v
   pub each : All (IsExtent nodes) extents
   pub rising : IsNonDecreasingBy (λ e. e.count) extents
 
--- the steps are the nodes of a list by level and key, each with its indices
+-- the steps are the nodes of a list, sorted by level and then by key, each with the indices of what
+-- it needs and reaches
 pub record IsOrdered (nodes : List Node) (list : List ℕ) (plan : List Step) : Type 0 where
   pub levels : List ℕ
   pub leveled : AreLevels nodes list levels

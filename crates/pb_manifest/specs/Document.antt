@@ -1,4 +1,4 @@
--- The manifest in some bytes, or why they are refused.
+-- The manifest that bytes contain, or the fault for which they are refused.
 use Rattle.std.specs.Prelude.{ℕ, List, Bool, false, ◌||◌, if◌then◌else◌, nat_lt, length, Option, Some, None, Ok, Err, codes}
 use Rattle.std.specs.Str.{bytes_eq, is_utf8}
 use Rattle.toml.specs.Data.{Data, Members, as_str}
@@ -24,7 +24,7 @@ use Rattle.pb_manifest.specs.declared.document.Tables.{Tables}
 use Rattle.pb_manifest_types.specs.declared.package.Package.{Package}
 use Rattle.pb_manifest_types.specs.declared.target.Library.{Library}
 
--- no unsupported table is present
+-- a document is refused if it has the table `patch`, `replace` or `target`
 abbrev pub supported : Members → Read (Unit {0})
 supported ms = if has key.Patch ms || has key.Replace ms || has key.Target ms then Err UnsupportedTable else Ok tt
 
@@ -40,15 +40,15 @@ abbrev pub says_one : Option Members → Bool
 says_one None = false
 says_one (Some ms) = is_one (text_in (value_at key.Resolver ms))
 
--- the table requests resolver 1
+-- the table at a key requests resolver 1
 abbrev pub asks_old_resolver : Key → Members → Bool
 asks_old_resolver k ms = says_one (table_in (value_at k ms))
 
--- neither `[package]` nor `[workspace]` requests resolver 1
+-- a document is refused if its `[package]` or its `[workspace]` requests resolver 1
 abbrev pub not_old : Members → Read (Unit {0})
 not_old ms = if asks_old_resolver key.Package ms || asks_old_resolver key.Workspace ms then Err OldResolver else Ok tt
 
--- a manifest without `[workspace]` must have `[package]`
+-- the package of a manifest; only a manifest with `[workspace]` may lack `[package]`
 abbrev pub package_in : Bool → Option Members → Read (Option Package)
 package_in workspace None = if workspace then Ok None else Err (BadKind key.Package)
 package_in workspace (Some ms) = package_of ms >>= (λ found. Ok (Some found))
@@ -70,7 +70,7 @@ workspace_in (Some ms) = workspace_of ms >>= (λ workspace. Ok (Some workspace))
 abbrev pub workspace_at : Members → Read (Option WorkspaceTable)
 workspace_at ms = table_at key.Workspace ms >>= workspace_in
 
--- the package and its targets
+-- the package, the library and the binaries of a document, read in this order
 unfoldable pub targets_of : Members → Read Targets
 targets_of ms =
     package_at ms >>= (λ found.
@@ -78,7 +78,7 @@ targets_of ms =
     binaries_at ms >>= (λ binaries.
     Ok record { «package» = found; library = library; binaries = binaries })))
 
--- the tables after those of the targets
+-- the tables that are read after the package and its targets
 unfoldable pub tables_of : Members → Read Tables
 tables_of ms =
     dependencies_at key.Dependencies ms >>= (λ dependencies.
@@ -95,7 +95,7 @@ tables_of ms =
       workspace = workspace;
     })))))
 
--- the tables of a document, in this order
+-- the manifest of a document; its tables are read in this order
 unfoldable pub document_of : Members → Read Manifest
 document_of ms =
     supported ms >>= (λ none.
@@ -114,10 +114,10 @@ document_of ms =
       workspace = b.workspace;
     }))))
 
--- the document in some bytes, if they are UTF-8 that `toml` reads
+-- the TOML document that bytes contain, if they are UTF-8 and `toml` reads them
 unfoldable pub document_in : List ℕ → Read Members
 document_in bytes = if is_utf8 bytes then some_or NotToml (parse_document bytes) else Err NotToml
 
--- the manifest in some bytes, or why they are refused
+-- the manifest that bytes contain, or the fault for which they are refused
 abbrev pub manifest_of : List ℕ → Read Manifest
 manifest_of bytes = if nat_lt max_manifest_bytes (length bytes) then Err TooLarge else (document_in bytes >>= document_of)

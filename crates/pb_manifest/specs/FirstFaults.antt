@@ -1,6 +1,6 @@
--- If one table has several faults, the fault of the lowest key is reported.
--- For each table with fixed keys this lists the keys in byte order, each with the fault of its own reading.
--- For a table whose keys the user chooses it names the entry whose fault is reported.
+-- Which of several faults in one table is reported: the fault of the lowest key. A table with fixed
+-- keys has a list here: its keys in byte order, each with the fault of its own value. For a table
+-- whose keys the user chooses, a definition names the entry whose fault is reported.
 use Rattle.std.specs.Prelude.{◌≡◌, List, Bool, true, ◌&&◌, [], ◌∷◌, map, Option, Some, None, Ok, Err}
 use Rattle.std.specs.Option.{option_or}
 use Rattle.std.specs.Ordering.{nat_cmp, is_lt}
@@ -20,16 +20,16 @@ use Rattle.pb_manifest_types.specs.declared.fault.ManifestFault.{ManifestFault}
 use Rattle.pb_manifest_types.specs.declared.key.Key.{Key}
 use Rattle.pb_manifest_types.specs.declared.key.Key.TheVariants as key
 
--- the fault that a reading returns, if it returns one
+-- the fault that reading a value returns, if it returns one
 abbrev pub told : {A : Type 0} → Read A → Option ManifestFault
 told (Ok x) = None
 told (Err fault) = Some fault
 
--- a key of a table, and the fault of its own reading
+-- a key of a table, and the fault of its own value if there is one
 abbrev pub KeyFault : Type 0
 KeyFault = Key × Option ManifestFault
 
--- the first fault of some keys, if there is one
+-- the fault of the first key that has a fault
 abbrev pub first_fault : List KeyFault → Option ManifestFault
 first_fault [] = None
 first_fault (k ∷ ks) = option_or k.1 (first_fault ks)
@@ -40,12 +40,12 @@ are_ascending [] = true
 are_ascending (a ∷ []) = true
 are_ascending (a ∷ b ∷ rest) = is_lt (slice_cmp nat_cmp a b) && are_ascending (b ∷ rest)
 
--- a table reports the first fault of its keys, which are in byte order
+-- The keys of a table are in byte order, and reading the table returns the first fault of a key.
 pub record TellsLowest {A : Type 0} (keys : Members → List KeyFault) (read : Members → Read A) : Type 0 where
   pub order : (ms : Members) → are_ascending (map (λ k. spelled k.0) (keys ms)) ≡ true
   pub first : (ms : Members) → told (read ms) ≡ first_fault (keys ms)
 
--- `[package]`
+-- the keys of `[package]` and their faults
 abbrev pub faults_of_package : Members → List KeyFault
 faults_of_package ms =
     (key.Authors, told (inheritable_texts_at key.Authors ms))
@@ -65,7 +65,7 @@ faults_of_package ms =
     ∷ (key.Version, told (inherited_version_at ms))
     ∷ []
 
--- `[lib]`
+-- the keys of `[lib]` and their faults
 abbrev pub faults_of_library : Members → List KeyFault
 faults_of_library ms =
     (key.CrateType, told (crate_types_at ms))
@@ -74,7 +74,7 @@ faults_of_library ms =
     ∷ (key.ProcMacro, told (proc_macro_at ms))
     ∷ []
 
--- a `[[bin]]`
+-- the keys of a table `[[bin]]` and their faults
 abbrev pub faults_of_binary : Members → List KeyFault
 faults_of_binary ms =
     (key.Name, told (name_at ms))
@@ -82,7 +82,7 @@ faults_of_binary ms =
     ∷ (key.RequiredFeatures, told (listed_texts_at key.RequiredFeatures ms))
     ∷ []
 
--- an entry of `[dependencies]` or `[build-dependencies]`
+-- the keys of an entry of `[dependencies]` or `[build-dependencies]`, and their faults
 abbrev pub faults_of_dependency : Members → List KeyFault
 faults_of_dependency ms =
     (key.DefaultFeatures, told (truth_at key.DefaultFeatures ms))
@@ -96,7 +96,8 @@ faults_of_dependency ms =
     ∷ (key.Workspace, told (workspace_at ms))
     ∷ []
 
--- an entry of `[workspace.dependencies]`, in which `git` and `registry` are kept
+-- The keys of an entry of `[workspace.dependencies]`, and their faults. Here `git` and `registry`
+-- are no faults.
 abbrev pub faults_of_shared_dependency : Members → List KeyFault
 faults_of_shared_dependency ms =
     (key.DefaultFeatures, told (truth_at key.DefaultFeatures ms))
@@ -108,7 +109,7 @@ faults_of_shared_dependency ms =
     ∷ (key.Workspace, told (workspace_at ms))
     ∷ []
 
--- `[workspace.package]`
+-- the keys of `[workspace.package]` and their faults
 abbrev pub faults_of_inherited : Members → List KeyFault
 faults_of_inherited ms =
     (key.Authors, told (texts_at key.Authors ms))
@@ -123,7 +124,7 @@ faults_of_inherited ms =
     ∷ (key.Version, told (version_at ms))
     ∷ []
 
--- `[workspace]`
+-- the keys of `[workspace]` and their faults
 abbrev pub faults_of_workspace : Members → List KeyFault
 faults_of_workspace ms =
     (key.DefaultMembers, told (paths_at key.DefaultMembers ms))
@@ -134,12 +135,12 @@ faults_of_workspace ms =
     ∷ (key.Resolver, told (resolver_at ms))
     ∷ []
 
--- a table has an entry
+-- the table has an entry with this name and this value
 pub data HasEntry (name : Text) (value : Data) : Members → Type 0 where
   here : (ms : Members) → HasEntry name value (member name value ms)
   further : (other : Text) (d : Data) (ms : Members) (rest : HasEntry name value ms) → HasEntry name value (member other d ms)
 
--- the fault is that of an entry, and no entry with a lower key has a fault
+-- an entry has this fault, and no entry with a lower key has a fault
 pub record IsOfLowestEntry {A : Type 0} (read : Text → Data → Read A) (ms : Members) (fault : ManifestFault) : Type 0 where
   pub name : Text
   pub value : Data
@@ -147,7 +148,8 @@ pub record IsOfLowestEntry {A : Type 0} (read : Text → Data → Read A) (ms : 
   pub tells : told (read name value) ≡ Some fault
   pub lower : (other : Text) (d : Data) → HasEntry other d ms → is_lt (slice_cmp nat_cmp other name) ≡ true → told (read other d) ≡ None
 
--- a table whose keys the user chooses reports the fault of its lowest bad entry, and none only if no entry has a fault
+-- For a table whose keys the user chooses, the fault of its lowest bad entry is reported. If no
+-- fault is reported, no entry has one.
 pub record TellsLowestEntry {A : Type 0} (read : Text → Data → Read A) : Type 0 where
   pub refused : (ms : Members) (fault : ManifestFault) → Ascend (keys_of ms) → told (each_entry read ms) ≡ Some fault → IsOfLowestEntry read ms fault
   pub taken : (ms : Members) → told (each_entry read ms) ≡ None → (name : Text) (d : Data) → HasEntry name d ms → told (read name d) ≡ None

@@ -1,4 +1,4 @@
--- Laws of the reader, each about a definition, in the terms of the rules.
+-- Laws about the reader of manifests, in the terms of the rules.
 use Rattle.std.specs.Prelude.{◌≡◌, ◌≢◌, ◌<◌, ℕ, true, List, [], ◌∷◌, ◌++◌, if◌then◌else◌, length, codes, Some, None, Ok, Err}
 use Rattle.toml.specs.Data.{Data, Items, no_items, item, Members, no_members, member, same_key, members_are_sorted}
 use Rattle.pb_data.specs.Limits.{max_manifest_bytes}
@@ -22,24 +22,24 @@ use Rattle.pb_manifest_types.specs.declared.package.Edition.TheVariants.{E2015}
 use Rattle.pb_manifest_types.specs.declared.package.Package.{Package}
 use Rattle.pb_manifest_types.specs.declared.target.Binary.{Binary}
 
--- no rule names this key
+-- the name is no key of a rule
 abbrev pub IsUnnamed : Text → Type 0
 IsUnnamed name = (k : Key) → spelled k ≢ name
 
--- a table without one of its keys
+-- the table without its entries at one key
 unfoldable pub without : Text → Members → Members
 without name no_members = no_members
 without name (member l d ms) = if same_key name l then without name ms else member l d (without name ms)
 
--- a key that no rule names never changes the result of a reading
+-- a key that no rule names never changes the result of reading a table
 abbrev pub PassesOver : {A : Type 0} → (Members → Read A) → Type 0
 PassesOver read = (name : Text) (ms : Members) → IsUnnamed name → read (without name ms) ≡ read ms
 
--- the keys of each table of a document are in ascending order
+-- in each table of a document that was read, the keys are in ascending order
 abbrev pub OrdersTables : Type 0
 OrdersTables = (bytes : List ℕ) (ms : Members) → document_in bytes ≡ Ok ms → members_are_sorted ms ≡ true
 
--- the keys of the table at a key are in ascending order
+-- if the keys of all tables are in ascending order, so are those of the table at a key
 abbrev pub OrdersInnerTables : Type 0
 OrdersInnerTables = (k : Key) (ms inner : Members) → members_are_sorted ms ≡ true → table_at k ms ≡ Ok (Some inner) → members_are_sorted inner ≡ true
 
@@ -51,48 +51,49 @@ OrdersKeys = (ms : Members) → members_are_sorted ms ≡ true → Ascend (keys_
 abbrev pub RefusesLarge : Type 0
 RefusesLarge = (bytes : List ℕ) → max_manifest_bytes < length bytes → manifest_of bytes ≡ Err TooLarge
 
--- each manifest that was read keeps the promises
+-- each manifest that was read is as `IsManifest` promises
 abbrev pub KeepsPromises : Type 0
 KeepsPromises = (bytes : List ℕ) (m : Manifest) → manifest_of bytes ≡ Ok m → IsManifest m
 
--- how an item of a feature is spelled, in its four forms
+-- the spelling of a feature's item, which has one of four forms
 abbrev pub item_text : FeatureItem → Text
 item_text (feature_item.Own feature) = feature
 item_text (feature_item.Dependency name) = codes "dep:" ++ name
 item_text (feature_item.Of name feature) = name ++ (codes "/" ++ feature)
 item_text (feature_item.OfEnabled name feature) = name ++ (codes "?/" ++ feature)
 
--- the text spells the item, and the item's names have valid letters
+-- the text spells the item, and the names in the item have valid letters
 pub record IsSpelled (text : Text) (i : FeatureItem) : Type 0 where
   pub spelling : text ≡ item_text i
   pub letters : IsItem i
 
--- if a text is read as an item, it is the item's own spelling
+-- if a text is read as an item, the text is the spelling of this item
 abbrev pub SpellsItems : Type 0
 SpellsItems = (text : Text) (i : FeatureItem) → item_in text ≡ Ok i → IsSpelled text i
 
--- each spelling of an item with valid names is read as that item
+-- the spelling of an item with valid names is read as this item
 abbrev pub ReadsSpellings : Type 0
 ReadsSpellings = (i : FeatureItem) → IsItem i → item_in (item_text i) ≡ Ok i
 
--- a package that was read has a valid, non-empty name
+-- each package that was read has a name that is valid and not empty
 abbrev pub NamesPackages : Type 0
 NamesPackages = (bytes : List ℕ) (m : Manifest) (p : Package) → manifest_of bytes ≡ Ok m → m.package ≡ Some p → is_name p.name ≡ true
 
--- a package without an edition has the edition 2015, and one without a version has the version 0.0.0
+-- A package without a written edition has the edition 2015. A package without a written version has
+-- the version 0.0.0.
 abbrev pub DefaultEdition : Type 0
 DefaultEdition = (ms : Members) (p : Package) → value_at key.Edition ms ≡ None → package_of ms ≡ Ok p → p.edition ≡ Written E2015
 
 abbrev pub DefaultVersion : Type 0
 DefaultVersion = (ms : Members) (p : Package) → value_at key.Version ms ≡ None → package_of ms ≡ Ok p → p.version ≡ Written (codes "0.0.0")
 
--- the values of a list are read one for one, in its order
+-- the items of a list are read one by one, and their values are in the order of the list
 abbrev pub AreReadInOrder : {A : Type 0} → (Data → Read A) → Items → List A → Type 0
 AreReadInOrder read no_items [] = Unit {0}
 AreReadInOrder read no_items (x ∷ xs) = ⊥
 AreReadInOrder read (item d ds) [] = ⊥
 AreReadInOrder read (item d ds) (x ∷ xs) = (read d ≡ Ok x) × AreReadInOrder read ds xs
 
--- the binaries are those of the list, in the list's order
+-- the binaries have the order of the tables `[[bin]]`
 abbrev pub KeepsOrder : Type 0
 KeepsOrder = (ds : Items) (binaries : List Binary) → each binary_of ds ≡ Ok binaries → AreReadInOrder binary_of ds binaries

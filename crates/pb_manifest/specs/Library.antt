@@ -1,4 +1,4 @@
--- The table `[lib]` (The Cargo Book, Manifest Format and Cargo Targets).
+-- How the table `[lib]` is read (The Cargo Book, Manifest Format and Cargo Targets).
 use Rattle.std.specs.Prelude.{List, Bool, if◌then◌else◌, Option, Some, None, Ok, Err, codes}
 use Rattle.std.specs.Str.{bytes_eq}
 use Rattle.toml.specs.Data.{Data, Members}
@@ -12,7 +12,7 @@ use Rattle.pb_manifest_types.specs.declared.target.CrateType.{CrateType}
 use Rattle.pb_manifest_types.specs.declared.target.CrateType.TheVariants.{Lib, Rlib, Bin}
 use Rattle.pb_manifest_types.specs.declared.target.Library.{Library}
 
--- a supported crate type
+-- the crate type that a text spells, if we support it
 abbrev pub crate_type_in : Text → Read CrateType
 crate_type_in text =
     if bytes_eq text (codes "lib") then Ok Lib
@@ -26,11 +26,11 @@ crate_type_of d = text_of key.CrateType d >>= crate_type_in
 abbrev pub crate_types_of : Data → Read (List CrateType)
 crate_types_of d = array_of key.CrateType d >>= each crate_type_of
 
--- the crate types of `[lib]`, none if the key is missing
+-- the crate types that `[lib]` lists, or none if the key is missing
 abbrev pub crate_types_at : Members → Read (List CrateType)
 crate_types_at ms = optional crate_types_of (value_at key.CrateType ms) >>= (λ found. Ok (listed found))
 
--- the name of the crate, if one is written
+-- the name that `[lib]` writes for its crate, if it writes a name
 abbrev pub crate_name_in : Option Text → Read (Option Text)
 crate_name_in None = Ok None
 crate_name_in (Some text) = if is_crate_name text then Ok (Some text) else Err BadName
@@ -38,14 +38,14 @@ crate_name_in (Some text) = if is_crate_name text then Ok (Some text) else Err B
 abbrev pub crate_name_at : Members → Read (Option Text)
 crate_name_at ms = text_at key.Name ms >>= crate_name_in
 
--- `proc-macro = true` is an error, since it requests an unsupported crate type
+-- `proc-macro = true` is refused, because it requests a crate type that we do not support
 abbrev pub proc_macro_in : Option Bool → Read (Unit {0})
 proc_macro_in found = if is_true found then Err UnsupportedCrateType else Ok tt
 
 abbrev pub proc_macro_at : Members → Read (Unit {0})
 proc_macro_at ms = truth_at key.ProcMacro ms >>= proc_macro_in
 
--- the keys of `[lib]`, in byte order
+-- the table `[lib]`, whose keys are read in byte order
 abbrev pub library_of : Members → Read Library
 library_of ms =
     crate_types_at ms >>= (λ crate_types.

@@ -1,4 +1,4 @@
--- The table `[package]` (The Cargo Book, Manifest Format).
+-- How the table `[package]` is read (The Cargo Book, Manifest Format).
 use Rattle.std.specs.Prelude.{Bool, true, false, ◌||◌, if◌then◌else◌, Option, Some, None, Ok, Err, codes, unwrap_or}
 use Rattle.std.specs.Str.{bytes_eq}
 use Rattle.toml.specs.Data.{Data, Members, as_str, as_bool}
@@ -22,7 +22,7 @@ use Rattle.pb_manifest.specs.declared.package.FirstKeys.{FirstKeys}
 use Rattle.pb_manifest.specs.declared.package.MiddleKeys.{MiddleKeys}
 use Rattle.pb_manifest.specs.declared.package.LastKeys.{LastKeys}
 
--- the name of a package or a binary, which is required
+-- the name of a package or of a binary, which must be written and valid
 abbrev pub name_in : Option Text → Read Text
 name_in None = Err BadName
 name_in (Some text) = if is_name text then Ok text else Err BadName
@@ -44,11 +44,11 @@ edition_of d = text_of key.Edition d >>= edition_in
 abbrev pub edition_at : Members → Read (Option Edition)
 edition_at ms = optional edition_of (value_at key.Edition ms)
 
--- the edition of a package, 2015 if none is written
+-- the edition of a package: the written or inherited one, or 2015
 abbrev pub inherited_edition_at : Members → Read (Inherited Edition)
 inherited_edition_at ms = inheritable_at key.Edition edition_of ms >>= (λ found. Ok (or_default E2015 found))
 
--- `true`, `false` or a path
+-- the value of `build`, which is `true`, `false` or a path
 abbrev pub build_from : Option Text → Option Bool → Read Build
 build_from (Some text) truth = zero_free key.Build text >>= (λ path. Ok (build.At path))
 build_from None (Some true) = Ok build.Standard
@@ -62,7 +62,7 @@ build_in (Some d) = build_from (as_str d) (as_bool d)
 abbrev pub build_at : Members → Read Build
 build_at ms = build_in (value_at key.Build ms)
 
--- a text or a truth value
+-- the value of `readme`, which is a truth value or a text
 abbrev pub readme_from : Option Text → Option Bool → Read Readme
 readme_from (Some text) truth = Ok (readme.At text)
 readme_from None (Some true) = Ok readme.Standard
@@ -78,16 +78,16 @@ readme_at ms = optional readme_of (value_at key.Readme ms)
 abbrev pub inheritable_readme_at : Members → Read (Inheritable Readme)
 inheritable_readme_at ms = inheritable_at key.Readme readme_of ms
 
--- the resolver is `"2"`, or `"3"`, which counts as `"2"`
+-- a resolver is refused unless it is `"2"` or `"3"`; we treat `"3"` as `"2"`
 abbrev pub resolver_in : Option Text → Read (Unit {0})
 resolver_in None = Ok tt
 resolver_in (Some text) = if bytes_eq text (codes "2") || bytes_eq text (codes "3") then Ok tt else Err (BadKind key.Resolver)
 
--- if a resolver is written, it is a supported one
+-- a table is refused if it writes a resolver that we do not support
 abbrev pub resolver_at : Members → Read (Unit {0})
 resolver_at ms = text_at key.Resolver ms >>= resolver_in
 
--- the keys in byte order, `authors` to `edition`
+-- the values of the keys of `[package]` from `authors` to `edition`, in byte order
 abbrev pub first_keys : Members → Read FirstKeys
 first_keys ms =
     inheritable_texts_at key.Authors ms >>= (λ authors.
@@ -97,7 +97,7 @@ first_keys ms =
     inherited_edition_at ms >>= (λ edition.
     Ok record { authors = authors; autobins = unwrap_or autobins true; build = build; description = description; edition = edition })))))
 
--- `homepage` to `name`
+-- the values of the keys of `[package]` from `homepage` to `name`, in byte order
 abbrev pub middle_keys : Members → Read MiddleKeys
 middle_keys ms =
     inheritable_text_at key.Homepage ms >>= (λ homepage.
@@ -107,7 +107,7 @@ middle_keys ms =
     name_at ms >>= (λ name.
     Ok record { homepage = homepage; license = license; license_file = license_file; links = links; name = name })))))
 
--- `readme` to `version`
+-- the values of the keys of `[package]` from `readme` to `version`, in byte order
 abbrev pub last_keys : Members → Read LastKeys
 last_keys ms =
     inheritable_readme_at ms >>= (λ readme.
@@ -117,7 +117,7 @@ last_keys ms =
     inherited_version_at ms >>= (λ version.
     Ok record { readme = readme; repository = repository; rust_version = rust_version; version = version })))))
 
--- the package with all of these keys
+-- the package that has the values of all of these keys
 abbrev pub package_from : FirstKeys → MiddleKeys → LastKeys → Package
 package_from a b c = record {
   authors = a.authors;
@@ -136,7 +136,7 @@ package_from a b c = record {
   version = c.version;
 }
 
--- the keys of `[package]`, in byte order
+-- the table `[package]`, whose keys are read in byte order
 abbrev pub package_of : Members → Read Package
 package_of ms =
     first_keys ms >>= (λ first.

@@ -1,4 +1,4 @@
--- What each manifest that was read promises.
+-- What is true of each manifest that was read.
 use Rattle.std.specs.Prelude.{◌≡◌, ◌≢◌, true, false, List, map, codes, Option, Some, IfSome, IsSome}
 use Rattle.std.specs.Cmp.Lexicographic.{slice_cmp}
 use Rattle.std.specs.List.{AllByRecursion, AllZip}
@@ -30,23 +30,23 @@ use Rattle.pb_manifest_types.specs.declared.profile.ProfileOverride.{ProfileOver
 use Rattle.pb_manifest_types.specs.declared.target.Binary.{Binary}
 use Rattle.pb_manifest_types.specs.declared.target.Library.{Library}
 
--- a name with the letters of package names
+-- the name is not empty and has the letters of package names
 abbrev pub IsName : Text → Type 0
 IsName text = is_name text ≡ true
 
--- a name with the letters of feature names
+-- the name has the form of feature names
 abbrev pub IsFeatureName : Text → Type 0
 IsFeatureName text = is_feature_name text ≡ true
 
--- a path: a text without byte 0
+-- the text may be a path: it has no byte 0
 abbrev pub IsPath : Text → Type 0
 IsPath text = has_zero text ≡ false
 
--- keys in byte order without repeats
+-- the keys are in byte order without repeats
 abbrev pub Ascend : List Text → Type 0
 Ascend keys = IsStrictlySortedBy (slice_cmp nat_cmp) keys
 
--- entries in ascending order of their keys, each of its kind
+-- the entries are in ascending order of their keys, and each entry is as `Is` requires
 pub record AreEntries {A : Type 0} (key : A → Text) (Is : A → Type 0) (entries : List A) : Type 0 where
   pub order : Ascend (map key entries)
   pub each : AllByRecursion Is entries
@@ -93,18 +93,18 @@ pub record IsFeature (f : Feature) : Type 0 where
   pub name : IsFeatureName f.name
   pub items : AllByRecursion IsItem f.items
 
--- a value that a key may have: some written value means it there
+-- the key may have this value: it is the meaning of some written value at this key
 abbrev pub MayHave : ProfileKey → Setting → Type 0
 MayHave k value = (written : Setting) × (meaning_at k written ≡ Some value)
 
--- each key that is set has a value that it may have
+-- each key has either no value or a value that it may have
 abbrev pub AreProfileKeys : Said → Type 0
 AreProfileKeys values = AllZip (λ k value. IfSome value (MayHave k)) keys values
 
 abbrev pub IsOverride : ProfileOverride → Type 0
 IsOverride o = AreProfileKeys o.keys
 
--- a profile that is not built in: its name has the letters of package names, and it has `inherits`
+-- A custom profile has a name with the letters of package names, and has `inherits`.
 pub record IsCustom (p : Profile) : Type 0 where
   pub name : IsName p.name
   pub inherits : IsSome p.inherits
@@ -122,8 +122,8 @@ pub record IsWorkspaceTable (w : WorkspaceTable) : Type 0 where
   pub exclude : AllByRecursion IsPath w.exclude
   pub dependencies : AreEntries (λ (d : WorkspaceDependency). d.key) IsSharedDependency w.dependencies
 
--- A manifest: its names have valid letters, its paths have no byte 0, and its profiles are allowed.
--- The entries of each table are in byte order of their keys, without repeats.
+-- The names in a manifest have valid letters, its paths have no byte 0, and its profiles are
+-- allowed. The entries of each table are in byte order of their keys, without repeats.
 pub record IsManifest (m : Manifest) : Type 0 where
   pub found : IfSome m.package IsPackage
   pub library : IfSome m.library IsLibrary

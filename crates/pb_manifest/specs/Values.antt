@@ -1,6 +1,6 @@
--- The value at a key of a table, and which values are allowed there.
+-- Which value a table has at a key, and which values are allowed there.
 --
--- A definition that reads returns the value, or the first fault.
+-- Each definition that reads something returns its value, or the first fault.
 use Rattle.std.specs.Prelude.{List, [], ◌∷◌, Bool, true, false, if◌then◌else◌, Option, Some, None, Ok, Err, is_some, unwrap_or}
 use Rattle.toml.specs.Data.{Data, Items, no_items, item, Members, no_members, member, get_member, as_str, as_bool, as_table, as_array}
 use Rattle.pb_data.specs.UnlessOom as answers
@@ -16,11 +16,11 @@ use Rattle.pb_manifest_types.specs.declared.inherited.Inheritable.TheVariants.{W
 use Rattle.pb_manifest_types.specs.declared.inherited.Inherited.{Inherited}
 use Rattle.pb_manifest_types.specs.declared.inherited.Inherited.TheVariants as inherited
 
--- the result shows this answer, unless memory ran out
+-- the result shows exactly this answer, unless memory ran out
 abbrev pub GivesAs : {T A : Type 0} → (T → A) → Read T → Read A → Type 0
 GivesAs shows result answer = answers.UnlessOom OutOfMemory shows result answer
 
--- the value at a key
+-- the value that a table has at a key, if it has one
 abbrev pub value_at : Key → Members → Option Data
 value_at k ms = get_member (spelled k) ms
 
@@ -28,22 +28,22 @@ value_at k ms = get_member (spelled k) ms
 abbrev pub has : Key → Members → Bool
 has k ms = is_some (value_at k ms)
 
--- a value that may be left out
+-- the value that is read if something is written, and no value otherwise
 abbrev pub optional : {A : Type 0} → (Data → Read A) → Option Data → Read (Option A)
 optional read None = Ok None
 optional read (Some d) = read d >>= (λ x. Ok (Some x))
 
--- each value read in turn, up to the first fault
+-- the values that are read from the items one by one, or the first fault
 abbrev pub each : {A : Type 0} → (Data → Read A) → Items → Read (List A)
 each read no_items = Ok []
 each read (item d ds) = read d >>= (λ x. each read ds >>= (λ xs. Ok (x ∷ xs)))
 
--- each entry of a table read in turn, in byte order of the keys, up to the first fault
+-- the values that are read from the entries one by one, in byte order of the keys, or the first fault
 abbrev pub each_entry : {A : Type 0} → (Text → Data → Read A) → Members → Read (List A)
 each_entry read no_members = Ok []
 each_entry read (member name d ms) = read name d >>= (λ x. each_entry read ms >>= (λ xs. Ok (x ∷ xs)))
 
--- a text, a truth value, a list, or a table
+-- The value must be a text. The next three definitions require a truth value, a list or a table.
 abbrev pub text_of : Key → Data → Read Text
 text_of k d = some_or (BadKind k) (as_str d)
 
@@ -56,21 +56,21 @@ array_of k d = some_or (BadKind k) (as_array d)
 abbrev pub table_of : Key → Data → Read Members
 table_of k d = some_or (BadKind k) (as_table d)
 
--- a text without byte 0
+-- The text must have no byte 0. A path must be such a text.
 abbrev pub zero_free : Key → Text → Read Text
 zero_free k text = if has_zero text then Err (BadKind k) else Ok text
 
 abbrev pub path_of : Key → Data → Read Text
 path_of k d = text_of k d >>= zero_free k
 
--- a list of texts, or of paths
+-- The value must be a list of texts. In the next definition the value must be a list of paths.
 abbrev pub texts_of : Key → Data → Read (List Text)
 texts_of k d = array_of k d >>= each (text_of k)
 
 abbrev pub paths_of : Key → Data → Read (List Text)
 paths_of k d = array_of k d >>= each (path_of k)
 
--- the value at a key, if there is one
+-- The value at a key, which must be of the required kind. The key may be missing.
 abbrev pub text_at : Key → Members → Read (Option Text)
 text_at k ms = optional (text_of k) (value_at k ms)
 
@@ -83,7 +83,7 @@ path_at k ms = optional (path_of k) (value_at k ms)
 abbrev pub texts_at : Key → Members → Read (Option (List Text))
 texts_at k ms = optional (texts_of k) (value_at k ms)
 
--- the list, or the empty list if none is written
+-- the list, or the empty list if the key is missing
 abbrev pub listed : {A : Type 0} → Option (List A) → List A
 listed found = unwrap_or found []
 
@@ -96,7 +96,7 @@ paths_at k ms = optional (paths_of k) (value_at k ms)
 abbrev pub table_at : Key → Members → Read (Option Members)
 table_at k ms = optional (table_of k) (value_at k ms)
 
--- the entries of the table at a key, none if there is no table
+-- the entries of a table that may be missing; without a table there are no entries
 abbrev pub entries_of : {A : Type 0} → (Text → Data → Read A) → Option Members → Read (List A)
 entries_of read None = Ok []
 entries_of read (Some ms) = each_entry read ms
@@ -117,11 +117,11 @@ abbrev pub keys_in : Option Members → List Text
 keys_in None = []
 keys_in (Some ms) = keys_of ms
 
--- the keys of the table at a key, none if there is no table
+-- the keys of the table at a key, or none if there is no table
 abbrev pub keys_at : Key → Members → List Text
 keys_at k ms = keys_in (table_in (value_at k ms))
 
--- the value is present and true
+-- the value is written and true
 abbrev pub is_true : Option Bool → Bool
 is_true None = false
 is_true (Some b) = b
@@ -134,12 +134,13 @@ truth_in (Some d) = as_bool d
 abbrev pub takes_workspace : Members → Bool
 takes_workspace ms = is_true (truth_in (value_at key.Workspace ms))
 
--- whether a value is inherited from the workspace: a table must contain `workspace = true`
+-- Says whether a value is inherited from the workspace. If the value is a table, it must contain
+-- `workspace = true`.
 abbrev pub is_taken : Key → Option Members → Read Bool
 is_taken k None = Ok false
 is_taken k (Some ms) = if takes_workspace ms then Ok true else Err (BadKind k)
 
--- a written value, or `{ workspace = true }` (The Cargo Book, Workspaces)
+-- a value that is either written or, by `{ workspace = true }`, inherited (The Cargo Book, Workspaces)
 abbrev pub written_or_taken : {A : Type 0} → Key → (Data → Read A) → Data → Read (Inheritable A)
 written_or_taken k read d = is_taken k (as_table d) >>= (λ taken. if taken then Ok Workspace else (read d >>= (λ x. Ok (Written x))))
 
@@ -147,7 +148,7 @@ abbrev pub inheritable_in : {A : Type 0} → Key → (Data → Read A) → Optio
 inheritable_in k read None = Ok Absent
 inheritable_in k read (Some d) = written_or_taken k read d
 
--- the value at a key whose value may be inherited from the workspace
+-- the value at a key, if a package may inherit this value from the workspace
 abbrev pub inheritable_at : {A : Type 0} → Key → (Data → Read A) → Members → Read (Inheritable A)
 inheritable_at k read ms = inheritable_in k read (value_at k ms)
 
@@ -157,7 +158,7 @@ inheritable_text_at k ms = inheritable_at k (text_of k) ms
 abbrev pub inheritable_texts_at : Key → Members → Read (Inheritable (List Text))
 inheritable_texts_at k ms = inheritable_at k (texts_of k) ms
 
--- this value if none is written
+-- the value, or the default if neither a value nor `{ workspace = true }` is written
 abbrev pub or_default : {A : Type 0} → A → Inheritable A → Inherited A
 or_default default (Written x) = inherited.Written x
 or_default default Workspace = inherited.Workspace

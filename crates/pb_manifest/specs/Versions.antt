@@ -1,4 +1,4 @@
--- The values of the key `version` of a package, of a workspace, and of a dependency.
+-- How the key `version` is read in a package, in a workspace and in a dependency.
 use Rattle.std.specs.Prelude.{Option, Ok, codes}
 use Rattle.toml.specs.Data.{Data, Members}
 use Rattle.pb_data.specs.UnlessOom.{◌>>=◌}
@@ -20,7 +20,7 @@ version_at ms = optional version_of (value_at key.Version ms)
 abbrev pub requirement_at : Members → Read (Option Text)
 requirement_at ms = optional requirement_of (value_at key.Version ms)
 
--- the version of a package without a written one: 0.0.0
+-- the version of a package that writes no version
 abbrev pub zero : Text
 zero = codes "0.0.0"
 

@@ -1,4 +1,4 @@
--- The table `[workspace]` (The Cargo Book, Workspaces).
+-- How the table `[workspace]` is read (The Cargo Book, Workspaces).
 use Rattle.std.specs.Prelude.{List, Option, Some, None, Ok}
 use Rattle.toml.specs.Data.{Members}
 use Rattle.pb_data.specs.UnlessOom.{◌>>=◌}
@@ -14,7 +14,7 @@ use Rattle.pb_manifest_types.specs.declared.manifest.WorkspaceTable.{WorkspaceTa
 use Rattle.pb_manifest.specs.declared.workspace.FirstKeys.{FirstKeys}
 use Rattle.pb_manifest.specs.declared.workspace.LastKeys.{LastKeys}
 
--- `authors` to `license`
+-- the values of the keys of `[workspace.package]` from `authors` to `license`, in byte order
 abbrev pub first_keys : Members → Read FirstKeys
 first_keys ms =
     texts_at key.Authors ms >>= (λ authors.
@@ -24,7 +24,7 @@ first_keys ms =
     text_at key.License ms >>= (λ license.
     Ok record { authors = authors; description = description; edition = edition; homepage = homepage; license = license })))))
 
--- `license-file` to `version`
+-- the values of the keys of `[workspace.package]` from `license-file` to `version`, in byte order
 abbrev pub last_keys : Members → Read LastKeys
 last_keys ms =
     text_at key.LicenseFile ms >>= (λ license_file.
@@ -34,7 +34,7 @@ last_keys ms =
     version_at ms >>= (λ version.
     Ok record { license_file = license_file; readme = readme; repository = repository; rust_version = rust_version; version = version })))))
 
--- the keys of `[workspace.package]`, in byte order
+-- the table `[workspace.package]`, whose keys are read in byte order
 abbrev pub workspace_package_of : Members → Read WorkspacePackage
 workspace_package_of ms =
     first_keys ms >>= (λ a.
@@ -59,11 +59,11 @@ workspace_package_in (Some ms) = workspace_package_of ms >>= (λ found. Ok (Some
 abbrev pub workspace_package_at : Members → Read (Option WorkspacePackage)
 workspace_package_at ms = table_at key.Package ms >>= workspace_package_in
 
--- a list of paths, empty if none is written
+-- the list of paths at a key, or the empty list if the key is missing
 abbrev pub listed_paths_at : Key → Members → Read (List Text)
 listed_paths_at k ms = paths_at k ms >>= (λ found. Ok (listed found))
 
--- the keys of `[workspace]`, in byte order
+-- the table `[workspace]`, whose keys are read in byte order
 abbrev pub workspace_of : Members → Read WorkspaceTable
 workspace_of ms =
     paths_at key.DefaultMembers ms >>= (λ default_members.

@@ -1,5 +1,5 @@
--- The meaning of the entries of `[dependencies]`, `[build-dependencies]` and `[workspace.dependencies]`, key by key
--- (The Cargo Book, Specifying Dependencies, Workspaces).
+-- What the entries of `[dependencies]`, `[build-dependencies]` and `[workspace.dependencies]` mean,
+-- key by key (The Cargo Book, Specifying Dependencies, Workspaces).
 use Rattle.std.specs.Prelude.{◌≡◌, ◌⊎◌, ℕ, Bool, true, false, List, [], ◌∷◌, codes, Option, Some, None}
 use Rattle.std.specs.List.{AllByRecursion}
 use Rattle.toml.specs.Data.{Data, string, boolean, Members, get_member}
@@ -14,7 +14,8 @@ use Rattle.pb_manifest_types.specs.declared.dependency.WorkspaceSource.{Workspac
 use Rattle.pb_manifest_types.specs.declared.dependency.WorkspaceSource.TheVariants as shared
 use Rattle.pb_manifest_laws.specs.Values.{IsPath, Holds, HoldsValid, HoldsOr, Lists, OfTable}
 
--- the package at a path, whose feature `default` is requested unless `default-features = false`
+-- An entry's keys name a package at a path. The package's feature `default` is requested unless the
+-- entry says `default-features = false`.
 pub record IsPathSource (ms : Members) (s : PathSource) : Type 0 where
   pub path : get_member (codes "path") ms ≡ Some (string s.path)
   pub path_is : IsPath s.path
@@ -22,19 +23,20 @@ pub record IsPathSource (ms : Members) (s : PathSource) : Type 0 where
   pub version : HoldsValid (λ text. is_requirement text ≡ true) string (get_member (codes "version") ms) s.version
   pub default_features : HoldsOr true boolean (get_member (codes "default-features") ms) s.default_features
 
--- the values of the keys `path`, `package` and `version` have the right kind (`version` is a
--- requirement), but have no effect
+-- The keys `path`, `package` and `version` may be there, but have no effect. Each value must be of
+-- the right kind. That of `version` must be a requirement.
 abbrev pub HasIdleKeys : Members → Type 0
 HasIdleKeys ms = ((path : Option (List ℕ)) × HoldsValid IsPath string (get_member (codes "path") ms) path) × ((name : Option (List ℕ)) × Holds string (get_member (codes "package") ms) name)
     × ((version : Option (List ℕ)) × HoldsValid (λ text. is_requirement text ≡ true) string (get_member (codes "version") ms) version)
 
--- the source of a package's entry is a path, or `workspace = true`; in the latter case,
--- `default-features = true` requests the feature `default`
+-- The source of a package's entry is a path, or the workspace if the entry says `workspace = true`.
+-- With the workspace, `default-features = true` requests the feature `default`.
 abbrev pub IsSource : Members → Source → Type 0
 IsSource ms (own.Workspace default) = (get_member (codes "workspace") ms ≡ Some (boolean true)) × HoldsOr false boolean (get_member (codes "default-features") ms) default × HasIdleKeys ms
 IsSource ms (own.Path s) = (get_member (codes "workspace") ms ≡ None) × IsPathSource ms s
 
--- an entry of `[dependencies]` or `[build-dependencies]`: a table without `git` and `registry`
+-- an entry of `[dependencies]` or `[build-dependencies]` means this dependency; the entry is a
+-- table without `git` and `registry`
 pub record IsDependencyEntry (name : List ℕ) (ms : Members) (x : Dependency) : Type 0 where
   pub key : x.key ≡ name
   pub letters : is_name name ≡ true
@@ -43,14 +45,15 @@ pub record IsDependencyEntry (name : List ℕ) (ms : Members) (x : Dependency) :
   pub features : Lists string (get_member (codes "features") ms) x.features
   pub unsupported : AllByRecursion (λ key. get_member key ms ≡ None) (codes "git" ∷ codes "registry" ∷ [])
 
--- The source of an entry of `[workspace.dependencies]`: a path, or unsupported.
--- An entry without a path, or with `git` or `registry`, is unsupported, and is refused only if a package inherits it.
+-- The source of an entry of `[workspace.dependencies]`. Without a path, or with `git` or
+-- `registry`, the source is unsupported. An unsupported source is refused only if a package
+-- inherits the entry.
 abbrev pub IsSharedSource : Members → WorkspaceSource → Type 0
 IsSharedSource ms (shared.Path s) = IsPathSource ms s × (get_member (codes "git") ms ≡ None) × (get_member (codes "registry") ms ≡ None)
 IsSharedSource ms shared.Unsupported =
     HasIdleKeys ms × ((default : Option Bool) × Holds boolean (get_member (codes "default-features") ms) default) × (get_member (codes "git") ms ≡ None → get_member (codes "registry") ms ≡ None → get_member (codes "path") ms ≡ None)
 
--- an entry of `[workspace.dependencies]` that is a table
+-- an entry of `[workspace.dependencies]` that is a table means this dependency
 pub record IsSharedTable (name : List ℕ) (ms : Members) (x : WorkspaceDependency) : Type 0 where
   pub key : x.key ≡ name
   pub letters : is_name name ≡ true
@@ -59,7 +62,7 @@ pub record IsSharedTable (name : List ℕ) (ms : Members) (x : WorkspaceDependen
   pub optional : (optional : Option Bool) × Holds boolean (get_member (codes "optional") ms) optional
   pub taken : (get_member (codes "workspace") ms ≡ None) ⊎ (get_member (codes "workspace") ms ≡ Some (boolean true))
 
--- an entry of `[workspace.dependencies]` that is only a version, and therefore has no path
+-- an entry of `[workspace.dependencies]` that is only a version means a dependency without a path
 abbrev pub IsSharedVersion : List ℕ → Data → WorkspaceDependency → Type 0
 IsSharedVersion name d x = (is_name name ≡ true) × ((text : List ℕ) × (d ≡ string text) × (is_requirement text ≡ true)) × (x ≡ record { key = name; source = shared.Unsupported; features = [] })
 

@@ -1,4 +1,4 @@
--- The meaning of a whole manifest, table by table (The Cargo Book, Manifest Format).
+-- What a whole manifest means, table by table (The Cargo Book, Manifest Format).
 use Rattle.std.specs.Prelude.{◌≡◌, ◌≤◌, ℕ, true, is_some, length, codes, List, [], ◌∷◌, Some, None}
 use Rattle.std.specs.List.{AllByRecursion}
 use Rattle.std.specs.Option.{option_and_then, option_map_or}
@@ -14,7 +14,8 @@ use Rattle.pb_manifest_laws.specs.Profiles.{IsProfileEntry}
 use Rattle.pb_manifest_laws.specs.Values.{OfTable, IsTableAt, AreTablesAt, AreEntriesAt}
 use Rattle.pb_manifest_laws.specs.Workspaces.{IsWorkspaceTable}
 
--- a document is a manifest: it has `[package]` or `[workspace]`, and no unsupported table
+-- A document means this manifest. The document has `[package]` or `[workspace]`, and no table that
+-- we do not support.
 pub record IsDocument (ms : Members) (m : Manifest) : Type 0 where
   pub unsupported : AllByRecursion (λ key. get_member key ms ≡ None) (codes "patch" ∷ codes "replace" ∷ codes "target" ∷ [])
   pub own : IsTableAt IsPackageTable (get_member (codes "package") ms) m.package
@@ -28,7 +29,8 @@ pub record IsDocument (ms : Members) (m : Manifest) : Type 0 where
   pub profiles : AreEntriesAt (λ name. OfTable (IsProfileEntry name)) (get_member (codes "profile") ms) m.profiles
   pub workspace : IsTableAt IsWorkspaceTable (get_member (codes "workspace") ms) m.workspace
 
--- the bytes of a manifest: at most 1 MiB of UTF-8, which `toml` reads as the document of this manifest
+-- Bytes mean this manifest. The bytes are at most 1 MiB of UTF-8, and `toml` reads them as a
+-- document that means the manifest.
 pub record AreManifest (bytes : List ℕ) (m : Manifest) : Type 0 where
   pub few : length bytes ≤ max_manifest_bytes
   pub text : is_utf8 bytes ≡ true

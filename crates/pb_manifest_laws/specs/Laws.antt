@@ -1,4 +1,4 @@
--- The laws: a reading returns what the table means, and nothing else.
+-- Laws: reading a table returns exactly what the table means.
 use Rattle.std.specs.Prelude.{◌≡◌, ◌↔◌, ◌≤◌, ℕ, Bool, true, List, length, Ok}
 use Rattle.std.specs.Str.{is_utf8}
 use Rattle.toml.specs.Data.{Members}
@@ -23,7 +23,7 @@ use Rattle.pb_manifest_laws.specs.Workspaces.{IsWorkspaceTable}
 use Rattle.pb_manifest_laws.specs.Packages.{IsPackageTable, IsLibraryTable, IsBinaryTable, IsFeatureEntry}
 use Rattle.pb_manifest_laws.specs.Written.{written}
 
--- a reading returns a value if and only if the table means that value
+-- reading returns a value if and only if the table means this value
 abbrev pub Reads : {M A : Type 0} → (M → Read A) → (M → A → Type 0) → Type 0
 Reads {M} {A} read Says = (ms : M) (x : A) → (read ms ≡ Ok x) ↔ Says ms x
 
@@ -39,7 +39,7 @@ ReadsBinaries = Reads binary_keys IsBinaryTable
 abbrev pub ReadsFeatures : Type 0
 ReadsFeatures = (name : List ℕ) → Reads (feature_of name) (IsFeatureEntry name)
 
--- a reading of an entry returns what the entry means, for both tables of dependencies
+-- reading an entry of either table of dependencies returns what the entry means
 abbrev pub ReadsDependencies : Type 0
 ReadsDependencies = (k : Key) (name : List ℕ) → Reads (dependency_of k name) (OfTable (IsDependencyEntry name))
 
@@ -55,7 +55,7 @@ ReadsSharedDependencies = (name : List ℕ) → Reads (shared_dependency_of name
 abbrev pub ReadsWorkspaces : Type 0
 ReadsWorkspaces = Reads workspace_of IsWorkspaceTable
 
--- a reading returns what it means, for the whole document and for its bytes
+-- Reading a document returns what the document means. `ReadsManifests` is this law for the bytes of a manifest.
 abbrev pub ReadsDocuments : Type 0
 ReadsDocuments = Reads document_of IsDocument
 
@@ -66,10 +66,11 @@ ReadsManifests = (bytes : List ℕ) (m : Manifest) → (manifest_of bytes ≡ Ok
 abbrev pub DocumentsSayOne : Type 0
 DocumentsSayOne = (ms : Members) (m n : Manifest) → IsDocument ms m → IsDocument ms n → m ≡ n
 
--- the written form of a manifest that was read is read as the same manifest
+-- if a manifest was read from a document, its written form is read as the same manifest
 abbrev pub ReadsWhatIsWritten : Type 0
 ReadsWhatIsWritten = (ms : Members) (m : Manifest) → document_of ms ≡ Ok m → document_of (written m) ≡ Ok m
 
--- a text that prints the written form as `toml` does is read as the same manifest, if it is within the size limit
+-- If the written form of a manifest is printed as `toml` prints it, the text is read as the same
+-- manifest. The text must be within the size limit.
 abbrev pub ReadsWhatIsPrinted : Type 0
 ReadsWhatIsPrinted = (bytes : List ℕ) (m : Manifest) → manifest_of bytes ≡ Ok m → (pretty : Bool) (text : List ℕ) → IsDocumentText pretty (written m) text → is_utf8 text ≡ true → length text ≤ max_manifest_bytes → manifest_of text ≡ Ok m

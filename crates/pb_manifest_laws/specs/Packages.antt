@@ -1,5 +1,5 @@
--- The meaning of `[package]`, `[lib]`, `[[bin]]` and `[features]`, key by key
--- (The Cargo Book, Manifest Format, Cargo Targets, Features).
+-- What `[package]`, `[lib]`, `[[bin]]` and `[features]` mean, key by key (The Cargo Book, Manifest
+-- Format, Cargo Targets, Features).
 use Rattle.std.specs.Prelude.{◌≡◌, ℕ, true, false, List, [], ◌∷◌, map, codes, Option, Some, None, Contains}
 use Rattle.std.specs.List.{AllByRecursion}
 use Rattle.toml.specs.Data.{Data, string, boolean, array, Members, get_member}
@@ -28,7 +28,7 @@ use Rattle.pb_manifest_laws.specs.Values.{texts, IsPath, Holds, HoldsValid, Hold
 abbrev pub edition : Edition → Data
 edition e = string (edition_text e)
 
--- `true` for the usual file, `false` for none, or a path
+-- the value of `build`: `true` means the file `build.rs`, `false` means no build script, and a text is a path
 abbrev pub IsBuild : Option Data → Build → Type 0
 IsBuild found build.Discovered = found ≡ None
 IsBuild found build.Standard = found ≡ Some (boolean true)
@@ -40,21 +40,21 @@ readme_value readme.Standard = boolean true
 readme_value readme.Never = boolean false
 readme_value (readme.At path) = string path
 
--- a written version is a version of Semantic Versioning
+-- if a version is written, it is a version of Semantic Versioning
 abbrev pub IsVersion : Inherited (List ℕ) → Type 0
 IsVersion (Written text) = is_version text ≡ true
 IsVersion Workspace = Unit {0}
 
--- if a resolver is written, it is `"2"` or `"3"`
+-- no resolver is written, or it is `"2"` or `"3"`
 abbrev pub IsResolver : Option Data → Type 0
 IsResolver found = Contains (None ∷ Some (string (codes "2")) ∷ Some (string (codes "3")) ∷ []) found
 
--- the texts in which a package describes itself to people, by their keys
+-- the texts in which a package describes itself to people, each with its key
 abbrev pub own_texts : Package → List (List ℕ × Inheritable (List ℕ))
 own_texts p = (codes "description", p.description) ∷ (codes "homepage", p.homepage) ∷ (codes "license", p.license) ∷ (codes "license-file", p.license_file)
     ∷ (codes "repository", p.repository) ∷ (codes "rust-version", p.rust_version) ∷ []
 
--- `[package]`
+-- a table `[package]` means this package
 pub record IsPackageTable (ms : Members) (p : Package) : Type 0 where
   pub authors : HoldsOrTakes texts (get_member (codes "authors") ms) p.authors
   pub autobins : HoldsOr true boolean (get_member (codes "autobins") ms) p.autobins
@@ -69,21 +69,22 @@ pub record IsPackageTable (ms : Members) (p : Package) : Type 0 where
   pub version : HasOrTakes (codes "0.0.0") string (get_member (codes "version") ms) p.version
   pub version_is : IsVersion p.version
 
--- `[lib]`; `proc-macro = true` is refused
+-- a table `[lib]` without `proc-macro = true` means this library
 pub record IsLibraryTable (ms : Members) (l : Library) : Type 0 where
   pub crate_types : Lists (λ t. string (crate_type_text t)) (get_member (codes "crate-type") ms) l.crate_types
   pub name : HoldsValid (λ name. is_crate_name name ≡ true) string (get_member (codes "name") ms) l.name
   pub path : HoldsValid IsPath string (get_member (codes "path") ms) l.path
   pub no_macro : HoldsOr false boolean (get_member (codes "proc-macro") ms) false
 
--- a `[[bin]]`
+-- a table `[[bin]]` means this binary
 pub record IsBinaryTable (ms : Members) (b : Binary) : Type 0 where
   pub name : get_member (codes "name") ms ≡ Some (string b.name)
   pub letters : is_name b.name ≡ true
   pub path : HoldsValid IsPath string (get_member (codes "path") ms) b.path
   pub required_features : Lists string (get_member (codes "required-features") ms) b.required_features
 
--- an entry of `[features]`: a list of items, each spelled `F`, `dep:N`, `N/F` or `N?/F`
+-- An entry of `[features]` means this feature. The entry is a list of items, each of the form `F`,
+-- `dep:N`, `N/F` or `N?/F`.
 pub record IsFeatureEntry (name : List ℕ) (d : Data) (f : Feature) : Type 0 where
   pub name_is : f.name ≡ name
   pub letters : is_feature_name name ≡ true

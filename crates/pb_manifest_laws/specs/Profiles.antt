@@ -1,4 +1,4 @@
--- The meaning of `[profile.*]`, key by key (The Cargo Book, Profiles).
+-- What the tables `[profile.*]` mean, key by key (The Cargo Book, Profiles).
 use Rattle.std.specs.Prelude.{◌≡◌, ◌&&◌, if◌then◌else◌, nat_le, ℕ, pos, true, false, List, [], ◌∷◌, codes, length, Option, Contains}
 use Rattle.std.specs.List.{AllZip}
 use Rattle.std.specs.Option.{option_to_list}
@@ -15,7 +15,7 @@ use Rattle.pb_manifest_types.specs.declared.profile.ProfileOverride.{ProfileOver
 use Rattle.pb_manifest_types.specs.declared.profile.Profile.{Profile}
 use Rattle.pb_manifest_laws.specs.Values.{Holds, OfTable, IsTableAt, AreEntriesAt}
 
--- the name of each key
+-- the name of a key, as a manifest spells it
 abbrev pub name_of : ProfileKey → List ℕ
 name_of key.CodegenUnits = codes "codegen-units"
 name_of key.Debug = codes "debug"
@@ -27,8 +27,8 @@ name_of key.Panic = codes "panic"
 name_of key.Rpath = codes "rpath"
 name_of key.Strip = codes "strip"
 
--- the forms in which each value of a key may be written. This repeats the table of keys the other
--- way round: a wrong row of one table is no row of the other
+-- All written forms of a value that a key may have. This is the table of keys the other way round.
+-- So a wrong row of one table has no counterpart in the other.
 abbrev pub forms : ProfileKey → Setting → List Data
 forms key.CodegenUnits (Number n) = if nat_le 1 n && nat_le n 65536 then integer (pos n) ∷ [] else []
 forms key.Debug (Word word.Zero) = boolean false ∷ integer (pos 0) ∷ string (codes "none") ∷ []
@@ -56,21 +56,22 @@ forms key.Strip (Word word.DebugInfo) = string (codes "debuginfo") ∷ []
 forms key.Strip (Word word.Symbols) = boolean true ∷ string (codes "symbols") ∷ []
 forms _ _ = []
 
--- a key has a value in one of its forms; no value is read if and only if the key is missing
+-- If the key is there, its written value is one of the forms of the value that was read. No value
+-- is read if and only if the key is missing.
 abbrev pub HoldsOne : {A : Type 0} → (A → List Data) → Option Data → Option A → Type 0
 HoldsOne forms found value = AllZip (λ d x. Contains (forms x) d) (option_to_list found) (option_to_list value)
 
--- the settings of a profile or an override: one value, or none, for each key
+-- the table means these settings: at most one value for each key
 pub record AreSettings (ms : Members) (said : Said) : Type 0 where
   pub one_each : length said ≡ length keys
   pub each : (k : ProfileKey) → HoldsOne (forms k) (get_member (name_of k) ms) (says said k)
 
--- an override for a package, by its name
+-- an override for the package with this name means these settings
 pub record IsOverrideEntry (name : List ℕ) (ms : Members) (o : ProfileOverride) : Type 0 where
   pub name_is : o.name ≡ name
   pub keys : AreSettings ms o.keys
 
--- a profile; if it is not built in, it has an allowed name, and `inherits`
+-- A table means this profile. If the profile is not built in, it has an allowed name, and it has `inherits`.
 pub record IsProfileEntry (name : List ℕ) (ms : Members) (p : Profile) : Type 0 where
   pub name_is : p.name ≡ name
   pub keys : AreSettings ms p.keys

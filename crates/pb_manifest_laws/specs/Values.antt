@@ -13,60 +13,62 @@ use Rattle.pb_place_types.specs.Paths.{has_byte_0}
 abbrev pub texts : List (List ℕ) → Data
 texts xs = array (items_of (map string xs))
 
--- a path: a text without byte 0
+-- the text may be a path: it has no byte 0
 abbrev pub IsPath : List ℕ → Type 0
 IsPath text = has_byte_0 text ≡ false
 
--- an optional key has this value in this form; no value is read if and only if the key is missing
+-- If an optional key is there, this value is written at it. No value is read if and only if the key is missing.
 abbrev pub Holds : {A : Type 0} → (A → Data) → Option Data → Option A → Type 0
 Holds write found value = found ≡ option_map write value
 
--- an optional key has this value in this form, and the value is valid
+-- as `Holds`, and the value is valid if there is one
 abbrev pub HoldsValid : {A : Type 0} → (A → Type 0) → (A → Data) → Option Data → Option A → Type 0
 HoldsValid Valid write found value = Holds write found value × IfSome value Valid
 
--- a key has this value; if the key is missing, the value is the default
+-- this value is written at a key, or the key is missing and the value is the default
 abbrev pub HoldsOr : {A : Type 0} → A → (A → Data) → Option Data → A → Type 0
 HoldsOr default write None value = value ≡ default
 HoldsOr default write (Some d) value = d ≡ write value
 
--- a key has this list; if the key is missing, the list is empty
+-- this list is written at a key, or the key is missing and the list is empty
 abbrev pub Lists : {A : Type 0} → (A → Data) → Option Data → List A → Type 0
 Lists write = HoldsOr [] (λ xs. array (items_of (map write xs)))
 
--- a value is a table with this meaning
+-- the written value is a table that means `x`
 abbrev pub OfTable : {A : Type 0} → (Members → A → Type 0) → Data → A → Type 0
 OfTable Is d x = (inner : Members) × (d ≡ table inner) × Is inner x
 
--- a table with `workspace = true`
+-- the written value is a table with `workspace = true`
 abbrev pub TakesWorkspace : Option Data → Type 0
 TakesWorkspace found = (inner : Members) × (found ≡ Some (table inner)) × (get_member (codes "workspace") inner ≡ Some (boolean true))
 
--- a key has its value, has `{ workspace = true }`, or is missing
+-- this value is written at a key, or `{ workspace = true }` is, or the key is missing
 abbrev pub HoldsOrTakes : {A : Type 0} → (A → Data) → Option Data → Inheritable A → Type 0
 HoldsOrTakes write found (Written x) = found ≡ Some (write x)
 HoldsOrTakes write found Workspace = TakesWorkspace found
 HoldsOrTakes write found Absent = found ≡ None
 
--- a key has its value or `{ workspace = true }`; if the key is missing, the value is the default
+-- This value or `{ workspace = true }` is written at a key. If the key is missing, the value is the default.
 abbrev pub HasOrTakes : {A : Type 0} → A → (A → Data) → Option Data → Inherited A → Type 0
 HasOrTakes default write found (inherited.Written x) = HoldsOr default write found x
 HasOrTakes default write found inherited.Workspace = TakesWorkspace found
 
--- if a key has a value, it is a table with this meaning; if the key is missing, no value is read
+-- If the key is there, its value is a table that means the value that was read. If the key is
+-- missing, no value is read.
 abbrev pub IsTableAt : {A : Type 0} → (Members → A → Type 0) → Option Data → Option A → Type 0
 IsTableAt Is found value = AllZip (OfTable Is) (option_to_list found) (option_to_list value)
 
--- if a key has a value, it is an array of tables, and each table is read as one item, in order; if
--- the key is missing, there are no items
+-- If the key is there, its value is an array of tables. Each table means one item, in order. If the
+-- key is missing, there are no items.
 abbrev pub AreTablesAt : {A : Type 0} → (Members → A → Type 0) → Option Data → List A → Type 0
 AreTablesAt Is found xs = (tables : List Data) × HoldsOr [] (λ ds. array (items_of ds)) found tables × AllZip (OfTable Is) tables xs
 
--- the members with these entries
+-- the members of a table with these entries
 abbrev pub members_of : List (List ℕ × Data) → Members
 members_of [] = no_members
 members_of (entry ∷ entries) = member entry.0 entry.1 (members_of entries)
 
--- a table whose keys the user chooses is read entry by entry and in order; if the key is missing, there are no entries
+-- The table at a key has keys that the user chooses. Each entry means one item, in order. If the
+-- key is missing, there are no items.
 abbrev pub AreEntriesAt : {A : Type 0} → (List ℕ → Data → A → Type 0) → Option Data → List A → Type 0
 AreEntriesAt Is found xs = (entries : List (List ℕ × Data)) × HoldsOr [] (λ es. table (members_of es)) found entries × AllZip (λ (entry : List ℕ × Data) x. Is entry.0 entry.1 x) entries xs

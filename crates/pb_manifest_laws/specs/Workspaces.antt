@@ -1,4 +1,4 @@
--- The meaning of `[workspace]` and `[workspace.package]`, key by key (The Cargo Book, Workspaces).
+-- What `[workspace]` and `[workspace.package]` mean, key by key (The Cargo Book, Workspaces).
 use Rattle.std.specs.Prelude.{◌≡◌, ℕ, true, codes, List, [], ◌∷◌, Option}
 use Rattle.std.specs.List.{AllByRecursion}
 use Rattle.toml.specs.Data.{string, Members, get_member}
@@ -9,12 +9,12 @@ use Rattle.pb_manifest_laws.specs.Dependencies.{IsSharedEntry}
 use Rattle.pb_manifest_laws.specs.Packages.{edition, readme_value, IsResolver}
 use Rattle.pb_manifest_laws.specs.Values.{texts, IsPath, Holds, HoldsValid, Lists, IsTableAt, AreEntriesAt}
 
--- the texts that members may inherit, by their keys
+-- the texts that members may inherit, each with its key
 abbrev pub shared_texts : WorkspacePackage → List (List ℕ × Option (List ℕ))
 shared_texts w = (codes "description", w.description) ∷ (codes "homepage", w.homepage) ∷ (codes "license", w.license) ∷ (codes "license-file", w.license_file)
     ∷ (codes "repository", w.repository) ∷ (codes "rust-version", w.rust_version) ∷ []
 
--- `[workspace.package]`
+-- a table `[workspace.package]` means these keys
 pub record IsInheritedTable (ms : Members) (w : WorkspacePackage) : Type 0 where
   pub authors : Holds texts (get_member (codes "authors") ms) w.authors
   pub edition_is : Holds edition (get_member (codes "edition") ms) w.edition
@@ -22,7 +22,7 @@ pub record IsInheritedTable (ms : Members) (w : WorkspacePackage) : Type 0 where
   pub texts_are : AllByRecursion (λ (row : List ℕ × Option (List ℕ)). Holds string (get_member row.0 ms) row.1) (shared_texts w)
   pub version : HoldsValid (λ text. is_version text ≡ true) string (get_member (codes "version") ms) w.version
 
--- `[workspace]`
+-- a table `[workspace]` means this workspace
 pub record IsWorkspaceTable (ms : Members) (w : WorkspaceTable) : Type 0 where
   pub members : Lists string (get_member (codes "members") ms) w.members
   pub members_are : AllByRecursion IsPath w.members

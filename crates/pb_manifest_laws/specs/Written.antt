@@ -1,5 +1,5 @@
--- The written form of a manifest, table by table: each key with its value, in byte order;
--- keys that were left out stay left out.
+-- How a manifest is written, table by table. Each key is written with its value, in byte order. A
+-- key that was left out stays left out.
 use Rattle.std.specs.Prelude.{ℕ, Bool, pos, true, false, if◌then◌else◌, List, [], ◌∷◌, map, codes, Option, Some, None}
 use Rattle.std.specs.Cmp.Lexicographic.{slice_cmp}
 use Rattle.std.specs.List.{slice_get}
@@ -37,7 +37,7 @@ use Rattle.pb_manifest_laws.specs.Packages.{edition, readme_value}
 use Rattle.pb_manifest_laws.specs.Profiles.{name_of, forms}
 use Rattle.pb_manifest_laws.specs.Values.{texts, members_of}
 
--- the keys of a table, each with its value if it has one
+-- the keys of a table, each with the value that is written for it if there is one
 abbrev pub Rows : Type 0
 Rows = List (List ℕ × Option Data)
 
@@ -52,14 +52,16 @@ members_with (row ∷ rows) = with_key row.0 row.1 (members_with rows)
 abbrev pub table_with : Rows → Data
 table_with rows = table (members_with rows)
 
--- a list, or a table of entries by their keys
+-- The value that is written for a list. `entries` is what is written for a table of entries: each
+-- value with its key.
 abbrev pub list : {A : Type 0} → (A → Data) → List A → Option Data
 list write xs = Some (array (items_of (map write xs)))
 
 abbrev pub entries : {A : Type 0} → (A → List ℕ) → (A → Data) → List A → Option Data
 entries key write xs = Some (table (members_of (map (λ x. (key x, write x)) xs)))
 
--- `{ workspace = true }`, or the value
+-- The value `{ workspace = true }`. The next two definitions write it for a value that is
+-- inherited, and the value itself otherwise.
 abbrev pub taken : Data
 taken = table (member (codes "workspace") (boolean true) no_members)
 
@@ -104,7 +106,7 @@ dependency_rows (own.Path s) features optional =
 abbrev pub dependency_entry : Dependency → Data
 dependency_entry d = table_with (dependency_rows d.source d.features d.optional)
 
--- an entry without a supported path is written without a path
+-- what is written for an entry of `[workspace.dependencies]`; no path is written if its source is unsupported
 abbrev pub shared_rows : WorkspaceSource → List (List ℕ) → Rows
 shared_rows shared.Unsupported features = (codes "features", list string features) ∷ []
 shared_rows (shared.Path s) features =
@@ -114,21 +116,20 @@ shared_rows (shared.Path s) features =
 abbrev pub shared_entry : WorkspaceDependency → Data
 shared_entry d = table_with (shared_rows d.source d.features)
 
--- the first of the forms of a value, if there is a value
+-- the first form of a value, if there is a value
 abbrev pub first_form : {A : Type 0} → (A → List Data) → Option A → Option Data
 first_form forms value = option_and_then (λ x. slice_get (forms x) 0) value
 
--- the row of a key, with the first form of its value
+-- a key's name, with the first form of the key's value
 abbrev pub key_row : Said → ProfileKey → List ℕ × Option Data
 key_row said k = (name_of k, first_form (forms k) (says said k))
 
--- the rows, in byte order of their keys, with this row added in its place
+-- the rows with this row added at its position, so that they stay in byte order of their keys
 abbrev pub with_row : List ℕ × Option Data → Rows → Rows
 with_row row [] = row ∷ []
 with_row row (other ∷ rows) = if is_lt (slice_cmp nat_cmp row.0 other.0) then row ∷ other ∷ rows else other ∷ with_row row rows
 
--- the rows of a profile: its settings and its other keys; the rows of an override are only its
--- settings
+-- The rows of a profile: its settings and its other keys. The rows of an override are only its settings.
 abbrev pub profile_rows : Option Data → Option (List ℕ) → Option Data → Said → Rows
 profile_rows override inherits packages said =
     with_row (codes "build-override", override) (with_row (codes "inherits", option_map string inherits) (with_row (codes "package", packages) (map (key_row said) keys)))
@@ -153,7 +154,8 @@ workspace_rows w =
 abbrev pub dependencies : List Dependency → Option Data
 dependencies ds = entries (λ (d : Dependency). d.key) dependency_entry ds
 
--- only the keys of `[dev-dependencies]` are written, since only its keys are read
+-- The rows of a document. Of `[dev-dependencies]` only the keys are written, because nothing else
+-- of it is read.
 abbrev pub document_rows : Manifest → Rows
 document_rows m =
     (codes "bin", list (λ b. table_with (binary_rows b)) m.binaries) ∷ (codes "build-dependencies", dependencies m.build_dependencies) ∷ (codes "dependencies", dependencies m.dependencies)

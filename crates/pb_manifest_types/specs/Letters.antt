@@ -1,33 +1,35 @@
--- The letters of names (The Cargo Book, Manifest Format and Features).
+-- Which letters names may have (The Cargo Book, Manifest Format and Features).
 use Rattle.std.specs.Prelude.{ℕ, List, [], ◌∷◌, Bool, false, not, ◌&&◌, ◌||◌, ◌==◌, nat_le, length, map, if◌then◌else◌}
 use Rattle.std.specs.List.{list_all, list_any}
 use Rattle.pb_data.specs.Ascii.{plus, dash, dot, underscore}
 
--- an ASCII letter or digit
+-- the byte is an ASCII letter or digit
 abbrev pub is_alphanumeric : ℕ → Bool
 is_alphanumeric b = (nat_le 97 b && nat_le b 122) || (nat_le 65 b && nat_le b 90) || (nat_le 48 b && nat_le b 57)
 
--- a byte of a package's name: a letter, a digit, `-` or `_`
+-- the byte may be in a package's name: it is a letter, a digit, `-` or `_`
 unfoldable pub is_name_byte : ℕ → Bool
 is_name_byte b = is_alphanumeric b || b == dash || b == underscore
 
--- a name with the letters of package names, not empty
+-- the text is not empty, and has only bytes that may be in a package's name
 unfoldable pub is_name : List ℕ → Bool
 is_name text = not (length text == 0) && list_all is_name_byte text
 
--- a byte of a crate's name: a letter, a digit or `_`
+-- the byte may be in a crate's name: it is a letter, a digit or `_`
 unfoldable pub is_crate_name_byte : ℕ → Bool
 is_crate_name_byte b = is_alphanumeric b || b == underscore
 
--- the name of a crate: such bytes, not empty
+-- the text is not empty, and has only bytes that may be in a crate's name
 unfoldable pub is_crate_name : List ℕ → Bool
 is_crate_name text = not (length text == 0) && list_all is_crate_name_byte text
 
--- a byte of a feature's name after the first: a letter, a digit, `_`, `-`, `+` or `.`
+-- the byte may be in a feature's name, at least after its first byte: it is a letter, a digit, `_`,
+-- `-`, `+` or `.`
 unfoldable pub is_feature_byte : ℕ → Bool
 is_feature_byte b = is_alphanumeric b || b == underscore || b == dash || b == plus || b == dot
 
--- the name of a feature: a letter, a digit or `_`, followed by such bytes
+-- the text may be a feature's name: a letter, a digit or `_` is first, and all other bytes may be
+-- in a feature's name
 unfoldable pub is_feature_name : List ℕ → Bool
 is_feature_name [] = false
 is_feature_name (b ∷ bs) = is_crate_name_byte b && list_all is_feature_byte bs
@@ -36,10 +38,10 @@ is_feature_name (b ∷ bs) = is_crate_name_byte b && list_all is_feature_byte bs
 unfoldable pub has_zero : List ℕ → Bool
 has_zero text = list_any (λ b. b == 0) text
 
--- a byte, with `_` for `-`
+-- the byte, but `_` if it is `-`
 abbrev pub underscored_byte : ℕ → ℕ
 underscored_byte b = if b == dash then underscore else b
 
--- a package's name as the name of its library: `_` for each `-`
+-- a package's name as the name of its library: `_` replaces each `-`
 unfoldable pub underscored : List ℕ → List ℕ
 underscored name = map underscored_byte name

@@ -17,11 +17,11 @@ version_in text = if is_version text then Ok text else Err BadVersion
 abbrev pub requirement_in : Text → Read Text
 requirement_in text = if is_requirement text then Ok text else Err BadVersion
 
--- whether a version that `semver` reads meets a requirement that `semver` reads
+-- a version meets a requirement if `semver` can read both and the version matches
 abbrev pub meets : {E F : Type 0} → Result (List Held) E → Result Parts F → Bool
 meets (Ok comparators) (Ok parts) = matches_views comparators parts
 meets _ _ = false
 
--- whether a version matches a requirement, both as texts (The Cargo Book, Specifying Dependencies)
+-- the version matches the requirement, and both are texts (The Cargo Book, Specifying Dependencies)
 unfoldable pub matches : Text → Text → Bool
 matches requirement version = meets (req_of requirement) (version_parts version)

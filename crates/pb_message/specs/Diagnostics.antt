@@ -1,5 +1,5 @@
--- The diagnostics of a compiler (The Cargo Book, External Tools):
--- the lines of its standard error that are JSON objects, byte for byte.
+-- What a compiler writes to its standard error (The Cargo Book, External Tools). Lines that are
+-- JSON objects are its diagnostics, byte for byte.
 use Rattle.std.specs.Prelude.{ℕ, Bool, true, false, if◌then◌else◌, List, [], ◌∷◌, ◌++◌, Option, Some, None}
 use Rattle.serde_json.specs.Data as json
 use Rattle.serde_json.specs.Read.{read}
@@ -14,12 +14,12 @@ abbrev pub reads_as_object : Option json.Data → Bool
 reads_as_object None = false
 reads_as_object (Some d) = is_object d
 
--- a text, if it is a JSON object
+-- the text, if it is a JSON object
 abbrev pub object_text : Option (List ℕ) → Option (List ℕ)
 object_text None = None
 object_text (Some text) = if reads_as_object (read text) then Some text else None
 
--- the diagnostic in a line, without the blanks at its ends, if there is one
+-- the diagnostic that a line is, if it is one; the blanks at its ends do not belong to it
 abbrev pub diagnostic_in : List ℕ → Option (List ℕ)
 diagnostic_in line = object_text (text_of (trimmed line))
 
@@ -27,16 +27,16 @@ abbrev pub and_more : Option (List ℕ) → List (List ℕ) → List (List ℕ)
 and_more None texts = texts
 and_more (Some text) texts = text ∷ texts
 
--- the diagnostics in these lines, in order
+-- the diagnostics among these lines, in order
 abbrev pub diagnostics_in : List (List ℕ) → List (List ℕ)
 diagnostics_in [] = []
 diagnostics_in (line ∷ lines) = and_more (diagnostic_in line) (diagnostics_in lines)
 
--- the diagnostics of a standard error
+-- the diagnostics in what a compiler wrote to its standard error
 abbrev pub diagnostics_of : List ℕ → List (List ℕ)
 diagnostics_of stderr = diagnostics_in (lines_of stderr)
 
--- a line with a line feed, or nothing if the line is blank or a diagnostic
+-- the line with a line feed, or no text if the line is blank or a diagnostic
 abbrev pub plain_by : List ℕ → Option (List ℕ) → List ℕ → List ℕ
 plain_by [] found line = []
 plain_by (b ∷ bytes) (Some text) line = []
@@ -49,6 +49,6 @@ abbrev pub plain_lines_in : List (List ℕ) → List ℕ
 plain_lines_in [] = []
 plain_lines_in (line ∷ lines) = plain_in line ++ plain_lines_in lines
 
--- the lines of a standard error that are neither blank nor diagnostics
+-- the lines of a standard error that are neither blank nor diagnostics, each with a line feed
 abbrev pub plain_lines_of : List ℕ → List ℕ
 plain_lines_of stderr = plain_lines_in (lines_of stderr)

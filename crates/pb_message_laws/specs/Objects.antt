@@ -1,5 +1,5 @@
--- The object of each message line:
--- one JSON object for each reason, without spaces, followed by a line feed (The Cargo Book, External Tools).
+-- The JSON object of each message line. There is one form for each reason. The object is written
+-- without spaces, followed by a line feed (The Cargo Book, External Tools).
 use Rattle.std.specs.Prelude.{◌≡◌, ℕ, Bool, true, false, if◌then◌else◌, codes, List, [], ◌∷◌, ◌++◌, map, Option, Some, None, IfSome}
 use Rattle.std.specs.List.{flat_map, position}
 use Rattle.std.specs.Option.{option_map_or}
@@ -21,7 +21,7 @@ use Rattle.serde_json.specs.View.{items_of}
 use Rattle.serde_json.specs.Written.{compact_text}
 use Rattle.pb_data.specs.Ascii.{line_feed}
 
--- an object with these members, in this order
+-- the members of an object, in this order
 abbrev pub members : List (List ℕ × Data) → Members
 members [] = no_members
 members (m ∷ ms) = member m.0 m.1 (members ms)
@@ -32,7 +32,7 @@ of_members ms = object (members ms)
 abbrev pub texts : List (List ℕ) → Data
 texts ts = array (items_of (map string ts))
 
--- The parts of a message.
+-- The objects of which a message consists.
 
 abbrev pub required : List (List ℕ) → List (List ℕ × Data)
 required [] = []
@@ -42,8 +42,7 @@ abbrev pub target_of : Target → Data
 target_of t = of_members ((codes "kind", texts t.kinds) ∷ (codes "crate_types", texts t.crate_types) ∷ (codes "name", string t.name) ∷ (codes "src_path", string t.source)
     ∷ (codes "edition", string (edition_text t.edition)) ∷ required t.required_features)
 
--- the debug information setting: the compiler's own word for it, as a number if the word is a
--- number
+-- the setting for debug information: the compiler's own word for it, or a number if this word is a number
 abbrev pub debug_info_of : Word → Data
 debug_info_of w = option_map_or (λ n. number (unsigned n)) (position (bytes_eq (spelled w)) (codes "0" ∷ codes "1" ∷ codes "2" ∷ [])) (string (spelled w))
 
@@ -55,20 +54,21 @@ profile_of s = of_members ((codes "opt_level", string (spelled (word_in (setting
 abbrev pub pairs : List (List ℕ × List ℕ) → Data
 pairs ps = array (items_of (map (λ (p : List ℕ × List ℕ). texts (p.0 ∷ p.1 ∷ [])) ps))
 
--- One object for each reason.
+-- The object of a message, one form for each reason.
 
--- the object of a message about a package: its reason and its package, and more
+-- the object of a message about a package: its reason, its package, and the members of `more`
 abbrev pub of_package : List ℕ → Subject → List (List ℕ × Data) → Data
 of_package reason s more = of_members ((codes "reason", string reason) ∷ (codes "package_id", string (package_id s)) ∷ more)
 
--- the object of a message about a target of a package
+-- the object of a message about a target of a package: its reason, the package, the target, and the
+-- members of `more`
 abbrev pub of_target : List ℕ → Subject → List (List ℕ × Data) → Data
 of_target reason s more = of_package reason s ((codes "manifest_path", string s.manifest) ∷ (codes "target", target_of s.target) ∷ more)
 
 abbrev pub diagnostic : Subject → Data → Data
 diagnostic s message = of_target (codes "compiler-message") s ((codes "message", message) ∷ [])
 
--- the object of each message other than a diagnostic
+-- the object of a message, unless the message is a diagnostic
 abbrev pub object_of : Subject → Bool → Message → Option Data
 object_of s fresh (CompilerArtifact a) = Some (of_target (codes "compiler-artifact") s ((codes "profile", profile_of a.settings) ∷ (codes "features", texts a.features) ∷ (codes "filenames", texts (a.file ∷ []))
     ∷ (codes "executable", if a.is_executable then string a.file else null) ∷ (codes "fresh", boolean fresh) ∷ []))
@@ -82,19 +82,20 @@ finished success = of_members ((codes "reason", string (codes "build-finished"))
 
 -- The laws.
 
--- a message line is the text of its object without spaces, and a line feed
+-- A message line is the text of its object, written without spaces, and a line feed.
+-- `EndsAreObjects` says this of the last line of a build.
 abbrev pub MessagesAreObjects : Type 0
 MessagesAreObjects = (s : Subject) (fresh : Bool) (m : Message) → IfSome (object_of s fresh m) (λ told. line_of s fresh m ≡ compact_text told ++ line_feed ∷ [])
 
 abbrev pub EndsAreObjects : Type 0
 EndsAreObjects = (success : Bool) → finish_line success ≡ compact_text (finished success) ++ line_feed ∷ []
 
--- a diagnostic's line is the line of its object, in which the message is the compiler's own text,
--- byte for byte
+-- The line of a diagnostic is that of its object. The value of `message` in it is the compiler's
+-- own text, byte for byte.
 abbrev pub DiagnosticsAreCopied : Type 0
 DiagnosticsAreCopied = (s : Subject) (fresh : Bool) (text : List ℕ)
     → (front : List ℕ) × (line_of s fresh (CompilerMessage text) ≡ front ++ text ++ codes "}\n") × ((message : Data) → compact_text (diagnostic s message) ≡ front ++ compact_text message ++ codes "}")
 
--- the lines of several messages are their lines one after another
+-- the lines of several messages are the lines of each, one after another
 abbrev pub LinesFollow : Type 0
 LinesFollow = (s : Subject) (fresh : Bool) (messages : List Message) → lines_of s fresh messages ≡ flat_map (line_of s fresh) messages

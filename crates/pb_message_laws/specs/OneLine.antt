@@ -1,4 +1,4 @@
--- Message lines are lines.
+-- Laws: each message line is one line.
 use Rattle.std.specs.Prelude.{◌≡◌, ℕ, ◌==◌, Bool, true, false, not, ◌&&◌, List, [], ◌∷◌}
 use Rattle.std.specs.List.{AllByRecursion}
 use Rattle.pb_data.specs.Ascii.{line_feed}
@@ -9,7 +9,7 @@ use Rattle.pb_message.specs.declared.subject.Subject.{Subject}
 use Rattle.pb_message.specs.declared.message.Message.{Message}
 use Rattle.pb_message.specs.declared.message.Message.TheVariants.{CompilerMessage}
 
--- a line has one line feed, which is its last byte
+-- the bytes have exactly one line feed, which is the last byte
 abbrev pub is_line : List ℕ → Bool
 is_line [] = false
 is_line (b ∷ []) = b == line_feed
@@ -19,19 +19,21 @@ is_line (b ∷ c ∷ bytes) = not (b == line_feed) && is_line (c ∷ bytes)
 abbrev pub IsOfOneLine : List ℕ → Type 0
 IsOfOneLine text = has_byte 10 text ≡ false
 
--- if the message is a diagnostic, it has no line feed; only diagnostics are copied byte for byte
+-- if the message is a diagnostic, its text has no line feed; only the text of a diagnostic is
+-- copied byte for byte
 abbrev pub TellsOneLine : Message → Type 0
 TellsOneLine (CompilerMessage text) = IsOfOneLine text
 TellsOneLine _ = Unit {0}
 
--- the line of each such message is a line, for any package and target
+-- The line of a message is one line, whatever package and target it is about. For a diagnostic, its
+-- text must have no line feed.
 abbrev pub MessagesAreLines : Type 0
 MessagesAreLines = (subject : Subject) (fresh : Bool) (message : Message) → TellsOneLine message → is_line (line_of subject fresh message) ≡ true
 
--- the last line of a build is a line
+-- the last line of a build is one line
 abbrev pub BuildsEndInLine : Type 0
 BuildsEndInLine = (success : Bool) → is_line (finish_line success) ≡ true
 
--- the diagnostics found in what a compiler writes have no line feed
+-- no diagnostic that is found in what a compiler writes has a line feed
 abbrev pub DiagnosticsAreLines : Type 0
 DiagnosticsAreLines = (stderr : List ℕ) → AllByRecursion IsOfOneLine (diagnostics_of stderr)

@@ -1,11 +1,11 @@
--- What message lines determine.
+-- What a message line says about its message.
 use Rattle.std.specs.Prelude.{◌≡◌, Bool}
 use Rattle.pb_message.specs.Message.{line_of}
 use Rattle.pb_message.specs.declared.subject.Subject.{Subject}
 use Rattle.pb_message.specs.declared.message.Message.{Message}
 use Rattle.pb_message.specs.declared.message.Message.TheVariants.{CompilerMessage, CompilerArtifact, BuildScriptNote, BuildScriptExecuted}
 
--- two messages are of the same kind; if they are diagnostics or notes, they are equal
+-- the two messages have the same reason, and two diagnostics or two notes are equal
 abbrev pub TellOne : Message → Message → Type 0
 TellOne (CompilerMessage text) (CompilerMessage other) = text ≡ other
 TellOne (CompilerMessage text) _ = ⊥
@@ -16,6 +16,6 @@ TellOne (BuildScriptNote level text) _ = ⊥
 TellOne (BuildScriptExecuted executed) (BuildScriptExecuted other) = Unit {0}
 TellOne (BuildScriptExecuted executed) _ = ⊥
 
--- messages of one package and target with the same line are the same in the sense of `TellOne`
+-- if two messages about one package and target have the same line, they agree as `TellOne` states
 abbrev pub LinesTellMessages : Type 0
 LinesTellMessages = (subject : Subject) (fresh : Bool) (message other : Message) → line_of subject fresh message ≡ line_of subject fresh other → TellOne message other

@@ -1,5 +1,5 @@
--- The messages of a unit (The Cargo Book, External Tools): what their
--- lines are about, and which messages come from its child's answer.
+-- Which messages a unit has (The Cargo Book, External Tools). Messages name a package and a target,
+-- and report what the unit's child has answered.
 use Rattle.std.specs.Prelude.{ℕ, Bool, true, false, not, if◌then◌else◌, List, [], ◌∷◌, ◌++◌, Option, Some, None, Result, Ok, Err, slice_get, map, find}
 use Rattle.std.specs.List.{filter_map}
 use Rattle.std.specs.Str.{bytes_eq}
@@ -42,7 +42,7 @@ abbrev pub script_of : Package → Option (List ℕ) → Option Target
 script_of p None = None
 script_of p (Some source) = Some (script_target source p.edition)
 
--- the target of a package that is compiled or run, if the package has it
+-- the target of a package that a unit of this kind compiles or runs, if the package has it
 abbrev pub target_of : Package → What → Option Target
 target_of p Lib = library_of p p.library
 target_of p (Bin name) = binary_of p (find (λ b. bytes_eq name b.name) p.binaries)
@@ -57,7 +57,7 @@ abbrev pub subject_in : Option Package → What → Option Subject
 subject_in None w = None
 subject_in (Some p) w = subject_with p (target_of p w)
 
--- the package and the target of a unit
+-- the package and the target that a unit's messages are about, if both exist
 abbrev pub subject_of : Project → Planned → Option Subject
 subject_of project u = subject_in (slice_get project.workspace.packages u.unit.owner) u.unit.what
 
@@ -70,12 +70,12 @@ is_binary _ = false
 abbrev pub artifact : Project → Planned → List ℕ → Message
 artifact project u file = CompilerArtifact record { settings = u.settings; features = features_at project.features u.unit.owner u.unit.side; file = file; is_executable = is_binary u.unit.what }
 
--- the message for what a compile made, if it made something
+-- the message for the file that a compile made, or no message if it made none
 abbrev pub artifacts : Project → Planned → Option (List ℕ) → List Message
 artifacts project u None = []
 artifacts project u (Some file) = artifact project u file ∷ []
 
--- the messages of a compiler: the diagnostics among the lines of its standard error
+-- the messages for the diagnostics in a compiler's standard error
 abbrev pub compiler_messages : List ℕ → List Message
 compiler_messages stderr = map CompilerMessage (diagnostics_of stderr)
 
@@ -100,7 +100,7 @@ abbrev pub variable_in : Directive → Option (List ℕ × List ℕ)
 variable_in (says.Env name value) = Some (name, value)
 variable_in _ = None
 
--- the message for what a script passes to the compiler, each list in printed order
+-- the message for an executed script, with all that the script passes to the compiler, in printed order
 abbrev pub executed : Planned → List Directive → Message
 executed u directives = BuildScriptExecuted record {
   linked_libraries = filter_map library_in directives;
@@ -110,20 +110,20 @@ executed u directives = BuildScriptExecuted record {
   out_folder = u.out;
 }
 
--- the messages of a unit whose child's answer is good; only a run of a script has directives:
--- - a compile: its diagnostics, then what it made
--- - a run: its notes in printed order, then what it passes to the compiler
+-- The messages of a unit whose child's answer is good. Only the run of a script has directives.
+-- - A compile reports its diagnostics, and then the file that it made.
+-- - A run reports its notes in printed order, and then what it passes to the compiler.
 abbrev pub good_messages : Project → Planned → List ℕ → Option (List Directive) → List Message
 good_messages project u stderr None = compiler_messages stderr ++ artifacts project u (made_file_of project u)
 good_messages project u stderr (Some directives) = filter_map note_in directives ++ (executed u directives ∷ [])
 
--- a bad unit reports its diagnostics if it is a compile and no stream is too long
+-- the diagnostics of a bad unit are reported: it is a compile, and no stream of its child is too long
 abbrev pub gives_diagnostics : What → UnitFault → Bool
 gives_diagnostics Run e = false
 gives_diagnostics w fault.OutputTooLong = false
 gives_diagnostics w e = true
 
--- the notes of a script's output; none if the output is malformed
+-- the messages for a script's notes, or no messages if its output cannot be read
 abbrev pub notes_in : Result (List Directive) LineFault → List Message
 notes_in (Ok directives) = filter_map note_in directives
 notes_in (Err e) = []
@@ -132,18 +132,18 @@ abbrev pub is_script_error : UnitFault → Bool
 is_script_error fault.ScriptError = true
 is_script_error e = false
 
--- the messages of a unit whose child's answer is bad:
--- - a script that reported an error: its notes in printed order
--- - a compile: its diagnostics, unless a stream is too long
+-- The messages of a unit whose child's answer is bad.
+-- - A script that reported an error has its notes, in printed order.
+-- - A compile has its diagnostics, unless a stream is too long.
 abbrev pub bad_messages : What → UnitFault → Ended → List Message
 bad_messages w e ended =
     if is_script_error e then notes_in (directives_of ended.stdout)
     else (if gives_diagnostics w e then compiler_messages ended.stderr else [])
 
--- what a bad unit's child wrote, without what messages contain:
--- - nothing if a stream is too long
--- - standard error of a script that reported an error, both streams of any other script
--- - the lines of a compile that are not diagnostics
+-- What the child of a bad unit wrote, apart from what its messages contain.
+-- - If a stream is too long, this is nothing.
+-- - For a script that reported an error, it is the standard error; for any other script, both streams.
+-- - For a compile, it is the lines that are no diagnostics.
 abbrev pub said_by : What → UnitFault → Ended → List ℕ
 said_by w fault.OutputTooLong ended = []
 said_by w fault.ScriptError ended = ended.stderr
@@ -152,7 +152,7 @@ said_by w e ended = plain_lines_of ended.stderr
 
 -- Lines.
 
--- the lines of messages about a subject; `started` says whether a child was started for their unit
+-- the lines of a unit's messages; `started` says if a child was started for the unit
 abbrev pub lines_by : Option Subject → Bool → List Message → List ℕ
 lines_by None started messages = []
 lines_by (Some s) started messages = lines_of s (not started) messages

@@ -1,4 +1,4 @@
--- The reply of the small compiler to any arguments.
+-- The reply of the small compiler, whatever its arguments are.
 use Rattle.std.specs.Prelude.{ℕ, pos, if◌then◌else◌, codes, List, [], ◌∷◌, Result, Ok, Err}
 use Rattle.std.specs.Str.{bytes_eq}
 use Rattle.pb_data.specs.UnlessOom.{◌>>=◌}
@@ -15,8 +15,8 @@ use Rattle.pb_mini.specs.declared.request.Request.TheVariants.{Version, Run, Com
 abbrev pub compile_in : List (List ℕ) → Result Request CommandLineFault
 compile_in words = command_line_of words >>= (λ line. Ok (Compile line))
 
--- the request of some arguments:
--- `-vV` alone is for the version, `--run` and a path for a run, and all others for a compile, if they are valid
+-- What these arguments request. `-vV` alone requests the version. `--run` and a path request a run.
+-- All others request a compile, if they are valid.
 abbrev pub request_of : List (List ℕ) → Result Request CommandLineFault
 request_of [] = compile_in []
 request_of (word ∷ []) = if bytes_eq word (codes "-vV") then Ok Version else compile_in (word ∷ [])
@@ -38,6 +38,7 @@ abbrev pub replied_if : Result Request CommandLineFault → List (List ℕ × Li
 replied_if (Ok request) pairs w = replied_to request pairs w
 replied_if (Err e) pairs w = bad_command_line
 
--- the reply to arguments and an environment; if a name occurs twice, its last value counts
+-- the reply to these arguments and this environment; if a name occurs twice in the environment, its
+-- last value counts
 abbrev pub answered : List (List ℕ) → List (List ℕ × List ℕ) → World → Reply
 answered words pairs w = replied_if (request_of words) (table_of pairs) w

@@ -1,4 +1,4 @@
--- The meaning of the arguments of a compile.
+-- What the arguments of a compile mean.
 use Rattle.std.specs.Prelude.{ℕ, nat_eq, Bool, ◌||◌, if◌then◌else◌, codes, List, [], ◌∷◌, ◌++◌, Option, Some, None, Result, Ok, Err}
 use Rattle.std.specs.List.{starts_with}
 use Rattle.std.specs.Str.{bytes_eq}
@@ -15,14 +15,14 @@ use Rattle.pb_mini.specs.declared.command_line.CommandLineFault.{CommandLineFaul
 use Rattle.pb_mini.specs.declared.command_line.CommandLineFault.TheVariants.{Bad}
 use Rattle.pb_place_types.specs.declared.path.PathFault.{PathFault}
 
--- the option's value is the next argument
+-- the argument is an option whose value is the next argument
 abbrev pub takes_value : List ℕ → Bool
 takes_value word =
     bytes_eq word (codes "--crate-name") || bytes_eq word (codes "--crate-type") || bytes_eq word (codes "--out-dir")
     || bytes_eq word (codes "-C") || bytes_eq word (codes "--cfg") || bytes_eq word (codes "--check-cfg")
     || bytes_eq word (codes "--extern") || bytes_eq word (codes "-L") || bytes_eq word (codes "-l")
 
--- the role of the value of an option
+-- the role that the value of an option has
 abbrev pub role_of : List ℕ → Role
 role_of option =
     if bytes_eq option (codes "--crate-name") then CrateName
@@ -32,18 +32,18 @@ role_of option =
     else if bytes_eq option (codes "--cfg") then Condition
     else Unused
 
--- the argument is a setting on its own, and is ignored
+-- the argument is a setting that stands on its own, and is ignored
 abbrev pub is_setting : List ℕ → Bool
 is_setting word = starts_with nat_eq word (codes "--edition=") || starts_with nat_eq word (codes "--error-format=") || starts_with nat_eq word (codes "--emit=")
 
--- the role of an argument that is no option with a value, and no such value
+-- the role of an argument that is neither an option with a value nor such a value
 abbrev pub role_alone : List ℕ → Role
 role_alone word = if is_setting word then Unused else Source
 
 abbrev pub no_arguments : Arguments
 no_arguments = record { crate_names = []; crate_types = []; out_dirs = []; sources = []; externs = []; conditions = [] }
 
--- the arguments with one more value, before the others
+-- the values of the arguments, with one more value in front of those of its role
 abbrev pub with_value : Role → List ℕ → Arguments → Arguments
 with_value CrateName value said = record said { crate_names = value ∷ said.crate_names }
 with_value CrateType value said = record said { crate_types = value ∷ said.crate_types }
@@ -53,7 +53,8 @@ with_value Extern value said = record said { externs = value ∷ said.externs }
 with_value Condition value said = record said { conditions = value ∷ said.conditions }
 with_value Unused value said = said
 
--- the values of some arguments, and then those of the arguments after them
+-- The values of two lists of arguments: for each role those of the first, and then those of the
+-- second. `after` does this unless there is a fault.
 abbrev pub joined : Arguments → Arguments → Arguments
 joined a b = record {
   crate_names = a.crate_names ++ b.crate_names;
@@ -67,7 +68,7 @@ joined a b = record {
 abbrev pub after : Arguments → Result Arguments CommandLineFault → Result Arguments CommandLineFault
 after said more = more >>= (λ rest. Ok (joined said rest))
 
--- the values of some arguments; if an option waits for its value, the first argument is that value
+-- The values of these arguments. If an option waits for its value, the first argument is that value.
 abbrev pub arguments_after : Option Role → List (List ℕ) → Result Arguments CommandLineFault
 arguments_after None [] = Ok no_arguments
 arguments_after (Some role) [] = Err Bad
@@ -76,13 +77,13 @@ arguments_after None (word ∷ words) =
     if takes_value word then arguments_after (Some (role_of word)) words
     else (arguments_after None words >>= (λ rest. Ok (with_value (role_alone word) word rest)))
 
--- the only value of a list, which must have exactly one
+-- the only value of a list; a list with none or several is a fault
 abbrev pub only : List (List ℕ) → Result (List ℕ) CommandLineFault
 only [] = Err Bad
 only (value ∷ []) = Ok value
 only (value ∷ other ∷ more) = Err Bad
 
--- the first value of a list, which must not be empty
+-- the first value of a list; an empty list is a fault
 abbrev pub first : List (List ℕ) → Result (List ℕ) CommandLineFault
 first [] = Err Bad
 first (value ∷ more) = Ok value
@@ -90,7 +91,7 @@ first (value ∷ more) = Ok value
 abbrev pub crate_type_of : List ℕ → kind.CrateType
 crate_type_of text = if bytes_eq text (codes "bin") then Bin else Lib
 
--- the names of the two files in the output folder
+-- The name of the image in the output folder. `dep_info_name` is the name of the dep-info there.
 abbrev pub image_name : kind.CrateType → List ℕ → List ℕ
 image_name Bin name = name
 image_name Lib name = codes "lib" ++ name ++ codes ".rlib"
@@ -98,11 +99,11 @@ image_name Lib name = codes "lib" ++ name ++ codes ".rlib"
 abbrev pub dep_info_name : List ℕ → List ℕ
 dep_info_name name = name ++ codes ".d"
 
--- the name of a file inside the output folder
+-- the name of a file inside the output folder, which must be a relative path
 abbrev pub file_named : List ℕ → Result (List ℕ) CommandLineFault
 file_named name = if is_relative name then Ok name else Err Bad
 
--- a folder, which must be absolute
+-- the folder that a text spells, which must be an absolute path
 abbrev pub folder_in : Result (List ℕ) PathFault → Result (List ℕ) CommandLineFault
 folder_in (Ok path) = Ok path
 folder_in (Err e) = Err Bad
@@ -110,7 +111,8 @@ folder_in (Err e) = Err Bad
 abbrev pub folder_of : List ℕ → Result (List ℕ) CommandLineFault
 folder_of text = folder_in (parsed text)
 
--- the settled values: crate name and output folder occur once, a crate type at least once, and there is one source
+-- The values that a compile needs. The crate name, the output folder and the source must be there
+-- once, and a crate type at least once.
 abbrev pub settled_by : Arguments → Result Settled CommandLineFault
 settled_by said =
     only said.crate_names >>= (λ name.
@@ -129,7 +131,7 @@ settled_by said =
       source = source;
     })))))))
 
--- the command line with these values, the libraries and the conditions
+-- the command line that the arguments mean: the values that a compile needs, the libraries and the conditions
 abbrev pub command_line_of : List (List ℕ) → Result CommandLine CommandLineFault
 command_line_of words =
     arguments_after None words >>= (λ said.

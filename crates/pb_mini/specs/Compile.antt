@@ -19,7 +19,7 @@ use Rattle.pb_mini.specs.declared.dep_info.Names.{Names}
 use Rattle.pb_mini.specs.declared.diagnostic.Level.TheVariants.{Error}
 use Rattle.pb_mini.specs.declared.effects.Effects.{Effects}
 
--- the text of some bytes, if they are UTF-8
+-- the bytes as a text, if they are UTF-8
 abbrev pub text_of : List ℕ → Option (List ℕ)
 text_of bytes = if is_utf8 bytes then Some bytes else None
 
@@ -27,21 +27,21 @@ text_of bytes = if is_utf8 bytes then Some bytes else None
 abbrev pub text_at : World → Option (List ℕ) → Option (List ℕ)
 text_at w path = option_and_then text_of (file_at w path)
 
--- the path and the text of the source of a compile
+-- the path of the source of a compile, and its text if it can be read
 abbrev pub source_of : CommandLine → World → Source
 source_of line w = record { path = path_of line.source; text = text_at w (path_of line.source) }
 
--- a source without a path or a file, or which is no text, is reported at line 0
+-- the effects of a source that has no path, no file or no text: an error, reported at line 0
 abbrev pub no_source : Effects
 no_source = diagnosed Error (codes "no source") 0
 
--- the effects of the lines of a source with this path and this text
+-- the effects of all lines of a source with this path and this text
 abbrev pub source_effects : CommandLine → List (List ℕ × List ℕ) → World → Option (List ℕ) → Option (List ℕ) → Effects
 source_effects line pairs w None text = no_source
 source_effects line pairs w (Some source) None = no_source
 source_effects line pairs w (Some source) (Some text) = effects_from (scope_of line pairs source) w 0 (lines_of text)
 
--- all effects of a compile: it reads the source, and carries out its lines
+-- all effects of a compile: it reads its source, and carries out the lines of the source
 abbrev pub effects_of : CommandLine → List (List ℕ × List ℕ) → World → Effects
 effects_of line pairs w = joined (reads (path_of line.source)) (source_effects line pairs w (path_of line.source) (text_at w (path_of line.source)))
 
@@ -49,11 +49,11 @@ abbrev pub title : CrateType → List ℕ
 title Bin = codes "mini bin "
 title Lib = codes "mini lib "
 
--- the image: `mini bin NAME` or `mini lib NAME`, and then the lines
+-- the content of the image: the line `mini bin NAME` or `mini lib NAME`, and then the lines that were added
 abbrev pub image_text : CommandLine → List ℕ → List ℕ
 image_text line lines = ended (title line.crate_type ++ line.crate_name) ++ lines
 
--- the status is 1 if there is an error, and then there is no image
+-- The status of a compile, which is 1 if there is an error. In this case no image is written.
 abbrev pub status_of : Bool → ℤ
 status_of is_bad = if is_bad then pos 1 else pos 0
 
@@ -71,6 +71,6 @@ replied line effects = record {
   files = files_of line (has_error effects.diagnostics) effects.image effects.names;
 }
 
--- the reply to a compile, whose dep-info lists each name that was read once
+-- the reply to a compile; its dep-info lists everything that was read, each name once
 abbrev pub compiled : CommandLine → List (List ℕ × List ℕ) → World → Reply
 compiled line pairs w = replied line (names_once (effects_of line pairs w))

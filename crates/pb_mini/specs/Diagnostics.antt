@@ -11,7 +11,7 @@ abbrev pub level_name : Level → List ℕ
 level_name Warning = codes "warning"
 level_name Error = codes "error"
 
--- `{"level":LEVEL,"message":MESSAGE,"line":NUMBER}` and a line feed
+-- the line `{"level":LEVEL,"message":MESSAGE,"line":NUMBER}` for a diagnostic
 abbrev pub diagnostic_text : Diagnostic → List ℕ
 diagnostic_text d =
     codes "{\"level\":\"" ++ level_name d.level ++ codes "\",\"message\":" ++ json_string d.message ++ codes ",\"line\":" ++ decimal d.line ++ codes "}\n"

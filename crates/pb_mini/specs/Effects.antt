@@ -1,4 +1,4 @@
--- The effects of lines: they add bytes to the image, report diagnostics, and name what they read.
+-- The effects of lines. A line may add bytes to the image, report a diagnostic, and name what it reads.
 use Rattle.std.specs.Prelude.{◌≡◌, ℕ, List, [], ◌∷◌, ◌++◌, Option, Some, None}
 use Rattle.pb_data.specs.OrderedSet.{mentioned_all}
 use Rattle.pb_data.specs.Table.{with_entries}
@@ -21,7 +21,7 @@ in_image bytes = record no_effects { image = bytes }
 abbrev pub copied : List ℕ → Effects
 copied line = in_image (ended line)
 
--- the effect of adding each line of a file to the image, after a mark
+-- the effect of adding the lines of a file to the image, with a mark before each
 abbrev pub copied_file : List ℕ → List ℕ → Effects
 copied_file mark bytes = in_image (quoted mark bytes)
 
@@ -29,33 +29,34 @@ copied_file mark bytes = in_image (quoted mark bytes)
 abbrev pub diagnosed : Level → List ℕ → ℕ → Effects
 diagnosed level message number = record no_effects { diagnostics = record { level = level; message = message; line = number } ∷ [] }
 
--- the effect of reading a file, if there is a path for it
+-- the effect of reading the file at a path, if there is a path
 abbrev pub reads : Option (List ℕ) → Effects
 reads None = no_effects
 reads (Some path) = record no_effects { names = record no_names { paths = path ∷ [] } }
 
--- the effect of reading a variable, with its value
+-- the effect of reading a variable that has this value, or none
 abbrev pub asks : List ℕ → Option (List ℕ) → Effects
 asks name value = record no_effects { names = record no_names { variables = (name, value) ∷ [] } }
 
--- the names of one, and then those of the other
+-- The names of the first, followed by those of the second. `joined` does this for all effects.
 abbrev pub joined_names : Names → Names → Names
 joined_names a b = record { paths = a.paths ++ b.paths; variables = a.variables ++ b.variables }
 
 abbrev pub joined : Effects → Effects → Effects
 joined a b = record { image = a.image ++ b.image; diagnostics = a.diagnostics ++ b.diagnostics; names = joined_names a.names b.names }
 
--- The same, with each name kept once: a name that is already there is not added again.
+-- The names of the first, to which those of the second are added. A name that is already there is
+-- not added again. `followed_by` does this for all effects.
 abbrev pub with_names : Names → Names → Names
 with_names kept more = record { paths = mentioned_all kept.paths more.paths; variables = with_entries kept.variables more.variables }
 
 abbrev pub followed_by : Effects → Effects → Effects
 followed_by kept more = record { image = kept.image ++ more.image; diagnostics = kept.diagnostics ++ more.diagnostics; names = with_names kept.names more.names }
 
--- the effects with each name once, in order of first mention
+-- the effects, with each name once, in order of first mention
 abbrev pub names_once : Effects → Effects
 names_once done = followed_by no_effects done
 
--- the new effects are the old ones followed by one more, whatever comes later
+-- the new effects are the old ones followed by `effect`, whatever effects come later
 abbrev pub Does : Effects → Effects → Effects → Type 0
 Does new old effect = (later : Effects) → followed_by new later ≡ followed_by old (joined effect later)

@@ -1,4 +1,5 @@
--- What a compile or a run reads, that its reply reports all of it, and that nothing else matters.
+-- What a compile or a run reads. The reply reports everything that was read, and nothing else
+-- matters for the reply.
 use Rattle.std.specs.Prelude.{◌≡◌, ℕ, Bool, true, if◌then◌else◌, codes, List, [], ◌∷◌, Option, Some, None, Result, Ok, Err}
 use Rattle.std.specs.List.{list_any, AllByRecursion}
 use Rattle.std.specs.Str.{bytes_eq}
@@ -32,11 +33,12 @@ path_read path = (reads path).names
 abbrev pub variable_read : List ℕ → Option (List ℕ) → Names
 variable_read name value = (asks name value).names
 
--- `read PATH` reads the file and, if the path is relative, the variable `CARGO_MANIFEST_DIR`
+-- The verb `read PATH` reads the file at the path. If the path is relative, it also reads the
+-- variable `CARGO_MANIFEST_DIR`.
 abbrev pub base_read : List (List ℕ × List ℕ) → World → List ℕ → Names
 base_read pairs w path = if is_absolute path then no_names else variable_read (codes "CARGO_MANIFEST_DIR") (value_of pairs w (codes "CARGO_MANIFEST_DIR"))
 
--- the names that a line of a script reads, by its verb
+-- the names of what a line of a script reads, by the line's verb
 abbrev pub names_by : Deed → List (List ℕ × List ℕ) → World → List ℕ → Names
 names_by Print pairs w rest = no_names
 names_by Show pairs w rest = variable_read rest (value_of pairs w rest)
@@ -49,7 +51,7 @@ abbrev pub names_in : List (List ℕ × List ℕ) → World → Option (List ℕ
 names_in pairs w None = no_names
 names_in pairs w (Some line) = names_by (deed_of (word_in line)) pairs w (rest_of line)
 
--- lines after the one that ends a script are not read
+-- the names after a step; if the step ends the script, the lines after it are not read
 abbrev pub names_after : Step → Names → Names
 names_after (Writes output) names = names
 names_after (Ends status) names = no_names
@@ -62,8 +64,8 @@ abbrev pub names_of_image : List (List ℕ × List ℕ) → World → Option (Li
 names_of_image pairs w None = no_names
 names_of_image pairs w (Some bytes) = names_of_lines pairs w (lines_of bytes)
 
--- The names of all that a request reads, except the files that it is given:
--- the image of a run, the libraries of a compile.
+-- The names of all that a request reads. The files that it is given are left out: these are the
+-- image of a run, and the libraries of a compile.
 abbrev pub names_of : Request → List (List ℕ × List ℕ) → World → Names
 names_of Version pairs w = no_names
 names_of (Run path) pairs w = names_of_image pairs w (file_at w (path_of path))
@@ -81,16 +83,17 @@ names_read words pairs w = names_if (request_of words) (table_of pairs) w
 abbrev pub SameFile : World → World → List ℕ → Type 0
 SameFile v w path = finite.get w.files path ≡ finite.get v.files path
 
--- a variable that is in no pair has the same value in both worlds; the inherited value for a pair is not read
+-- A variable that the pairs do not set has the same value in both worlds. If the pairs set it, its
+-- inherited value is not read.
 abbrev pub SameValue : List (List ℕ × List ℕ) → World → World → List ℕ × Option (List ℕ) → Type 0
 SameValue pairs v w variable = value_at variable.0 pairs ≡ None → finite.get w.variables variable.0 ≡ finite.get v.variables variable.0
 
--- at these names both worlds have the same files and variables, or lack them in both
+-- at each of these names, both worlds have the same file or value, or both have none
 pub record SameAt (names : Names) (pairs : List (List ℕ × List ℕ)) (v w : World) : Type 0 where
   pub files : AllByRecursion (SameFile v w) names.paths
   pub variables : AllByRecursion (SameValue pairs v w) names.variables
 
--- the path is below one of these folders
+-- the path is strictly below one of these folders
 abbrev pub is_below_some : List (List ℕ) → List ℕ → Bool
 is_below_some folders path = list_any (λ folder. is_below folder path) folders
 
@@ -99,22 +102,22 @@ SameBelow folders v w = (path : List ℕ) → is_below_some folders path ≡ tru
 
 -- ---- honesty
 
--- the files that a request is given are strictly below these folders
+-- the files that the request is given are strictly below these folders
 abbrev pub GivenBelow : List (List ℕ) → Request → Type 0
 GivenBelow folders Version = Unit {0}
 GivenBelow folders (Run image) = (path : List ℕ) → path_of image ≡ Some path → is_below_some folders path ≡ true
 GivenBelow folders (Compile line) = (name file path : List ℕ) → value_at name (libraries_of line.externs) ≡ Some file → path_of file ≡ Some path → is_below_some folders path ≡ true
 
--- A reply comes again in each world that agrees on the names that were read
--- and on the files below the command's `reads`,
--- if the image of a run and the libraries of a compile are below these folders.
+-- The reply to a command comes again in each world that agrees on what was read, and on the files
+-- below the command's `reads`. The image of a run and the libraries of a compile must be below
+-- these folders.
 abbrev pub AnswersHonestly : Command → World → World → Type 0
 AnswersHonestly c v w = ((request : Request) → request_of c.words ≡ Ok request → GivenBelow c.reads request)
     → SameAt (names_read c.words c.pairs v) (table_of c.pairs) v w → SameBelow c.reads v w → answered c.words c.pairs w ≡ answered c.words c.pairs v
 
 -- ---- reporting
 
--- the file with a name, the later one if there are two
+-- The later of two files, if it is there, or else the earlier one. `file_named` is the last file with a name.
 abbrev pub later_of : Option (List ℕ) → Option (List ℕ) → Option (List ℕ)
 later_of earlier None = earlier
 later_of earlier (Some bytes) = Some bytes
@@ -127,7 +130,8 @@ file_named name (file ∷ files) = later_of (if bytes_eq file.0 name then Some f
 abbrev pub each_once : Names → Names
 each_once names = record { paths = once names.paths; variables = table_of names.variables }
 
--- the reply to this compile, good or bad, has a dep-info file that lists the names that were read, each once
+-- The reply to this compile, good or bad, has a dep-info file. The dep-info lists the names of what
+-- was read, each once.
 abbrev pub TellsNames : List (List ℕ) → List (List ℕ × List ℕ) → World → CommandLine → Type 0
 TellsNames words pairs w line = request_of words ≡ Ok (Compile line)
     → file_named line.dep_info (answered words pairs w).files ≡ Some (dep_info_text (below line.out_dir line.image) (each_once (names_read words pairs w)))

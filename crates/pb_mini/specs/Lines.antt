@@ -1,38 +1,39 @@
--- The lines of a text, and the words at the front of a line.
+-- The lines of a text, and words at the beginning of a line.
 use Rattle.std.specs.Prelude.{ℕ, ◌==◌, ◌-◌, if◌then◌else◌, List, [], ◌∷◌, ◌++◌, length, take, slice_index}
 use Rattle.std.specs.List.{onto_first, before_first, after_first}
 use Rattle.pb_data.specs.Ascii.{line_feed, space, equals}
 
--- The lines of a text, which is split at line feeds only. Text after the last line feed is a line unless it is empty.
+-- The lines of a text, which is split at line feeds only. What follows the last line feed is also a
+-- line, unless it is empty.
 abbrev pub lines_of : List ℕ → List (List ℕ)
 lines_of [] = []
 lines_of (b ∷ bytes) = if b == line_feed then [] ∷ lines_of bytes else onto_first b (lines_of bytes)
 
--- the text before the first space, or all of it if there is none
+-- the text before the first space, or the whole text if it has no space
 abbrev pub word_in : List ℕ → List ℕ
 word_in line = before_first (λ b. b == space) line
 
--- the text after the first space, empty if there is none
+-- the text after the first space, or the empty text if there is no space
 abbrev pub rest_of : List ℕ → List ℕ
 rest_of line = after_first (λ b. b == space) line
 
--- the texts before and after the first `=`
+-- The text before the first `=`. `value_in` is the text after it.
 abbrev pub name_in : List ℕ → List ℕ
 name_in text = before_first (λ b. b == equals) text
 
 abbrev pub value_in : List ℕ → List ℕ
 value_in text = after_first (λ b. b == equals) text
 
--- a line with its line feed
+-- the line, with a line feed at its end
 abbrev pub ended : List ℕ → List ℕ
 ended line = line ++ line_feed ∷ []
 
--- each line after a mark, with a line feed
+-- the lines, each with a mark before it and a line feed at its end
 abbrev pub marked : List ℕ → List (List ℕ) → List ℕ
 marked mark [] = []
 marked mark (line ∷ lines) = mark ++ ended line ++ marked mark lines
 
--- each line of a file after a mark
+-- the lines of a file, each with a mark before it and a line feed at its end
 abbrev pub quoted : List ℕ → List ℕ → List ℕ
 quoted mark bytes = marked mark (lines_of bytes)
 

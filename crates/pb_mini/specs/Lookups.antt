@@ -11,11 +11,11 @@ abbrev pub path_said : Result (List ℕ) PathFault → Option (List ℕ)
 path_said (Ok path) = Some path
 path_said (Err e) = None
 
--- the path of a text, if it is absolute and without byte 0
+-- the path that a text spells, if it is absolute and has no byte 0
 abbrev pub path_of : List ℕ → Option (List ℕ)
 path_of text = path_said (parsed text)
 
--- the path of a text relative to a folder, if it is without byte 0
+-- the path that a text spells from a folder, if it has no byte 0
 abbrev pub path_from : List ℕ → List ℕ → Option (List ℕ)
 path_from folder text = path_said (joined folder text)
 
@@ -23,6 +23,6 @@ path_from folder text = path_said (joined folder text)
 abbrev pub file_at : World → Option (List ℕ) → Option (List ℕ)
 file_at w path = option_and_then (λ p. map.get w.files p) path
 
--- the value of a variable: the one in the pairs, else the inherited one, if it is set
+-- the value of a variable: the one that the pairs set, or else the inherited one, if there is one
 abbrev pub value_of : List (List ℕ × List ℕ) → World → List ℕ → Option (List ℕ)
 value_of pairs w name = option_or (value_at name pairs) (map.get w.variables name)

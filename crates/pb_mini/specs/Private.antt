@@ -1,4 +1,4 @@
--- Definitions for private functions only: what the values of a command line settle, in parts.
+-- What the values of a command line settle, in parts. Only private functions need these definitions.
 use Rattle.std.specs.Prelude.{Result, Ok}
 use Rattle.pb_data.specs.UnlessOom.{◌>>=◌}
 use Rattle.pb_mini.specs.CommandLine.{crate_type_of, dep_info_name, file_named, first, folder_of, image_name, only}
@@ -7,7 +7,7 @@ use Rattle.pb_mini.specs.declared.command_line.CommandLineFault.{CommandLineFaul
 use Rattle.pb_mini.specs.declared.command_line.Once.{Once}
 use Rattle.pb_mini.specs.declared.command_line.Outputs.{Outputs}
 
--- the values that occur once, and the names of what a compile writes
+-- The values that must occur once. `outputs_of` has the names of the files that a compile writes.
 abbrev pub once_in : Arguments → Result Once CommandLineFault
 once_in said =
     only said.crate_names >>= (λ name.

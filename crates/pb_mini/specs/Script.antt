@@ -1,4 +1,4 @@
--- A script: the run of an image.
+-- A script, which is the run of an image.
 use Rattle.std.specs.Prelude.{◌≡◌, ℕ, pos, ◌==◌, ◌*◌, ◌+◌, ◌-◌, nat_lt, Bool, not, ◌&&◌, if◌then◌else◌, codes, List, [], ◌∷◌, ◌++◌, Option, Some, None, unwrap_or}
 use Rattle.std.specs.List.{list_any, before_first}
 use Rattle.std.specs.Str.{bytes_eq}
@@ -13,14 +13,14 @@ use Rattle.pb_mini.specs.declared.script.Deed.{Deed}
 use Rattle.pb_mini.specs.declared.script.Deed.TheVariants.{Print, Show, Read, Put, Exit, Skip}
 use Rattle.pb_mini.specs.declared.output.Output.{Output}
 
--- a reply with this status and nothing else
+-- a reply that has this status and nothing else
 abbrev pub ending : ℕ → Reply
 ending status = record { status = pos status; stdout = []; stderr = []; files = [] }
 
 abbrev pub no_output : Output
 no_output = record { stdout = []; files = [] }
 
--- a reply after this output
+-- the reply that has this output first, and then that of `reply`
 abbrev pub before : Output → Reply → Reply
 before output reply = record reply { stdout = output.stdout ++ reply.stdout; files = output.files ++ reply.files }
 
@@ -33,11 +33,12 @@ pub data Step : Type 0 where
 abbrev pub prints : List ℕ → Step
 prints text = Writes (record no_output { stdout = text })
 
--- `print TEXT`
+-- the step of `print TEXT`, which prints the text as a line
 abbrev pub printed : List ℕ → Step
 printed text = prints (ended text)
 
--- `show NAME`: the variable is declared, and SHOW_NAME is set to its value, which is empty if it is not set
+-- What `show NAME` prints: lines that declare the variable, and set SHOW_NAME to the variable's
+-- value. If the variable is not set, this value is empty.
 abbrev pub shown_text : List ℕ → List ℕ → List ℕ
 shown_text name value = ended (codes "cargo::rerun-if-env-changed=" ++ name) ++ ended (codes "cargo::rustc-env=SHOW_" ++ name ++ codes "=" ++ value)
 
@@ -48,7 +49,8 @@ shown name value = prints (shown_text name (unwrap_or value []))
 abbrev pub first_line : List ℕ → List ℕ
 first_line text = before_first (λ b. b == line_feed) text
 
--- `read PATH`: the path is declared, and READ is set to the first line of the file, if there is one and it is a text
+-- What `read PATH` prints: a line that declares the path. If there is a file that is a text,
+-- another line sets READ to the file's first line.
 abbrev pub first_line_set : Option (List ℕ) → List ℕ
 first_line_set None = []
 first_line_set (Some text) = ended (codes "cargo::rustc-env=READ=" ++ first_line text)
@@ -59,7 +61,8 @@ read_text path text = ended (codes "cargo::rerun-if-changed=" ++ path) ++ first_
 abbrev pub was_read : List ℕ → Option (List ℕ) → Step
 was_read path text = prints (read_text path text)
 
--- a relative path begins at CARGO_MANIFEST_DIR, which is empty if it is not set
+-- The path that `read` means. A relative path starts at the value of CARGO_MANIFEST_DIR, which is
+-- empty if the variable is not set.
 abbrev pub below_text : Option (List ℕ) → List ℕ → List ℕ
 below_text folder path = unwrap_or folder [] ++ slash ∷ path
 
@@ -69,14 +72,16 @@ full_path pairs w path = if is_absolute path then path else below_text (value_of
 abbrev pub text_read : List (List ℕ × List ℕ) → World → List ℕ → Option (List ℕ)
 text_read pairs w path = text_at w (path_of (full_path pairs w path))
 
--- `put NAME TEXT`: a file with that name, which is one part of a relative path
+-- The name in `put NAME TEXT` may be that of a file: it is a relative path of one part. The next
+-- definition is the step of `put`.
 abbrev pub is_file_name : List ℕ → Bool
 is_file_name name = not (list_any (λ b. b == slash) name) && is_relative name
 
 abbrev pub was_put : List ℕ → List ℕ → Step
 was_put name text = if is_file_name name then Writes (record no_output { files = (name, ended text) ∷ [] }) else Ends 2
 
--- `exit N`: a decimal number from 0 to 255 without leading zeros; any other text is 2
+-- The byte is a decimal digit. The next definitions read `exit N`: N is a number from 0 to 255
+-- without leading zeros, and any other text means 2.
 abbrev pub is_digit : ℕ → Bool
 is_digit b = not (nat_lt b 48) && nat_lt b 58
 
@@ -119,7 +124,7 @@ step_by Put pairs w rest = was_put (word_in rest) (rest_of rest)
 step_by Exit pairs w rest = Ends (status_in rest)
 step_by Skip pairs w rest = Writes no_output
 
--- a line that is no text does nothing
+-- the step of a line; a line that is no text does nothing
 abbrev pub step_in : List (List ℕ × List ℕ) → World → Option (List ℕ) → Step
 step_in pairs w None = Writes no_output
 step_in pairs w (Some line) = step_by (deed_of (word_in line)) pairs w (rest_of line)
@@ -129,12 +134,12 @@ step_of pairs w line = step_in pairs w (text_of line)
 
 -- ---- a script
 
--- the reply after a step and, if the script continues, the rest
+-- the reply after a step: its output and the rest of the script, or only the status if the script has ended
 abbrev pub after_step : Step → Reply → Reply
 after_step (Writes output) reply = before output reply
 after_step (Ends status) reply = ending status
 
--- the reply to the lines in turn; a script that reaches its end succeeds
+-- the reply to these lines, one after another; a script that reaches its end succeeds
 abbrev pub lines_run : List (List ℕ × List ℕ) → World → List (List ℕ) → Reply
 lines_run pairs w [] = ending 0
 lines_run pairs w (line ∷ lines) = after_step (step_of pairs w line) (lines_run pairs w lines)
@@ -146,7 +151,7 @@ abbrev pub image_run : List (List ℕ × List ℕ) → World → Option (List �
 image_run pairs w None = no_image
 image_run pairs w (Some bytes) = lines_run pairs w (lines_of bytes)
 
--- the run of the image at a path
+-- the reply to the run of the image at this path
 abbrev pub ran : List ℕ → List (List ℕ × List ℕ) → World → Reply
 ran path pairs w = image_run pairs w (file_at w (path_of path))
 

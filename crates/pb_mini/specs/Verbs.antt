@@ -1,4 +1,4 @@
--- The effect of each line of a source.
+-- The effects of each line of a source.
 use Rattle.std.specs.Prelude.{ℕ, ◌==◌, ◌+◌, Bool, true, ◌||◌, if◌then◌else◌, codes, List, [], ◌∷◌, ◌++◌, Option, Some, None, unwrap_or}
 use Rattle.std.specs.List.{before_first, slice_split}
 use Rattle.std.specs.Option.{option_map, option_and_then}
@@ -20,7 +20,8 @@ use Rattle.pb_mini.specs.declared.verbs.Verb.TheVariants.{Use, Include, Env, War
 
 -- ---- `when COND LINE`
 
--- The words of a line after each leading `when COND`, or no words if one of these conditions is not given.
+-- The words of a line without each `when COND` at its front. If one of these conditions is not
+-- given, there are no words.
 abbrev pub without_conditions : List (List ℕ) → List (List ℕ) → List (List ℕ)
 without_conditions given [] = []
 without_conditions given (word ∷ []) = if bytes_eq word (codes "when") then [] else word ∷ []
@@ -28,22 +29,24 @@ without_conditions given (word ∷ condition ∷ words) =
     if bytes_eq word (codes "when") then (if is_mentioned given condition then without_conditions given words else [])
     else word ∷ condition ∷ words
 
--- the line that remains of a line under these conditions
+-- what remains of a line if these conditions are given
 abbrev pub line_meant : List (List ℕ) → List ℕ → List ℕ
 line_meant given line = join_with_byte space (without_conditions given (slice_split (λ b. b == space) line))
 
--- the line that remains of a line: of `when` with this condition and rest, or of any other line
+-- What remains of a line. `found` is the condition and the rest, if the line begins with `when`.
+-- Any other line remains as it is.
 abbrev pub meant_at : List (List ℕ) → List ℕ → Option (List ℕ × List ℕ) → List ℕ
 meant_at given line None = line
 meant_at given line (Some found) = if is_mentioned given found.0 then line_meant given found.1 else []
 
 -- ---- `use NAME`
 
--- the path of a library's file, from the command line
+-- the path of a library's file, as the command line says it
 abbrev pub library_path : Scope → List ℕ → Option (List ℕ)
 library_path scope name = option_and_then path_of (value_at name scope.libraries)
 
--- the line, and then each line of the library's file
+-- the effect of `use NAME`: it adds the line, and then each line of the library's file, or reports
+-- that there is no such library
 abbrev pub used : ℕ → List ℕ → List ℕ → Option (List ℕ) → Effects
 used number line name None = diagnosed Error (codes "no library " ++ name) number
 used number line name (Some bytes) = joined (copied line) (copied_file (codes "> ") bytes)
@@ -53,25 +56,25 @@ use_effect scope w number line name = used number line name (file_at w (library_
 
 -- ---- `include PATH`
 
--- the text from the first slash on
+-- the text from its first slash on
 abbrev pub from_slash : List ℕ → List ℕ
 from_slash [] = []
 from_slash (b ∷ bytes) = if b == slash then b ∷ bytes else from_slash bytes
 
--- the variable in the first part of a path, as in `$NAME/x`
+-- the variable that the first part of a path names, as in `$NAME/x`
 abbrev pub variable_in : List ℕ → Option (List ℕ)
 variable_in [] = None
 variable_in (b ∷ path) = if b == dollar then Some (before_first (λ c. c == slash) path) else None
 
--- a variable with its value
+-- the name of a variable, with its value if it is set
 abbrev pub variable_at : List (List ℕ × List ℕ) → World → List ℕ → List ℕ × Option (List ℕ)
 variable_at pairs w name = (name, value_of pairs w name)
 
 abbrev pub variable_of : List (List ℕ × List ℕ) → World → List ℕ → Option (List ℕ × Option (List ℕ))
 variable_of pairs w path = option_map (variable_at pairs w) (variable_in path)
 
--- the path, in which the value of the variable, if there is one, replaces the first part; the value
--- is empty if the variable is not set
+-- The path, in which the variable's value replaces the first part, if that names a variable. A
+-- variable that is not set has an empty value.
 abbrev pub expanded : List ℕ → Option (List ℕ × Option (List ℕ)) → List ℕ
 expanded path None = path
 expanded path (Some variable) = unwrap_or variable.1 [] ++ from_slash path
@@ -84,12 +87,13 @@ abbrev pub asks_for : Option (List ℕ × Option (List ℕ)) → Effects
 asks_for None = no_effects
 asks_for (Some variable) = asks variable.0 variable.1
 
--- each line of the included file; if there is no file, the path is reported as it was written
+-- The effect of the lines of an included file, which are added. If there is no file, the path is
+-- reported as it was written.
 abbrev pub included_lines : ℕ → List ℕ → Option (List ℕ) → Effects
 included_lines number path None = diagnosed Error (codes "no file " ++ path) number
 included_lines number path (Some bytes) = copied_file (codes "| ") bytes
 
--- the variable and the file are read, and the file's lines are added
+-- the effect of `include PATH`: the variable and the file are read, and the file's lines are added
 abbrev pub included : ℕ → List ℕ → Option (List ℕ × Option (List ℕ)) → Option (List ℕ) → Option (List ℕ) → Effects
 included number written variable path found = joined (asks_for variable) (joined (reads path) (included_lines number written found))
 
@@ -98,11 +102,11 @@ include_effect scope w number path = included number path (variable_of scope.pai
 
 -- ---- `env NAME`
 
--- `env NAME=VALUE`, or `env NAME` if it is not set
+-- the line `env NAME=VALUE`, or `env NAME` if the variable is not set
 abbrev pub env_line : List ℕ → Option (List ℕ) → List ℕ
 env_line name value = codes "env " ++ name ++ value_text value
 
--- the variable is read, and its line is added
+-- the effect of `env NAME`: the variable is read, and its line is added
 abbrev pub told : List ℕ → Option (List ℕ) → Effects
 told name value = joined (asks name value) (copied (env_line name value))
 
@@ -121,12 +125,12 @@ verb_of word =
     else if bytes_eq word (codes "print") || bytes_eq word (codes "show") || bytes_eq word (codes "read") || bytes_eq word (codes "put") || bytes_eq word (codes "exit") then Copied
     else Unknown
 
--- a line does nothing if it is empty or begins with `#`
+-- the line does nothing, because it is empty or begins with `#`
 abbrev pub is_passed_over : List ℕ → Bool
 is_passed_over [] = true
 is_passed_over (b ∷ bytes) = b == hash
 
--- the effect of a line with this number, by its verb, which is its first word, and by its rest
+-- the effect of a line with this number; `verb` is its first word, and `rest` follows it
 abbrev pub effect_by : Verb → Scope → World → ℕ → List ℕ → List ℕ → Effects
 effect_by Use scope w number line rest = use_effect scope w number line rest
 effect_by Include scope w number line rest = include_effect scope w number rest
@@ -142,7 +146,7 @@ effect_meant scope w number line = if is_passed_over line then no_effects else e
 abbrev pub effect_of : Scope → World → ℕ → List ℕ → Effects
 effect_of scope w number line = effect_meant scope w number (line_meant scope.conditions line)
 
--- the effects of lines in turn, after the given number of other lines
+-- the effects of these lines, one after another; `before` is the number of lines before them
 abbrev pub effects_from : Scope → World → ℕ → List (List ℕ) → Effects
 effects_from scope w before [] = no_effects
 effects_from scope w before (line ∷ lines) = joined (effect_of scope w (before + 1) line) (effects_from scope w (before + 1) lines)

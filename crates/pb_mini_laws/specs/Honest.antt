@@ -1,5 +1,5 @@
--- The small compiler is an honest child on the commands of units: it gives
--- a good reply again whenever all that the reply rests on is the same.
+-- The small compiler is an honest child on the commands of units. The small compiler repeats a good
+-- reply if all that the reply rests on is the same.
 use Rattle.std.specs.Prelude.{◌≡◌, ℕ, true, false, codes, List, [], ◌∷◌, Option, Some, Result, Ok, Err, IfSome, slice_get}
 use Rattle.std.specs.List.{AllByRecursion}
 use Rattle.pb_data.specs.OrderedSet.{is_mentioned}
@@ -31,19 +31,19 @@ use Rattle.pb_mini.specs.declared.request.Request.TheVariants.{Version, Run, Com
 use Rattle.pb_mini_laws.specs.ReadBack.{CanBeTold, CanBeAsked}
 use Rattle.pb_mini_laws.specs.Said.{CanBeSaid, declared_in_image}
 
--- The small compiler.
+-- The small compiler as a child.
 
 abbrev pub small_compiler : Answers
 small_compiler c w = answered c.words c.pairs w
 
--- dep-info can express these names: the output is one line; each name is one line, is not
--- empty, and ends with neither `\` nor a carriage return; a variable's name has no `=`
+-- Dep-info can express these names. The output is one line. Each name is one line, is not empty,
+-- and ends neither with `\` nor with a carriage return. The name of a variable has no `=`.
 pub record CanBeSpelled (line : CommandLine) (names : Names) : Type 0 where
   pub output : has_byte 10 (below line.out_dir line.image) ≡ false
   pub paths : AllByRecursion CanBeTold names.paths
   pub variables : AllByRecursion CanBeAsked names.variables
 
--- dep-info can express what a compile reads, and directives can express what a script declares
+-- Dep-info can express what a compile reads, and directives can express what a script declares.
 abbrev pub CanTellOf : Result Request CommandLineFault → Command → World → Type 0
 CanTellOf (Ok Version) c w = Unit {0}
 CanTellOf (Ok (Run image)) c w = AllByRecursion CanBeSaid (declared_in_image (table_of c.pairs) w (looked.file_at w (looked.path_of image)))
@@ -53,18 +53,20 @@ CanTellOf (Err e) c w = Unit {0}
 abbrev pub CanTell : Command → World → Type 0
 CanTell c w = CanTellOf (request_of c.words) c w
 
--- the runner's words after its name are only `--run`
+-- the words of the runner after its program are `--run` and nothing else
 abbrev pub RunsAlone : List (List ℕ) → Type 0
 RunsAlone [] = Unit {0}
 RunsAlone (program ∷ words) = words ≡ codes "--run" ∷ []
 
--- the setup of the small compiler: the user's flags name no libraries, and the small compiler runs the scripts
+-- The setup is for the small compiler. The user's flags name no libraries, and the small compiler
+-- runs the scripts.
 pub record IsSmall (setup : Setup) : Type 0 where
   pub flags : is_mentioned setup.flags (codes "--extern") ≡ false
   pub runner : RunsAlone setup.runner
 
--- a unit of a project that was read and planned: the project is settled and has its plan; its paths
--- and the path of the unit's source are normalised absolute paths; a run has no source
+-- The unit belongs to a project that was read and planned. The project is settled and has its plan.
+-- The project's paths and the path of the unit's source are normalised absolute paths. A run has no
+-- source.
 pub record IsOfProject (project : Project) (u : Planned) : Type 0 where
   pub settled : IsSettled project.workspace
   pub paths : HasPaths project
@@ -74,8 +76,8 @@ pub record IsOfProject (project : Project) (u : Planned) : Type 0 where
   pub place : ℕ
   pub there : slice_get project.plan.planned place ≡ Some u
 
--- The law: the small compiler is honest on the command of every unit of a project, whatever
--- earlier scripts have printed, in every world in which it can express what it reads.
+-- Law: the small compiler is honest on the command of every unit of a project, whatever earlier
+-- scripts have printed. The world may be any in which it can express what it reads.
 abbrev pub SmallCompilerIsHonest : Type 0
 SmallCompilerIsHonest = (setup : Setup) (project : Project) (u : Planned) (done : List (Option (List Directive))) (v : World) → IsSmall setup → IsOfProject project u
     → CanTell (command_of setup project u done) (seen_by (command_of setup project u done) v) → IsHonest judge small_compiler (command_of setup project u done) v

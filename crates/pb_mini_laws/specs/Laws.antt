@@ -1,4 +1,4 @@
--- What builds with the small compiler produce, without a premise on the child.
+-- What builds with the small compiler produce. Nothing is assumed about the child.
 use Rattle.std.specs.Prelude.{◌≡◌, ℕ, true, List, Result, Ok}
 use Rattle.std.specs.FinMap as finite
 use Rattle.pb_build_result.specs.declared.fault.BuildFault.{BuildFault}
@@ -19,26 +19,27 @@ use Rattle.pb_build.specs.Headline.{records_of, IsHonestBuild, ByTurns, GivesCle
 use Rattle.pb_build.specs.Session.{Point, CarriesBuild, Course, ByPicked}
 use Rattle.pb_mini_laws.specs.Small.{AllGive, AllTold, IsSmallBuild, SmallCourse, StandApart}
 
--- The small compiler is an honest child of each build that satisfies `IsSmallBuild`.
+-- The small compiler is an honest child of each build of which `IsSmallBuild` is true.
 abbrev pub SmallBuildsAreHonest : Type 0
 SmallBuildsAreHonest = (options : Options) (w : World) → IsSmallBuild options w → IsHonestBuild small_compiler options w
 
--- Over a modelled place, with the small compiler as child: a build over true records that satisfies
--- `IsSmallBuild` produces what a clean build of the present workspace produces, however it ends.
+-- The place is modelled, the small compiler is the child, and the build's records are true. If
+-- `IsSmallBuild` is true of the build, it produces what a clean build of the present workspace
+-- produces, however it ends.
 abbrev pub SmallBuildsGive : {S : Type 0} → (S → List ℕ → List ℕ → Step → S → Type 0) → Type 0
 SmallBuildsGive {S} Turns = (from : S) (options : Options) (result : Result Summary BuildFault) (old new : BuildState) → Headline true small_compiler (ByTurns Turns from) options result old new
     → IsSmallBuild options old.world → Sound reading judge small_compiler (records_of options old.world.variables) old.world.files → GivesCleanResult TrustedRecords small_compiler (ByTurns Turns from) options result old new
 
--- A build of a session with the small compiler produces the same, if the records of its folder were
--- true before some steps. These steps may be any edits outside of this folder, and any such builds.
+-- A build of a session with the small compiler also produces this, if the records in its folder
+-- were true before some steps. These steps are edits outside this folder and builds of which
+-- `IsSmallBuild` is true.
 abbrev pub SmallSessionsGive : Type 0
 SmallSessionsGive = (options : Options) (pick : PickBy) (steps : List SessionStep) (before mid after : Point)
     → Sound reading judge small_compiler (records_of options mid.moment.world.variables) before.moment.world.files → SmallCourse (records_of options mid.moment.world.variables) steps before mid
     → IsSmallBuild options mid.moment.world → (built : CarriesBuild small_compiler options pick mid after) → GivesCleanResult TrustedRecords small_compiler (ByPicked pick options) options built.answer.result mid.moment built.ended
 
--- Each build of a session file produces the same, if the session begins without files and builds
--- into these target folders. The builds need only satisfy what the file does not determine
--- (`IsToldBuild`).
+-- Each build of a session file also produces this, if the session begins without files and builds
+-- into these target folders. The builds need only be as `IsToldBuild` says.
 abbrev pub SessionFilesGive : Type 0
 SessionFilesGive = (bytes : List ℕ) (targets : List (List ℕ)) (steps : List SessionStep) (before after : Point) → session_of bytes ≡ Ok steps → before.moment.world.files ≡ finite.empty
     → StandApart targets → (course : Course small_compiler steps before after) → AllTold targets steps before after course → AllGive steps before after course

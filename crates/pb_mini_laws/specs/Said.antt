@@ -1,4 +1,4 @@
--- What a script declares so that the builder can read it.
+-- What a script declares in such a way that the builder can read it.
 use Rattle.std.specs.Prelude.{◌≡◌, ℕ, not, Bool, true, false, List, [], ◌∷◌, ◌++◌, Option, Some, None}
 use Rattle.pb_directive.specs.Lines.{has_byte, is_blank}
 use Rattle.pb_place_types.specs.World.{World}
@@ -8,13 +8,13 @@ use Rattle.pb_mini.specs.Script.{Step, Writes, Ends, deed_of, step_of}
 use Rattle.pb_mini.specs.declared.script.Deed.{Deed}
 use Rattle.pb_mini.specs.declared.script.Deed.TheVariants.{Show, Read}
 
--- a text that is not empty and does not end with a blank
+-- the text is not empty, and does not end with a blank
 abbrev pub ends_visibly : List ℕ → Bool
 ends_visibly [] = false
 ends_visibly (b ∷ []) = not (is_blank b)
 ends_visibly (b ∷ c ∷ bytes) = ends_visibly (c ∷ bytes)
 
--- a directive can express a text: it ends visibly, and is one line
+-- a directive can express the text: it ends visibly, and is one line
 pub record CanBeSaid (text : List ℕ) : Type 0 where
   pub ends : ends_visibly text ≡ true
   pub one_line : has_byte 10 text ≡ false
@@ -34,7 +34,7 @@ abbrev pub declared_after : Step → List (List ℕ) → List (List ℕ)
 declared_after (Writes output) texts = texts
 declared_after (Ends status) texts = []
 
--- the names and paths that a script declares
+-- the names and paths that the lines of a script declare
 abbrev pub declared_of : List (List ℕ × List ℕ) → World → List (List ℕ) → List (List ℕ)
 declared_of pairs w [] = []
 declared_of pairs w (line ∷ lines) = declared_in (text_of line) ++ declared_after (step_of pairs w line) (declared_of pairs w lines)

@@ -1,4 +1,5 @@
--- Builds whose child is the small compiler: what must be true of their arguments. There is no condition on the child.
+-- What must be true of a build whose child is the small compiler. Only the build's arguments
+-- matter, since nothing is assumed about the child.
 use Rattle.std.specs.Prelude.{◌≡◌, ◌⊎◌, ◌∷◌, [], ⊤, ℕ, true, false, codes, Contains, List, take, Some}
 use Rattle.pb_data.specs.OrderedSet.{is_mentioned}
 use Rattle.pb_mini_laws.specs.Honest.{small_compiler, CanTell, IsSmall}
@@ -23,21 +24,21 @@ use Rattle.pb_build.specs.Session.{Point, Carries, Course, ByPicked}
 
 -- One build.
 
--- the small compiler can report what it reads for each unit of a project: on the unit's command, in the unit's view
+-- for each unit of a project, the small compiler can report what it reads, given the unit's command and view
 abbrev pub CanTellUnits : Setup → Project → World → Type 0
 CanTellUnits setup project sources = (index : ℕ) (u : Planned) → unit_at project index ≡ Some u
     → CanTell (command_after setup project (take index (outcomes small_compiler setup project sources)) u) (view_of (take index (outcomes small_compiler setup project sources)) sources u)
 
--- the small compiler can report what it reads, whatever project and version of the compiler a build
--- finds in a world
+-- whatever project and version of the compiler a build finds in a world, the small compiler can
+-- report what it reads
 abbrev pub CanTellBuild : Options → World → Type 0
 CanTellBuild options w = (project : Project) (toolchain : List ℕ) → IsProject options (environment_of options w.variables).target w project
     → toolchain_of small_compiler (environment_of options w.variables) project (from_nothing (environment_of options w.variables).target w) ≡ Some toolchain
     → CanTellUnits (setup_of options (environment_of options w.variables) toolchain) project (from_nothing (environment_of options w.variables).target w)
 
--- a build with the small compiler: the manifest and the files of the sources have normalised
--- absolute paths; the user's flags name no libraries; the small compiler runs the scripts; and it
--- can report what it reads
+-- The build suits the small compiler. The manifest and the files of the sources have normalised
+-- absolute paths. The user's flags name no libraries. The small compiler runs the scripts, and can
+-- report what it reads.
 pub record IsSmallBuild (options : Options) (w : World) : Type 0 where
   pub manifest : is_path options.manifest ≡ true
   pub files : FilesHavePaths (from_nothing (environment_of options w.variables).target w)
@@ -46,52 +47,53 @@ pub record IsSmallBuild (options : Options) (w : World) : Type 0 where
 
 -- Sessions.
 
--- a step spares the records of a folder: an edit that spares them (`Spares`); a build without
--- units; a build that satisfies `IsSmallBuild` and keeps its records there; or a build that keeps
--- its records elsewhere
+-- The step spares the records of the folder. A build spares them if it has no units, or keeps its
+-- records in a folder that shares no path with this one. A build that keeps its records in this
+-- folder spares them if `IsSmallBuild` is true of it. An edit must be as `Spares` says.
 abbrev pub SparesBySmall : List ℕ → SessionStep → World → Type 0
 SparesBySmall folder (Build options pick) w = UnitsOf small_compiler options w → (IsSmallBuild options w × (records_of options w.variables ≡ folder)) ⊎ ShareNoPath folder (records_of options w.variables)
 SparesBySmall folder step w = Spares small_compiler folder step w
 
--- the steps were taken in turn, and each spares the records of a folder
+-- the steps were taken one by one, and each spares the records of the folder
 abbrev pub SmallCourse : List ℕ → List SessionStep → Point → Point → Type 0
 SmallCourse folder [] before after = after ≡ before
 SmallCourse folder (step ∷ steps) before after = SparesBySmall folder step before.moment.world × ((mid : Point) × Carries small_compiler step before mid × SmallCourse folder steps mid after)
 
--- Sessions of a file.
+-- Sessions that a file contains.
 
--- of two target folders, either both are the same, or neither is at or below the other
+-- two target folders are either the same, or neither is at or below the other
 abbrev pub StandApart : List (List ℕ) → Type 0
 StandApart targets = (t u : List ℕ) → Contains targets t → Contains targets u → (t ≡ u) ⊎ ((is_at_or_below t u ≡ false) × (is_at_or_below u t ≡ false))
 
--- what a session file does not determine about a build: its target folder is one of these; its
--- profile is a name; the user's flags name no libraries; and the compiler can report what it reads
+-- What must be true of a build in a session file. The target folder is one of these. The profile's
+-- name has the letters of package names. The user's flags name no libraries, and the small compiler
+-- can report what it reads.
 pub record IsToldBuild (targets : List (List ℕ)) (options : Options) (w : World) : Type 0 where
   pub target : Contains targets (environment_of options w.variables).target
   pub profile : is_name options.profile ≡ true
   pub flags : is_mentioned (environment_of options w.variables).flags (codes "--extern") ≡ false
   pub can_tell : CanTellBuild options w
 
--- what a session file does not determine about a step: for each target folder, an edit stays
--- outside of the folder or removes the whole folder; a build satisfies `IsToldBuild`
+-- What must be true of a step in a session file. For each target folder, an edit stays outside it
+-- or removes it as a whole. Of a build, `IsToldBuild` must be true.
 abbrev pub IsToldStep : List (List ℕ) → SessionStep → World → Type 0
 IsToldStep targets (Write path text) w = (t : List ℕ) → Contains targets t → is_at_or_below t path ≡ false
 IsToldStep targets (Remove path) w = (t : List ℕ) → Contains targets t → (is_at_or_below path t ≡ true) ⊎ ShareNoPath t path
 IsToldStep targets (Build options pick) w = IsToldBuild targets options w
 IsToldStep targets step w = ⊤
 
--- each step that was taken satisfies `IsToldStep`
+-- `IsToldStep` was true of each step when the step was taken
 abbrev pub AllTold : (targets : List (List ℕ)) (steps : List SessionStep) (before after : Point) → Course small_compiler steps before after → Type 0
 AllTold targets [] before after course = ⊤
 AllTold targets (step ∷ steps) before after course = IsToldStep targets step before.moment.world × AllTold targets steps course.0 after course.2
 
--- if a step is a build, it produces what a clean build of the workspace at that time produces, or a
--- fault and the first of its lines
+-- If the step is a build, it produces what a clean build of the workspace at that time produces. A
+-- fault may end it after the first of its lines.
 abbrev pub StepGives : (step : SessionStep) (before after : Point) → Carries small_compiler step before after → Type 0
 StepGives (Build options pick) before after built = GivesCleanResult TrustedRecords small_compiler (ByPicked pick options) options built.answer.result before.moment built.ended
 StepGives step before after taken = ⊤
 
--- each build among the steps does so (`StepGives`)
+-- each build among the steps produces what `StepGives` says
 abbrev pub AllGive : (steps : List SessionStep) (before after : Point) → Course small_compiler steps before after → Type 0
 AllGive [] before after course = ⊤
 AllGive (step ∷ steps) before after course = StepGives step before course.0 course.1 × AllGive steps course.0 after course.2

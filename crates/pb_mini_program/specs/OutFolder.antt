@@ -1,4 +1,4 @@
--- The folder in which the files of a reply are put.
+-- The folder into which the files of a reply are put.
 use Rattle.std.specs.Prelude.{ℕ, Bool, false, List, [], ◌∷◌, codes, if◌then◌else◌, Option, Some, None, option_and_then, Result, Ok, Err}
 use Rattle.std.specs.Str.{bytes_eq}
 use Rattle.std.specs.FinMap as map
@@ -12,11 +12,12 @@ use Rattle.pb_mini.specs.declared.request.Request.TheVariants.{Version, Run, Com
 use Rattle.pb_mini_program.specs.declared.out_folder.Waiting.{Waiting}
 use Rattle.pb_mini_program.specs.declared.out_folder.Waiting.TheVariants.{Folder, Other}
 
--- the folder in `OUT_DIR`, if it is set to an absolute path
+-- the folder that `OUT_DIR` names, if it is set to an absolute path
 abbrev pub out_dir_variable : World → Option (List ℕ)
 out_dir_variable w = option_and_then path_of (map.get w.variables (codes "OUT_DIR"))
 
--- the folder of a request: a compile's is in its arguments, a run's in the variable
+-- The folder into which the files of a request are put. For a compile it is in the arguments, and
+-- for a run in the variable.
 abbrev pub folder_for : Result Request CommandLineFault → World → Option (List ℕ)
 folder_for (Ok Version) w = None
 folder_for (Ok (Run path)) w = out_dir_variable w
@@ -26,20 +27,20 @@ folder_for (Err e) w = None
 abbrev pub out_folder : List (List ℕ) → World → Option (List ℕ)
 out_folder words w = folder_for (request_of words) w
 
--- whether arguments request the run of an image
+-- the arguments request the run of an image
 abbrev pub asks_run : List (List ℕ) → Bool
 asks_run [] = false
 asks_run (word ∷ []) = false
 asks_run (word ∷ path ∷ []) = bytes_eq word (codes "--run")
 asks_run (word ∷ other ∷ next ∷ words) = false
 
--- what the next argument is after this one, which is no value: the folder, the value of another
--- option, or no value
+-- what is waited for after this argument, which is itself no value: the folder, the value of
+-- another option, or no value
 abbrev pub waiting_after : List ℕ → Option Waiting
 waiting_after word = if bytes_eq word (codes "--out-dir") then Some Folder else (if takes_value word then Some Other else None)
 
--- the first value of `--out-dir` among some arguments; if an option waits for a value, the first
--- argument is that value
+-- The first value of `--out-dir` among these arguments. If an option waits for its value, the first
+-- argument is that value.
 abbrev pub first_out_dir : Option Waiting → List (List ℕ) → Option (List ℕ)
 first_out_dir waiting [] = None
 first_out_dir (Some Folder) (word ∷ words) = Some word

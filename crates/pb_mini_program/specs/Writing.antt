@@ -1,4 +1,4 @@
--- What the program writes of a reply, in order: the files, the output, standard error.
+-- What the program writes of a reply: first the files, then the output, then standard error.
 -- Nothing is written after a failed write.
 use Rattle.std.specs.Prelude.{◌≡◌, ◌⊎◌, ℕ, Bool, List, [], ◌∷◌, ◌++◌, Option, Some, None, IsTrue}
 use Rattle.std.specs.Io.KnownBytes.{Appends}
@@ -19,11 +19,11 @@ use Rattle.pb_mini_program.specs.OutFolder.{out_folder}
 abbrev pub Writes : List ℕ → SinkState → SinkState → Type 0
 Writes bytes old new = Appends old.taken new.taken bytes × (new.faults ≡ old.faults)
 
--- the sink failed at these bytes: it took the first n of them but not all
+-- the sink failed while these bytes were written: it took a first part of them, but not all
 abbrev pub FailsAt : List ℕ → SinkState → SinkState → Type 0
 FailsAt bytes old new = TakesPart bytes old.taken new.taken × (new.faults ≡ up old.faults)
 
--- the maps of a place, and its counters
+-- the world of a place, and its counters
 pub record Kept : Type 0 where
   pub world : World
   pub counts : Counts
@@ -31,57 +31,60 @@ pub record Kept : Type 0 where
 abbrev pub kept : At → Kept
 kept at = record { world = at.world; counts = at.counts }
 
--- the calls that write these files in a folder, in turn
+-- the calls that write these files into a folder, one by one
 abbrev pub writes_in : List ℕ → List (List ℕ × List ℕ) → List Call
 writes_in folder [] = []
 writes_in folder (file ∷ files) = call.Write (below folder file.0) ∷ writes_in folder files
 
--- the counters after files were put in a folder, by one call for each; without a folder there is no call
+-- the counters after these files were put into a folder, by one call for each; without a folder no call is made
 abbrev pub past_puts : Option (List ℕ) → List (List ℕ × List ℕ) → Counts → Counts
 past_puts None files c = c
 past_puts (Some folder) files c = past_calls (writes_in folder files) c
 
--- the files were put in the folder by one call for each, in turn, and none failed; without a folder no call was made
+-- The files were put into the folder, by one call for each, and no call failed. Without a folder no
+-- call was made.
 abbrev pub PutsIn : Bool → Option (List ℕ) → List (List ℕ × List ℕ) → Kept → Kept → Type 0
 PutsIn is_modelled folder files old new = (new.counts ≡ past_puts folder files old.counts) × (IsTrue is_modelled → new.world ≡ put_reply folder files old.world)
 
--- the files were put in the folder up to this one, which has a first part of its bytes or is as it was
+-- The files of `done` were put into the folder. The file after them is unchanged, is gone, or has a
+-- first part of its bytes.
 abbrev pub PutsUpTo : List ℕ → List (List ℕ × List ℕ) → List ℕ × List ℕ → World → World → Type 0
 PutsUpTo folder done file old new = Torn (below folder file.0) file.1 (put_reply (Some folder) done old) new
 
--- the write of one of the files failed: the files before it were put in the folder, and no call came after it
+-- The write of one of the files failed. The files before it were put into the folder, and no call
+-- came after it.
 abbrev pub FailsToPut : Bool → List ℕ → List (List ℕ × List ℕ) → Kept → Kept → Type 0
 FailsToPut is_modelled folder files old new =
     (done : List (List ℕ × List ℕ)) × (file : List ℕ × List ℕ) × (left : List (List ℕ × List ℕ)) × (files ≡ done ++ file ∷ left)
     × (new.counts ≡ past_place_fault (call.Write (below folder file.0)) place.Write (past_calls (writes_in folder done) old.counts)) × (IsTrue is_modelled → PutsUpTo folder done file old.world new.world)
 
--- memory ran out before or during the write of one of the files, and no call failed; the files
--- before it were put in the folder
+-- Memory ran out before or during the write of one of the files, and no call failed. The files
+-- before it were put into the folder.
 abbrev pub StopsPutting : Bool → List ℕ → List (List ℕ × List ℕ) → Kept → Kept → Type 0
 StopsPutting is_modelled folder files old new =
     (done : List (List ℕ × List ℕ)) × (file : List ℕ × List ℕ) × (left : List (List ℕ × List ℕ)) × (files ≡ done ++ file ∷ left)
     × (PutsIn is_modelled (Some folder) done old new
     ⊎ ((new.counts ≡ past_calls (writes_in folder (done ++ file ∷ [])) old.counts) × (IsTrue is_modelled → PutsUpTo folder done file old.world new.world)))
 
--- What is reported of a reply over a view: if the view reports what it shows, the reply is that of
--- the small compiler to these arguments.
+-- The reply over a view. If the view reports what it shows, the reply is that of the small compiler
+-- to these arguments.
 
 abbrev pub IsReply : Bool → List (List ℕ) → World → Reply → Type 0
 IsReply shows words shown reply = IsTrue shows → reply ≡ answered words [] shown
 
--- the reply's files go into this folder, or nowhere
+-- if the view reports what it shows, the reply's files go into this folder, or nowhere if there is none
 abbrev pub IsFolder : Bool → List (List ℕ) → World → Option (List ℕ) → Type 0
 IsFolder shows words shown folder = IsTrue shows → out_folder words shown ≡ folder
 
--- the same for some files, if they are those of the reply
+-- if these files are those of the reply, they go into this folder, or nowhere if there is none
 abbrev pub IsFolderOf : Bool → List (List ℕ) → World → List (List ℕ × List ℕ) → Option (List ℕ) → Type 0
 IsFolderOf shows words shown files folder = files ≡ (answered words [] shown).files → IsFolder shows words shown folder
 
--- all files of the reply were put there
+-- all files of the reply were put into the folder of the request
 abbrev pub Puts : Bool → Bool → List (List ℕ) → World → Reply → Kept → Kept → Type 0
 Puts shows is_modelled words shown reply old new = (folder : Option (List ℕ)) × IsFolder shows words shown folder × PutsIn is_modelled folder reply.files old new
 
--- a place and two sinks
+-- a place and the two sinks of a program
 pub record Outside : Type 0 where
   pub kept : Kept
   pub out : SinkState
@@ -90,19 +93,20 @@ pub record Outside : Type 0 where
 abbrev pub outside : At → SinkState → SinkState → Outside
 outside at out err = record { kept = kept at; out = out; err = err }
 
--- all of the reply was written: the files, the output, and standard error
+-- the whole reply was written: the files, the output, and standard error
 abbrev pub WritesAll : Bool → Bool → List (List ℕ) → World → Reply → Outside → Outside → Type 0
 WritesAll shows is_modelled words shown reply old new = Puts shows is_modelled words shown reply old.kept new.kept × Writes reply.stdout old.out new.out × Writes reply.stderr old.err new.err
 
--- a write failed: the write of a file; the write of the output, after all files; or the write of
--- standard error, after the whole output
+-- A write failed: that of a file, or that of the output, after all files, or that of standard
+-- error, after the whole output.
 abbrev pub WriteFails : Bool → Bool → List (List ℕ) → World → Reply → Outside → Outside → Type 0
 WriteFails shows is_modelled words shown reply old new =
     ((folder : List ℕ) × IsFolder shows words shown (Some folder) × FailsToPut is_modelled folder reply.files old.kept new.kept × (new.out ≡ old.out) × (new.err ≡ old.err))
     ⊎ ((Puts shows is_modelled words shown reply old.kept new.kept × FailsAt reply.stdout old.out new.out × (new.err ≡ old.err))
     ⊎ (Puts shows is_modelled words shown reply old.kept new.kept × Writes reply.stdout old.out new.out × FailsAt reply.stderr old.err new.err))
 
--- memory ran out before a file was put, or at one of the files; no call failed, and nothing was written to a sink
+-- Memory ran out before a file was put, or at one of the files. No call failed, and nothing was
+-- written to a sink.
 abbrev pub MemoryEnds : Bool → Bool → List (List ℕ) → World → Outside → Outside → Type 0
 MemoryEnds shows is_modelled words shown old new =
     (new ≡ old)

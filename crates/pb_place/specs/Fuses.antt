@@ -1,5 +1,5 @@
--- What a failing call leaves of a place in memory, and how much it uses up of fuses and deaths.
--- Running out of memory is no failure, and uses up neither a fuse nor a death.
+-- What a failed call leaves of a place in memory, and how fuses and deaths are used up. Running out
+-- of memory is no failure, and uses up neither a fuse nor a death.
 use Rattle.std.specs.Prelude.{◌≡◌, ◌≢◌, ◌⊎◌, ℕ, ◌+◌, ◌-◌, ◌/◌, ◌==◌, max, List, length, take, Option, Result, Ok, Err, IfOk, IfErr, if◌then◌else◌}
 use Rattle.pb_place_types.specs.World.{World, written, removed}
 use Rattle.pb_place_types.specs.CallsInTurn.{own_fault}
@@ -14,7 +14,8 @@ use Rattle.pb_place_types.specs.declared.place.PlaceFault.TheVariants.{OutOfMemo
 use Rattle.pb_place_types.specs.declared.place.StartFault.{StartFault}
 use Rattle.pb_place_types.specs.declared.place.StartFault.TheVariants as start
 
--- the fuse after a call: one less; if the call that was to fail ran out of memory, the next one is to fail
+-- The fuse after a call is one less. But if memory ran out in the call that was to fail, the next
+-- call is to fail.
 abbrev pub fuse_past : PlaceFault → ℕ → ℕ
 fuse_past OutOfMemory fuse = if fuse == 1 then 1 else fuse - 1
 fuse_past e fuse = fuse - 1
@@ -23,19 +24,19 @@ abbrev pub fuse_after : {T : Type 0} → Result T PlaceFault → ℕ → ℕ
 fuse_after (Ok x) fuse = fuse - 1
 fuse_after (Err e) fuse = fuse_past e fuse
 
--- a call on files or variables fails if and only if the fuse is 1, with the call's own fault;
--- any call may run out of memory
+-- A call on files or variables fails if and only if the fuse is 1. A failed call has its own fault.
+-- Any call may run out of memory.
 pub record FailsByFuse {T : Type 0} (call : Call) (result : Result T PlaceFault) (old : Held) : Type 0 where
   pub fails_now : old.fuse ≡ 1 → IfOk result (λ _. ⊥)
   pub fault : IfErr result (λ e. e ≢ OutOfMemory → e ≡ own_fault call)
   pub fails : IfErr result (λ e. e ≢ OutOfMemory → old.fuse ≡ 1)
 
--- the state of a place after a call on files or variables, apart from what the call does to files
+-- the state of a place after a call on files or variables, except for the change of files
 abbrev pub called : {T : Type 0} → Call → Result T PlaceFault → Held → Held
 called call result old = record old { tally = counted call result old.tally; fuse = fuse_after result old.fuse }
 
--- the world after a write with this fault:
--- the file has the first half of the bytes, rounded down, or is as it was if memory ran out
+-- The world after a write returned this fault. The file has the first half of the bytes; the half's
+-- length is rounded down. If memory ran out, the file is unchanged.
 abbrev pub torn_by : PlaceFault → List ℕ → List ℕ → World → World
 torn_by OutOfMemory path bytes w = w
 torn_by e path bytes w = written path (take (length bytes / 2) bytes) w
@@ -44,8 +45,8 @@ abbrev pub after_write : {T : Type 0} → Result T PlaceFault → List ℕ → L
 after_write (Ok x) path bytes w = written path bytes w
 after_write (Err e) path bytes w = torn_by e path bytes w
 
--- The world after a removal with this fault: without the first half of the files, rounded down and in byte order.
--- If memory ran out, all files are as they were.
+-- The world after a removal returned this fault. The first half of the files in byte order is gone;
+-- the half's length is rounded down. If memory ran out, no file is gone.
 abbrev pub halved_by : PlaceFault → List ℕ → World → World
 halved_by OutOfMemory path w = w
 halved_by e path w = record w { files = half_removed path w.files }
@@ -54,8 +55,8 @@ abbrev pub after_removal : {T : Type 0} → Result T PlaceFault → List ℕ →
 after_removal (Ok x) path w = removed path w
 after_removal (Err e) path w = halved_by e path w
 
--- The deaths after a spawn for this folder: one less if the child was spawned or its death prevented the spawn.
--- If the fuse let the call fail, the deaths stay for the next one.
+-- The deaths after a spawn for this folder. The folder's first death is used up if a child was
+-- spawned, or if this death prevented the spawn. If the fuse made the spawn fail, all deaths stay.
 abbrev pub deaths_past : StartFault → Option (List ℕ) → ℕ → List Death → List Death
 deaths_past start.OutOfMemory out fuse ds = ds
 deaths_past e out fuse ds = if fuse == 1 then ds else other_deaths out ds
@@ -64,19 +65,21 @@ abbrev pub deaths_after : {T : Type 0} → Option (List ℕ) → ℕ → Result 
 deaths_after out fuse (Ok x) ds = other_deaths out ds
 deaths_after out fuse (Err e) ds = deaths_past e out fuse ds
 
--- what a start uses up if its spawn fails with this fault: one call, and no child was in flight
+-- what a start uses up if its spawn returns this fault: one call; no child was in flight for it
 pub record SpawnFailed (e : StartFault) (out : Option (List ℕ)) (old new : Held) : Type 0 where
   pub fuse : new.fuse ≡ old.fuse - 1
   pub deaths : new.deaths ≡ deaths_past e out old.fuse old.deaths
   pub most : new.most ≡ old.most
 
--- what a start uses up if its child was spawned, however it ended: two calls, the spawn and the end
+-- what a start uses up if its child was spawned, whatever its end was: two calls, the spawn and the
+-- wait for the end
 pub record ChildFlew (out : Option (List ℕ)) (old new : Held) : Type 0 where
   pub fuse : new.fuse ≡ old.fuse - 2
   pub deaths : new.deaths ≡ other_deaths out old.deaths
   pub most : new.most ≡ max old.most (length (children_in old.flying) + 1)
 
--- which of the two a start used up, by its fault; memory may run out in the spawn or in the end
+-- The fault of a start determines what the start used up. If memory ran out, that happened either
+-- in the spawn or in the wait for the end.
 abbrev pub UsedByFault : StartFault → Option (List ℕ) → Held → Held → Type 0
 UsedByFault start.CannotStart out old new = SpawnFailed start.CannotStart out old new
 UsedByFault start.OutOfMemory out old new = SpawnFailed start.OutOfMemory out old new ⊎ ChildFlew out old new
@@ -86,6 +89,6 @@ abbrev pub UsedByStart : {T : Type 0} → Result T StartFault → Option (List �
 UsedByStart (Ok x) out old new = ChildFlew out old new
 UsedByStart (Err e) out old new = UsedByFault e out old new
 
--- memory ran out in the spawn of a start
+-- a start failed because memory ran out in its spawn
 abbrev pub SpawnRefused : {T : Type 0} → Result T StartFault → Option (List ℕ) → Held → Held → Type 0
 SpawnRefused result out old new = (result ≡ Err start.OutOfMemory) × SpawnFailed start.OutOfMemory out old new

@@ -1,5 +1,4 @@
--- The state of a place in memory:
--- its maps, its counters, its last fault, its children in flight, and which calls will fail.
+-- The state of a place in memory: its maps, its counters, its children in flight, and which calls will fail.
 use Rattle.std.specs.Prelude.{ℕ, ◌==◌, ◌||◌, Bool, true, false, not, List, [], ◌∷◌, Option, Some, None, refl, if◌then◌else◌}
 use Rattle.std.specs.List.{list_any}
 use Rattle.std.specs.FinMap as map
@@ -19,24 +18,24 @@ use Rattle.pb_place_types.specs.declared.place.StartFault.{StartFault}
 
 -- The state of a place in memory.
 pub record Held : Type 0 where
-  -- its files and variables
+  -- the files and variables of the place
   pub world : World
-  -- its counters, without the children in flight
+  -- the counters of the place, except for the children in flight
   pub tally : Counts
-  -- the children in flight, each with the fault that its end will return, if any
+  -- the children in flight; each entry has the fault that the child's end will return, if there is one
   pub flying : List (Flying (Option StartFault))
-  -- the most children that were ever in flight
+  -- the greatest number of children that were ever in flight at once
   pub most : ℕ
-  -- the number of calls up to and including the one that is to fail, or 0 if none is
+  -- n if the n-th call from now is to fail, or 0 if no call is to fail
   pub fuse : ℕ
-  -- the starts that will fail
+  -- the deaths that still wait for a child
   pub deaths : List Death
 
--- its counters
+-- the counters of the place, with the children in flight
 abbrev pub counts_in : Held → Counts
 counts_in h = with_children (children_in h.flying) h.tally
 
--- what clauses see of the place
+-- the place as clauses see it
 abbrev pub at_in : Held → At
 at_in h = record { world = h.world; counts = counts_in h; most = h.most; still = λ _. Unit {0}; moved = [] }
 
@@ -44,7 +43,7 @@ at_in h = record { world = h.world; counts = counts_in h; most = h.most; still =
 abbrev pub no_held : Held
 no_held = record { world = record { files = map.empty; variables = map.empty }; tally = no_calls; flying = []; most = 0; fuse = 0; deaths = [] }
 
--- a call may fail: a fuse is set, a death waits, or a child in flight will not reply
+-- A call may fail if a fuse is set, if a death waits, or if a child in flight will end with a fault.
 abbrev pub is_doomed : Flying (Option StartFault) → Bool
 is_doomed f = not (is_none f.kept)
   where
@@ -59,7 +58,7 @@ may_fail h = not (h.fuse == 0) || (has_some h.deaths || list_any is_doomed h.fly
     has_some [] = false
     has_some (d ∷ ds) = true
 
--- the fault that the end of a ticket's child will return, if any
+-- the fault that the end of the ticket's child will return, if there is one
 abbrev pub fate_in : Option (Flying (Option StartFault)) → Option StartFault
 fate_in None = None
 fate_in (Some f) = f.kept
@@ -67,7 +66,8 @@ fate_in (Some f) = f.kept
 abbrev pub fate_at : ℕ → List (Flying (Option StartFault)) → Option StartFault
 fate_at ticket flying = fate_in (entry_at ticket flying)
 
--- the first death that waits for a child with this folder, and the other deaths
+-- Says whether a death waits for a child with this output folder. `fate_of` is the kind of the
+-- first such death, and `other_deaths` are the other deaths.
 abbrev pub is_for : Option (List ℕ) → Death → Bool
 is_for None d = false
 is_for (Some out) d = bytes_eq d.key (last_part out)
@@ -91,7 +91,7 @@ held_code = code_by _ (coded× world_code (coded× counts_code (coded× (coded_l
     (λ h. (h.world, (h.tally, (h.flying, (h.most, (h.fuse, h.deaths))))))
     (λ t. record { world = t.0; tally = t.1.0; flying = t.1.1.0; most = t.1.1.1.0; fuse = t.1.1.1.1.0; deaths = t.1.1.1.1.1 }) (λ _. refl)
 
--- the world with a variable set, and with a variable removed
+-- The world after a variable is set. `unset` is the world after a variable is removed.
 abbrev pub set : List ℕ → List ℕ → World → World
 set name value w = record w { variables = map.insert w.variables name value }
 

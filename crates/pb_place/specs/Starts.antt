@@ -1,4 +1,5 @@
--- When a child of a place in memory cannot be started or dies, and what its spawn and its end leave of the place.
+-- When a child of a place in memory cannot be started, when it dies, and what its spawn and its end
+-- change at the place.
 use Rattle.std.specs.Prelude.{◌≡◌, ◌≢◌, ◌⊎◌, ◌-◌, ◌+◌, ◌++◌, ◌∷◌, [], ℕ, false, length, List, Option, Some, None, Result, Err, IfOk, IfErr, IfSome, OnOk, OnErr}
 use Rattle.pb_place_types.specs.Children.{child_at, child_spawned, is_flying, most_after, LandsAs}
 use Rattle.pb_place_types.specs.Copies.{put_half}
@@ -19,8 +20,8 @@ pub record SpawnFails (out : Option (List ℕ)) (result : Result ℕ StartFault)
   pub quiet : old.fuse ≢ 1 → fate_of out old.deaths ≢ Some start.CannotStart → IfErr result (λ e. e ≡ start.OutOfMemory)
   pub fault : IfErr result (λ e. e ≢ start.OutOfMemory → e ≡ start.CannotStart)
 
--- What a spawn leaves of the place: the new child is the last in flight and half of its files are written,
--- or no child is added. If the child could not be started, no file changed.
+-- The place after a spawn. Either the new child is the last in flight, and half of its files are
+-- written. Or no child was added; if the child could not be started, no file changed either.
 pub record SpawnsIn (child : Answers) (command : Command) (result : Result ℕ StartFault) (old new : Held) : Type 0 where
   pub fresh : IfOk result (λ ticket. is_flying ticket (children_in old.flying) ≡ false)
   pub flying : IfOk result (λ ticket. new.flying ≡ old.flying ++ record { child = child_spawned (child command) command old.world ticket; kept = fate_of command.out old.deaths } ∷ [])
@@ -32,16 +33,16 @@ pub record SpawnsIn (child : Answers) (command : Command) (result : Result ℕ S
   pub fuse : new.fuse ≡ old.fuse - 1
   pub most : new.most ≡ most_after result (length (children_in old.flying) + 1) old.most
 
--- The end of a child fails if and only if the fuse is 1 or the child has a fault of its own.
--- Any other end may run out of memory.
+-- The wait for a child's end fails if and only if the fuse is 1 or the child has a fault of its
+-- own. Any other wait may run out of memory.
 pub record EndFails (ticket : ℕ) (result : Result Ended StartFault) (old : Held) : Type 0 where
   pub fails_now : old.fuse ≡ 1 → result ≡ Err start.Died
   pub exit_fails : old.fuse ≢ 1 → IfSome (fate_at ticket old.flying) (λ e. e ≢ start.CannotStart → result ≡ Err e)
   pub quiet : old.fuse ≢ 1 → fate_at ticket old.flying ≡ None → IfErr result (λ e. e ≡ start.OutOfMemory)
   pub fault : IfErr result (λ e. e ≢ start.OutOfMemory → (e ≡ start.Died) ⊎ (e ≡ start.Capture))
 
--- What the end of a child leaves of the place: the child's files, or no change of files if it gave no reply.
--- The child is no longer in flight.
+-- The place after the end of a child. The child's files are there, or no file changed if the child
+-- gave no reply. The child is no longer in flight.
 pub record EndsIn (ticket : ℕ) (result : Result Ended StartFault) (old new : Held) : Type 0 where
   pub lands : IfOk result (λ ended. IfSome (child_at ticket (children_in old.flying)) (λ spawned. LandsAs spawned old.world ended new.world))
   pub stands : IfErr result (λ e. e ≢ start.OutOfMemory → new.world ≡ old.world)
@@ -51,7 +52,8 @@ pub record EndsIn (ticket : ℕ) (result : Result Ended StartFault) (old new : H
   pub fuse : new.fuse ≡ old.fuse - 1
   pub most : new.most ≡ old.most
 
--- A start fails if and only if its spawn or its end does: the fuse is 1 for the spawn, and 2 for the end.
+-- A start fails if and only if its spawn or the wait for the end fails. A fuse of 1 makes the spawn
+-- fail, and a fuse of 2 makes the wait fail.
 pub record StartFails (out : Option (List ℕ)) (result : Result Ended StartFault) (old new : Held) : Type 0 where
   pub fails_now : old.fuse ≡ 1 → result ≡ Err start.CannotStart
   pub spawn_fails : old.fuse ≢ 1 → fate_of out old.deaths ≡ Some start.CannotStart → result ≡ Err start.CannotStart
@@ -59,9 +61,8 @@ pub record StartFails (out : Option (List ℕ)) (result : Result Ended StartFaul
   pub exit_fails : old.fuse ≢ 1 → old.fuse ≢ 2 → IfSome (fate_of out old.deaths) (λ e. e ≢ start.CannotStart → (result ≡ Err e) ⊎ SpawnRefused result out old new)
   pub quiet : old.fuse ≢ 1 → old.fuse ≢ 2 → fate_of out old.deaths ≡ None → IfErr result (λ e. e ≡ start.OutOfMemory)
 
--- What a start leaves of the place: no more children in flight than before.
--- If the child could not be started, no file changed.
--- If the child gave no reply, half of its files are there.
+-- The place after a start. No more children are in flight than before. If the child could not be
+-- started, no file changed. If the child gave no reply, half of its files are there.
 pub record StartsIn (child : Answers) (command : Command) (result : Result Ended StartFault) (old new : Held) : Type 0 where
   pub nothing : IfErr result (λ e. e ≡ start.CannotStart → new.world ≡ old.world)
   pub half : IfErr result (λ e. e ≢ start.CannotStart → e ≢ start.OutOfMemory → new.world ≡ put_half command.out (child command (seen_by command old.world)).files old.world)

@@ -1,18 +1,19 @@
--- Counters without the children in flight, and counters with them.
+-- Counters without the children in flight, and the same counters with these children.
 use Rattle.std.specs.Prelude.{ℕ, List, ◌++◌, ◌∷◌, [], Result, Ok, Err}
 use Rattle.pb_place_types.specs.Counts.{Counts, past_finish_fault, up}
 use Rattle.pb_place_types.specs.declared.child_in_flight.ChildInFlight.{ChildInFlight}
 use Rattle.pb_place_types.specs.declared.place.StartFault.{StartFault}
 
--- the counters with these children in flight
+-- the counters, completed with these children in flight
 abbrev pub with_children : List ChildInFlight → Counts → Counts
 with_children flying c = record c { starts = record c.starts { flying = flying } }
 
--- one more setting, but at most the greatest number of 64 bits; the definition is opaque, since nothing else is needed
+-- One more setting than before, but at most the greatest number of 64 bits. The definition is
+-- opaque, since proofs need nothing else of it.
 unfoldable pub next_setting : ℕ → ℕ
 next_setting n = up n
 
--- the counters after one more setting of which calls are to fail
+-- the counters after a caller sets once more which calls are to fail
 abbrev pub one_setting : Counts → Counts
 one_setting c = record c { starts = record c.starts { settings = next_setting c.starts.settings } }
 
@@ -21,7 +22,7 @@ abbrev pub flown : (ℕ → ChildInFlight) → Result ℕ StartFault → List Ch
 flown spawned (Ok ticket) flying = flying ++ spawned ticket ∷ []
 flown spawned (Err e) flying = flying
 
--- the other counters after a `finish`
+-- the counters after a `finish`, except for the children in flight
 abbrev pub past_finish : {T : Type 0} → Result T StartFault → Counts → Counts
 past_finish (Ok x) c = c
 past_finish (Err e) c = past_finish_fault e c

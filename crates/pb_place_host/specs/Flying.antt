@@ -1,4 +1,4 @@
--- What a place of real files tells about a child in flight: its ticket and its command, and nothing else.
+-- What a place of real files reports about a child in flight: its ticket and its command.
 use Rattle.std.specs.Prelude.{ℕ, pos, []}
 use Rattle.std.specs.FinMap as map
 use Rattle.pb_place_types.specs.World.{World, Answers}
@@ -6,7 +6,8 @@ use Rattle.pb_place_types.specs.Children.{child_spawned}
 use Rattle.pb_place_types.specs.declared.command.Command.{Command}
 use Rattle.pb_place_types.specs.declared.child_in_flight.ChildInFlight.{ChildInFlight}
 
--- the world that is used when no maps and no answers are told
+-- a world without files and variables, for definitions about a place that reports neither maps nor
+-- a child's reply
 abbrev pub no_world : World
 no_world = record { files = map.empty; variables = map.empty }
 

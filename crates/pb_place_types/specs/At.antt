@@ -1,4 +1,4 @@
--- A place as clauses see it, and what one call does to it.
+-- A place as clauses see it, and how one call changes it.
 use Rattle.std.specs.Prelude.{◌≡◌, ◌≢◌, ◌⊎◌, ◌+◌, ℕ, Bool, false, List, Result, IfOk, IfErr, IfSome, OnOk, OnErr, length, max}
 use Rattle.pb_place_types.specs.CallsInTurn.{own_fault}
 use Rattle.pb_place_types.specs.Children.{child_at, child_spawned, is_flying, most_after, KeepsStill, KeepsStillOutside, StaysStill, StaysStillBut}
@@ -15,18 +15,19 @@ use Rattle.pb_place_types.specs.declared.place.StartFault.TheVariants as start
 
 -- A place at one moment.
 pub record At : Type 1 where
-  -- its files and variables
+  -- the files and variables of the place
   pub world : World
-  -- its counters, and the children in flight
+  -- the counters of the place, and its children in flight
   pub counts : Counts
-  -- the most children that were ever in flight
+  -- the greatest number of children that were ever in flight at once
   pub most : ℕ
-  -- whether nothing that a ticket's child sees, and no file of its folder, has changed since the spawn
+  -- Says of a ticket that its child still sees what it saw at the spawn. No file of the child's
+  -- folder has changed since then, either.
   pub still : ℕ → Type 0
-  -- what changed under a running child, as far as `watch` has looked
+  -- the paths that changed while a child was running, as far as `watch` has looked
   pub moved : List Moved
 
--- Nothing has changed and no call was counted, but `moved` may be longer.
+-- Nothing has changed, and no call was counted. Only `moved` may be longer.
 pub record IsUnchanged (old new : At) : Type 0 where
   pub world : new.world ≡ old.world
   pub counts : new.counts ≡ old.counts
@@ -41,7 +42,7 @@ pub record LooksOnce {T : Type 0} (call : Call) (result : Result T PlaceFault) (
   pub still : KeepsStill old.still new.still
   pub fault : IfErr result (λ e. e ≢ place.OutOfMemory → e ≡ own_fault call)
 
--- One call changes files at these paths, and nothing else.
+-- one call changes only files at paths that `inside` contains, and counters
 pub record ChangesOnce {T : Type 0} (inside : List ℕ → Bool) (call : Call) (result : Result T PlaceFault) (old new : At) : Type 0 where
   pub only : ChangesOnly inside old.world new.world
   pub counts : new.counts ≡ counted call result old.counts
@@ -49,10 +50,10 @@ pub record ChangesOnce {T : Type 0} (inside : List ℕ → Bool) (call : Call) (
   pub still : KeepsStillOutside inside old.counts.starts.flying old.still new.still
   pub fault : IfErr result (λ e. e ≢ place.OutOfMemory → e ≡ own_fault call)
 
--- A child process is spawned, or the result is an error and none is spawned.
+-- Either a child process is spawned, or the result is an error and no child is spawned.
 pub record Spawns (child : Answers) (command : Command) (result : Result ℕ StartFault) (old new : At) : Type 0 where
   pub only : ChangesOnlyInSome command.out old.world new.world
-  -- no child in flight has the new ticket
+  -- the new ticket belongs to no child that was in flight before
   pub fresh : IfOk result (λ ticket. is_flying ticket old.counts.starts.flying ≡ false)
   pub counts : new.counts ≡ counted_spawn (child_spawned (child command) command old.world) result old.counts
   pub most : new.most ≡ most_after result (length old.counts.starts.flying + 1) old.most
@@ -60,7 +61,7 @@ pub record Spawns (child : Answers) (command : Command) (result : Result ℕ Sta
   pub still : StaysStill old.counts.starts.flying old.world new.world old.still new.still
   pub fault : IfErr result (λ e. e ≢ start.OutOfMemory → e ≡ start.CannotStart)
 
--- The place waits for the ticket's child. For every result, the child is then no longer in flight.
+-- The place waits for the ticket's child. Whatever the result, this child is no longer in flight afterwards.
 pub record Finishes (ticket : ℕ) (result : Result Ended StartFault) (old new : At) : Type 0 where
   pub only : IfSome (child_at ticket old.counts.starts.flying) (λ spawned. ChangesOnlyInSome spawned.command.out old.world new.world)
   pub counts : new.counts ≡ counted_finish ticket result old.counts
@@ -68,10 +69,10 @@ pub record Finishes (ticket : ℕ) (result : Result Ended StartFault) (old new :
   pub still : StaysStillBut ticket old.counts.starts.flying old.world new.world old.still new.still
   pub fault : IfErr result (λ e. e ≢ start.OutOfMemory → (e ≡ start.Died) ⊎ (e ≡ start.Capture))
 
--- A child is spawned and waited for.
+-- A child is spawned, and the place waits for its end.
 pub record Starts (command : Command) (result : Result Ended StartFault) (old new : At) : Type 0 where
   pub only : ChangesOnlyInSome command.out old.world new.world
   pub counts : new.counts ≡ counted_start result old.counts
   pub most : OnOk result (new.most ≡ max old.most (length old.counts.starts.flying + 1))
-  -- an error came before the spawn, or after it
+  -- `most` after an error: unchanged if the error came before the spawn, and updated if it came later
   pub most_else : OnErr result ((new.most ≡ old.most) ⊎ (new.most ≡ max old.most (length old.counts.starts.flying + 1)))

@@ -6,7 +6,7 @@ use Rattle.pb_place_types.specs.declared.call.Call.TheVariants as call
 use Rattle.pb_place_types.specs.declared.place.PlaceFault.{PlaceFault}
 use Rattle.pb_place_types.specs.declared.place.PlaceFault.TheVariants as place
 
--- the fault that a call returns if it fails other than by running out of memory
+-- the fault that a failed call returns if memory did not run out
 abbrev pub own_fault : Call → PlaceFault
 own_fault (call.Read path) = place.Read
 own_fault (call.IsFile path) = place.Read
@@ -18,26 +18,27 @@ own_fault (call.Write path) = place.Write
 own_fault (call.Remove path) = place.Remove
 own_fault (call.Variable name) = place.Variable
 
--- the counters after these calls, all of which succeeded
+-- the counters after all of these calls succeeded
 abbrev pub past_calls : List Call → Counts → Counts
 past_calls [] c = c
 past_calls (call ∷ calls) c = past_calls calls (past_call c)
 
--- this call failed with this fault, which is its own
+-- this call failed with this fault, and it is a fault that this call may have
 abbrev pub Fails : PlaceFault → Call → Counts → Counts → Type 0
 Fails fault call old new = (fault ≡ own_fault call) × (new ≡ past_place_fault call fault old)
 
--- one of these calls failed with this fault: those before it succeeded, and it was the last call made
+-- One of these calls failed with this fault. All calls before it succeeded, and no call came after it.
 abbrev pub FailsAt : PlaceFault → List Call → Counts → Counts → Type 0
 FailsAt fault [] old new = ⊥
 FailsAt fault (call ∷ calls) old new = Fails fault call old new ⊎ FailsAt fault calls (past_call old) new
 
--- the first n of these calls were made, for some n, and no other
+-- exactly the first n of these calls were made, for some n
 abbrev pub MakesSome : List Call → Counts → Counts → Type 0
 MakesSome [] old new = new ≡ old
 MakesSome (call ∷ calls) old new = (new ≡ old) ⊎ MakesSome calls (past_call old) new
 
--- the counters determine which call of a sequence failed and at which position, and the fault is the call's own
+-- The counters determine which call of a sequence failed and at which position. The fault is the
+-- own fault of that call.
 pub record TellsTurn (fault : PlaceFault) (calls : List Call) (old new : Counts) : Type 0 where
   pub before : List Call
   pub call : Call
@@ -47,7 +48,7 @@ pub record TellsTurn (fault : PlaceFault) (calls : List Call) (old new : Counts)
   pub own : fault ≡ own_fault call
   pub turn : new.calls ≡ old.calls + length before + 1
 
--- the counters determine this for each sequence that can be counted
+-- if the calls of a sequence can all be counted, the counters determine the failed call as `TellsTurn` says
 abbrev pub FaultTellsTurn : Type 0
 FaultTellsTurn = (fault : PlaceFault) (calls : List Call) (old new : Counts) → fault ≢ place.OutOfMemory → old.calls + length calls ≤ 0xffff_ffff_ffff_ffff
     → FailsAt fault calls old new → TellsTurn fault calls old new

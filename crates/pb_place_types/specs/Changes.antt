@@ -4,7 +4,7 @@ use Rattle.std.specs.FinMap as map
 use Rattle.pb_place_types.specs.Paths.{is_at_or_below}
 use Rattle.pb_place_types.specs.World.{World, written, removed, is_same_path}
 
--- a change writes bytes at a path, or removes a path and everything below it
+-- a change either writes bytes at a path, or removes a path and everything below it
 pub data Change : Type 0 where
   writes : List ℕ → List ℕ → Change
   removes : List ℕ → Change
@@ -14,7 +14,7 @@ abbrev pub changed_once : Change → World → World
 changed_once (writes path bytes) w = written path bytes w
 changed_once (removes path) w = removed path w
 
--- the world after these changes in turn
+-- the world after these changes, one after another
 abbrev pub changed : List Change → World → World
 changed [] w = w
 changed (change ∷ changes) w = changed changes (changed_once change w)
@@ -33,6 +33,6 @@ last_said (change ∷ changes) q old = last_said changes q (said change q old)
 abbrev pub LastWordStands : Type 0
 LastWordStands = (changes : List Change) (w : World) (q : List ℕ) → map.get (changed changes w).files q ≡ last_said changes q (map.get w.files q)
 
--- changes of files leave every variable as it was
+-- changes of files leave every variable unchanged
 abbrev pub VariablesStand : Type 0
 VariablesStand = (changes : List Change) (w : World) → (changed changes w).variables ≡ w.variables

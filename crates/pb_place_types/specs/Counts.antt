@@ -1,5 +1,6 @@
--- How the calls of a place are counted, which fault came last, and which call on files or variables failed last.
--- Each counter stops at the greatest number of 64 bits. A `finish` is counted only if it fails.
+-- How the calls of a place are counted, which fault came last, and which call on files or variables
+-- failed last. Each counter stops at the greatest number of 64 bits. The counter of calls leaves
+-- out `finish`.
 use Rattle.std.specs.Prelude.{ℕ, ◌+◌, ◌++◌, ◌∷◌, ◌==◌, min, if◌then◌else◌, List, [], Option, Some, None, Result, Ok, Err}
 use Rattle.pb_place_types.specs.declared.call.Call.{Call}
 use Rattle.pb_place_types.specs.declared.call.Call.TheVariants as call
@@ -11,24 +12,25 @@ use Rattle.pb_place_types.specs.declared.place.Failure.TheVariants.{Called, Star
 use Rattle.pb_place_types.specs.declared.place.StartFault.{StartFault}
 use Rattle.pb_place_types.specs.declared.place.StartFault.TheVariants as start
 
--- How often `spawn` and `start` were called, the children in flight in the order of their spawns,
--- and the number of `settings`.
--- `settings` counts how often a place for tests was set to let calls fail; no call of a place changes it.
+-- The counters of starts. `count` says how often `spawn` and `start` were called. `flying` lists
+-- the children in flight, in the order of their spawns. `settings` says how often a place for tests
+-- was set to let calls fail. No call of a place changes `settings`.
 pub record Starts : Type 0 where
   pub count : ℕ
   pub flying : List ChildInFlight
   pub settings : ℕ
 
--- The counters. No method returns the number of all calls, so no body can depend on it.
--- A fault and its counters determine which call failed and at which position, since each call may fail.
+-- The counters of a place. No method returns the number of all calls, so no body can depend on it.
+-- Each call may fail, so a fault and the counters determine which call failed and at which
+-- position.
 pub record Counts : Type 0 where
-  -- all calls but `finish`
+  -- the number of all calls except `finish`
   pub calls : ℕ
-  -- the calls that failed, including `finish`
+  -- the number of calls that failed, including `finish`
   pub failures : ℕ
-  -- the calls of `spawn` and `start`
+  -- how often `spawn` and `start` were called, and the children in flight
   pub starts : Starts
-  -- the calls other than `finish` since the last failure
+  -- the number of calls except `finish` since the last failure
   pub late : ℕ
   -- the fault of the last failure
   pub last : Option Failure
@@ -55,27 +57,28 @@ named_in c = names_of c.failing
     names_of None = []
     names_of (Some call) = name_given call
 
--- the counters before any call
+-- the counters before the first call
 abbrev pub no_calls : Counts
 no_calls = record { calls = 0; failures = 0; starts = record { count = 0; flying = []; settings = 0 }; late = 0; last = None; failing = None }
 
--- one more, but at most the greatest number of 64 bits
+-- one more than a number, but at most the greatest number of 64 bits
 abbrev pub up : ℕ → ℕ
 up n = min (n + 1) 0xffff_ffff_ffff_ffff
 
--- one more child was started, and none is in flight for it
+-- the counters of starts after a start that leaves no child in flight
 abbrev pub up_starts : Starts → Starts
 up_starts s = record s { count = up s.count }
 
--- the counters after a call that did not fail: one more call since the last failure, if there was one
+-- The counters after a call that did not fail. If a call failed before, one more call has come since then.
 abbrev pub past_call : Counts → Counts
 past_call c = record c { calls = up c.calls; late = if c.failures == 0 then 0 else up c.late }
 
--- the counters after a fault of the outside; it may have come from any call
+-- the counters after something outside failed, whichever call it was
 abbrev pub past_fault : Failure → Counts → Counts
 past_fault f c = record c { failures = up c.failures; late = 0; last = Some f }
 
--- the counters after this call failed; running out of memory is no failure of the outside
+-- The counters after this call returned this fault. Running out of memory does not count as a
+-- failure of the outside.
 abbrev pub past_place_fault : Call → PlaceFault → Counts → Counts
 past_place_fault call OutOfMemory c = past_call c
 past_place_fault call e c = record (past_fault (Called e) c) { calls = up c.calls; failing = Some call }
@@ -84,7 +87,7 @@ abbrev pub counted : {T : Type 0} → Call → Result T PlaceFault → Counts �
 counted call (Ok x) c = past_call c
 counted call (Err e) c = past_place_fault call e c
 
--- the counters after a call of `start`
+-- the counters after `start` was called, before its result is counted
 abbrev pub one_start : Counts → Counts
 one_start c = record c { starts = up_starts c.starts }
 
@@ -105,11 +108,11 @@ abbrev pub counted_spawn : (ℕ → ChildInFlight) → Result ℕ StartFault →
 counted_spawn spawned (Ok ticket) c = past_call record c { starts = record c.starts { count = up c.starts.count; flying = c.starts.flying ++ spawned ticket ∷ [] } }
 counted_spawn spawned (Err e) c = past_start_fault e (one_start c)
 
--- the counters once the child of this ticket is no longer in flight
+-- the counters when the ticket's child is no longer in flight
 abbrev pub landed : ℕ → Counts → Counts
 landed ticket c = record c { starts = record c.starts { flying = without ticket c.starts.flying } }
 
--- the counters after a `finish` that failed; running out of memory is not counted
+-- The counters after `finish` returned this fault. Running out of memory is not counted.
 abbrev pub past_finish_fault : StartFault → Counts → Counts
 past_finish_fault start.OutOfMemory c = c
 past_finish_fault e c = past_fault (Started e) c

@@ -1,4 +1,4 @@
--- What a failing call leaves as it was, and that its fault is recorded as the last.
+-- what a failed call leaves unchanged; the fault of the call is recorded as the last fault
 use Rattle.std.specs.Prelude.{◌≡◌, ◌≢◌, ◌⊎◌, ◌++◌, ℕ, Bool, false, List, Option, Some, None}
 use Rattle.std.specs.FinMap as map
 use Rattle.pb_place_types.specs.Paths.{is_below, is_at_or_below}
@@ -28,7 +28,7 @@ PartlySparesOthers = (path q : List ℕ) (old new : World) → PartlyRemoved pat
 abbrev pub PartlyMakesNothing : Type 0
 PartlyMakesNothing = (path q b : List ℕ) (old new : World) → PartlyRemoved path old new → map.get new.files q ≡ Some b → map.get old.files q ≡ Some b
 
--- whether a path is in the folder in which a child may write
+-- the path is strictly below the folder in which a child may write
 abbrev pub is_in_out : Option (List ℕ) → List ℕ → Bool
 is_in_out None q = false
 is_in_out (Some folder) q = is_below folder q
@@ -37,7 +37,7 @@ is_in_out (Some folder) q = is_below folder q
 abbrev pub StartSparesOthers : Type 0
 StartSparesOthers = (out : Option (List ℕ)) (q : List ℕ) (old new : World) → ChangesOnlyInSome out old new → is_in_out out q ≡ false → map.get new.files q ≡ map.get old.files q
 
--- none of these calls changes a variable
+-- no failed write, no failed removal and no start changes a variable
 abbrev pub TornSparesVariables : Type 0
 TornSparesVariables = (path bytes : List ℕ) (old new : World) → Torn path bytes old new → new.variables ≡ old.variables
 
@@ -47,10 +47,11 @@ PartlySparesVariables = (path : List ℕ) (old new : World) → PartlyRemoved pa
 abbrev pub StartSparesVariables : Type 0
 StartSparesVariables = (out : Option (List ℕ)) (old new : World) → ChangesOnlyInSome out old new → new.variables ≡ old.variables
 
--- a call that failed, other than by running out of memory, is counted; it and its fault are recorded as the last
+-- If a call failed and memory did not run out, the call is counted. The call and its fault are
+-- recorded as the last.
 abbrev pub CallTellsFault : Type 0
 CallTellsFault = (call : Call) (e : PlaceFault) (c : Counts) → e ≢ place.OutOfMemory → past_place_fault call e c ≡ record (past_fault (Called e) c) { calls = up c.calls; failing = Some call }
 
--- a start that failed, other than by running out of memory, is counted, and its fault is recorded as the last
+-- if a start failed and memory did not run out, the start is counted, and its fault is recorded as the last
 abbrev pub StartTellsFault : Type 0
 StartTellsFault = (e : StartFault) (c : Counts) → e ≢ start.OutOfMemory → past_start_fault e c ≡ record (past_fault (Started e) c) { calls = up c.calls }

@@ -1,5 +1,5 @@
--- The laws of the world over many folders:
--- what stays if only another folder changes, one map over another, and what a child is shown.
+-- Laws of worlds with many folders: what stays unchanged if another folder changes, how one map
+-- lies over another, and what a child sees.
 use Rattle.std.specs.Prelude.{◌≡◌, ◌≢◌, ◌==◌, ℕ, true, false, List, [], ◌∷◌, ◌++◌, Option, Some, None, if◌then◌else◌}
 use Rattle.std.specs.FinMap as map
 use Rattle.std.specs.List.{list_any}
@@ -12,7 +12,7 @@ use Rattle.pb_place_types.specs.declared.command.Command.{Command}
 abbrev pub files_in : List ℕ → Map → Map
 files_in folder m = map.retain_keys m (is_below folder)
 
--- one map over another: its entries, and those of the other map at all other paths
+-- the map with all entries of the first map, and with the entries of the second map at all other paths
 abbrev pub over : Map → Map → Map
 over m n = map.from_entries (map.entries m ++ map.entries n)
 
@@ -21,19 +21,19 @@ abbrev pub first_of : {A : Type 0} → Option A → Option A → Option A
 first_of None y = y
 first_of (Some x) y = Some x
 
--- the files of some folders of a map, over another map
+-- the second map, over which the files of these folders of the first map are put
 abbrev pub folders_over : List (List ℕ) → Map → Map → Map
 folders_over [] m n = n
 folders_over (folder ∷ folders) m n = over (files_in folder m) (folders_over folders m n)
 
--- two normalised folders lie apart if neither is at or below the other
+-- two folders lie apart if their paths are normalised and neither folder is at or below the other
 pub record LieApart (f g : List ℕ) : Type 0 where
   pub first : is_path f ≡ true
   pub second : is_path g ≡ true
   pub not_below_first : is_at_or_below f g ≡ false
   pub not_below_second : is_at_or_below g f ≡ false
 
--- two folders with different names in one folder lie apart
+-- folders with different names in a common folder lie apart
 abbrev pub NamedFoldersLieApart : Type 0
 NamedFoldersLieApart = (folder name other : List ℕ) → is_path folder ≡ true → is_name name ≡ true → is_name other ≡ true
     → list_any (λ b. b == slash) name ≡ false → list_any (λ b. b == slash) other ≡ false → name ≢ other → LieApart (below folder name) (below folder other)
@@ -43,27 +43,27 @@ abbrev pub FoldersAgree : List (List ℕ) → World → World → Type 0
 FoldersAgree [] v w = Unit {0}
 FoldersAgree (folder ∷ folders) v w = (files_in folder v.files ≡ files_in folder w.files) × FoldersAgree folders v w
 
--- changes at or below one folder leave each folder that lies apart from it as it was
+-- if two folders lie apart, changes at or below one of them leave the files in the other unchanged
 abbrev pub FolderStays : Type 0
 FolderStays = (f g : List ℕ) (old new : World) → LieApart f g → ChangesOnly (is_at_or_below g) old new → files_in f new.files ≡ files_in f old.files
 
--- changes at or below a folder of the target folder leave the sources as they were
+-- changes at or below a folder that is at or below the target folder leave the sources unchanged
 abbrev pub SourcesStayed : Type 0
 SourcesStayed = (target folder : List ℕ) (old new : World) → is_at_or_below target folder ≡ true → ChangesOnly (is_at_or_below folder) old new → from_nothing target new ≡ from_nothing target old
 
--- two changes in a folder are together one change in it, and a change in a folder is also a change
--- in each folder above it
+-- Two changes in a folder are together one change in this folder. A change in a folder is also a
+-- change in each folder above it.
 abbrev pub ChangesJoin : Type 0
 ChangesJoin = (folder : List ℕ) (old mid new : World) → ChangesOnly (is_at_or_below folder) old mid → ChangesOnly (is_at_or_below folder) mid new → ChangesOnly (is_at_or_below folder) old new
 
 abbrev pub ChangesWiden : Type 0
 ChangesWiden = (above folder : List ℕ) (old new : World) → is_at_or_below above folder ≡ true → ChangesOnly (is_at_or_below folder) old new → ChangesOnly (is_at_or_below above) old new
 
--- one map over another has at each path what the first has, or what the second has if the first has nothing
+-- at each path `over` has what the first map has, or what the second map has if the first has nothing there
 abbrev pub LooksOver : Type 0
 LooksOver = (m n : Map) (q : List ℕ) → map.get (over m n) q ≡ first_of (map.get m q) (map.get n q)
 
--- the files in a folder are the files of the map whose paths are below it
+-- the files in a folder are the files of the map whose paths are strictly below the folder
 abbrev pub LooksIn : Type 0
 LooksIn = (folder : List ℕ) (m : Map) (q : List ℕ) → map.get (files_in folder m) q ≡ (if is_below folder q then map.get m q else None)
 
@@ -71,22 +71,22 @@ LooksIn = (folder : List ℕ) (m : Map) (q : List ℕ) → map.get (files_in fol
 abbrev pub LooksAtSources : Type 0
 LooksAtSources = (target : List ℕ) (w : World) (q : List ℕ) → map.get (from_nothing target w).files q ≡ (if is_at_or_below target q then None else map.get w.files q)
 
--- a child sees the variables, and the files that are shown to it
+-- a child sees all variables, and those files that its command shows
 abbrev pub LooksThrough : Type 0
 LooksThrough = (c : Command) (w : World) (q : List ℕ) → map.get (seen_by c w).files q ≡ (if is_shown c q then map.get w.files q else None)
 
--- a child that reads no folder sees only the sources, as the query does
+-- a child whose command reads no folder sees exactly the sources
 abbrev pub SeesSources : Type 0
 SeesSources = (c : Command) (w : World) → c.reads ≡ [] → seen_by c w ≡ from_nothing c.target w
 
--- a child sees the files of the folders that it reads over the sources
+-- what a child sees are the sources, over which the files of the folders that it reads are put
 abbrev pub SeesFolders : Type 0
 SeesFolders = (c : Command) (w : World) → seen_by c w ≡ record w { files = folders_over c.reads w.files (from_nothing c.target w).files }
 
--- a child sees the same in two worlds if their sources and the folders that it reads agree
+-- a child sees the same in two worlds if their sources agree and the folders that it reads agree
 abbrev pub SeesAlike : Type 0
 SeesAlike = (c : Command) (v w : World) → from_nothing c.target v ≡ from_nothing c.target w → FoldersAgree c.reads v w → seen_by c v ≡ seen_by c w
 
--- a reply's files, put in an emptied folder, are the only files there
+-- if a reply's files are put in an emptied folder, that folder contains no other files
 abbrev pub StandAlone : Type 0
 StandAlone = (out : List ℕ) (files : List (List ℕ × List ℕ)) (w : World) → files_in out (put_files out files (removed out w).files) ≡ files_in out (put_files out files map.empty)

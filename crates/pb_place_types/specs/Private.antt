@@ -2,7 +2,7 @@
 use Rattle.std.specs.Prelude.{◌==◌, ℕ, List, [], ◌∷◌, Option, Some, None, if◌then◌else◌}
 use Rattle.pb_data.specs.Ascii.{slash}
 
--- what follows a slash at the front
+-- the text after its first byte, if that byte is a slash
 abbrev pub after_slash : List ℕ → Option (List ℕ)
 after_slash [] = None
 after_slash (b ∷ rest) = if b == slash then Some rest else None

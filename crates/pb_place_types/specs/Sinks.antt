@@ -5,17 +5,17 @@ use Rattle.pb_place_types.specs.Counts.{up}
 
 -- A sink as clauses see it.
 pub record SinkState : Type 0 where
-  -- the bytes that it took, if it reports them
+  -- the bytes that the sink has taken so far, if it reports them
   pub taken : Option (List ℕ)
   -- how many writes failed
   pub faults : ℕ
 
--- a write failed if it was refused, or if there were bytes and it took none
+-- a write failed if the sink refused it, or if the sink took none of the bytes although there were some
 abbrev pub is_refusal : Option ℕ → List ℕ → Bool
 is_refusal None bytes = true
 is_refusal (Some n) bytes = (n == 0) && not (length bytes == 0)
 
--- the sink took the first n of some bytes, but not all of them
+-- the sink took a first part of the bytes, but not all of them
 abbrev pub TakesPart : List ℕ → Option (List ℕ) → Option (List ℕ) → Type 0
 TakesPart bytes old new = (n : ℕ) × (n < length bytes) × Appends old new (take n bytes)
 

@@ -12,11 +12,12 @@ BelowGoesOn = (folder path : List ℕ) → (is_below folder path ≡ true) ↔ (
 abbrev pub AtOrBelow : Type 0
 AtOrBelow = (folder path : List ℕ) → (is_at_or_below folder path ≡ true) ↔ ((folder ≡ path) ⊎ (is_below folder path ≡ true))
 
--- a path at or below a folder is at or below each folder above that one
+-- a path that is at or below a folder is at or below each folder above this folder
 abbrev pub AtOrBelowGoesOn : Type 0
 AtOrBelowGoesOn = (above folder path : List ℕ) → is_at_or_below above folder ≡ true → is_at_or_below folder path ≡ true → is_at_or_below above path ≡ true
 
--- the path is strictly below the upper folder if one of the two steps is strict
+-- A path is two steps below an upper folder. If one of the two steps is strict, the path is
+-- strictly below the upper folder.
 abbrev pub BelowThenAt : Type 0
 BelowThenAt = (above folder path : List ℕ) → is_below above folder ≡ true → is_at_or_below folder path ≡ true → is_below above path ≡ true
 
@@ -40,24 +41,24 @@ ShareNoPath = (f g q : List ℕ) → is_path f ≡ true → is_path g ≡ true �
 abbrev pub RootIsAbove : Type 0
 RootIsAbove = (path : List ℕ) → is_path path ≡ true → is_at_or_below (codes "/") path ≡ true
 
--- two different names without a slash, put below one folder, lead to two paths,
--- neither of which is at or below the other
+-- If two different names without a slash are put below one folder, neither path is at or below the other.
 abbrev pub NamesLieApart : Type 0
 NamesLieApart = (folder name other : List ℕ) → name ≢ [] → list_any (λ b. b == slash) other ≡ false → name ≢ other → is_at_or_below (below folder name) (below folder other) ≡ false
 
--- the path inside a folder, joined to the folder again, is the path
+-- if a path's part inside a folder is put below the folder again, the result is the path
 abbrev pub JoinsAgain : Type 0
 JoinsAgain = (folder path rest : List ℕ) → inside folder path ≡ Some rest → below folder rest ≡ path
 
--- if a text is joined to a folder, the path inside that folder is the text again
+-- if a text is put below a folder, the path inside the folder is the text
 abbrev pub FoundInside : Type 0
 FoundInside = (folder rest : List ℕ) → rest ≢ [] → inside folder (below folder rest) ≡ Some rest
 
--- if a path and a folder are normalised, the path inside the folder is a relative path
+-- if a path and a folder are normalised, the path inside the folder is relative
 abbrev pub InsideIsRelative : Type 0
 InsideIsRelative = (folder path rest : List ℕ) → is_path folder ≡ true → is_path path ≡ true → inside folder path ≡ Some rest → is_relative rest ≡ true
 
--- each path except the root is its last part in its folder, and that part is a name without a slash
+-- If a path is not the root, its folder and its last part make the path again. This last part is a
+-- name without a slash.
 abbrev pub EndsWithLastPart : Type 0
 EndsWithLastPart = (path : List ℕ) → is_path path ≡ true → path ≢ codes "/" → below (folder_of path) (last_part path) ≡ path
 

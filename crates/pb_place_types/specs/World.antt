@@ -1,4 +1,5 @@
--- The outside world as two finite maps, what a child sees of it, and what each call of an honest place makes of it.
+-- The outside world as two finite maps, what a child sees of the world, and how each call of an
+-- honest place changes it.
 use Rattle.std.specs.Prelude.{◌≡◌, ◌==◌, ◌+◌, ◌⊎◌, ℕ, Bool, true, false, not, ◌&&◌, ◌||◌, List, [], ◌∷◌, ◌++◌, length, map as each, take, drop, Option, Some, None, is_some, if◌then◌else◌}
 use Rattle.std.specs.List.{fold, list_any}
 use Rattle.std.specs.Option.{option_and_then, option_map}
@@ -12,11 +13,12 @@ use Rattle.pb_place_types.specs.declared.command.Command.{Command}
 use Rattle.pb_place_types.specs.declared.command.Ended.{Ended}
 use Rattle.pb_place_types.specs.declared.child.Reply.{Reply}
 
--- a map from texts to bytes or texts
+-- a finite map from texts to texts or bytes
 abbrev pub Map : Type 0
 Map = map.FinMap (slice_cmp nat_cmp) (List ℕ)
 
--- the bytes of each file by its normalised absolute path, and the text of each variable by its name
+-- A world has the bytes of each file by its normalised absolute path, and the text of each variable
+-- by its name.
 pub record World : Type 0 where
   pub files : Map
   pub variables : Map
@@ -29,12 +31,11 @@ FilesHavePaths w = (path bytes : List ℕ) → map.get w.files path ≡ Some byt
 abbrev pub has_file : List ℕ → World → Bool
 has_file path w = is_some (map.get w.files path)
 
--- a child as a function of a command and what it sees
+-- a child as a function: its reply is determined by its command and by the world that it sees
 abbrev pub Answers : Type 0
 Answers = Command → World → Reply
 
--- a child sees the variables, the files that are not at or below the target folder,
--- and the files below the folders that it reads
+-- A child sees the variables, the sources, and the files strictly below the folders that its command reads.
 unfoldable pub is_shown : Command → List ℕ → Bool
 is_shown c path = not (is_at_or_below c.target path) || list_any (λ folder. is_below folder path) c.reads
 
@@ -53,7 +54,8 @@ removed path w = record w { files = map.retain_keys w.files (λ q. not (is_at_or
 abbrev pub listed : List ℕ → World → List (List ℕ)
 listed folder w = map.keys (map.retain_keys w.files (is_below folder))
 
--- a path is directly in a folder if it is below it and its path there is one name
+-- a path is directly in a folder if it is strictly below the folder, and its path inside the folder
+-- has no slash
 abbrev pub is_directly_in : List ℕ → List ℕ → Bool
 is_directly_in folder path = is_below folder path && not (list_any (λ b. b == slash) (drop (length (stem folder) + 1) path))
 
@@ -61,41 +63,43 @@ is_directly_in folder path = is_below folder path && not (list_any (λ b. b == s
 abbrev pub listed_directly : List ℕ → World → List (List ℕ)
 listed_directly folder w = map.keys (map.retain_keys w.files (is_directly_in folder))
 
--- the first of two or more parts of a path: the folder through which it leads
+-- the first part of a path that has two or more parts
 abbrev pub first_folder : List (List ℕ) → Option (List ℕ)
 first_folder [] = None
 first_folder (part ∷ []) = None
 first_folder (part ∷ next ∷ parts) = Some part
 
--- the folder directly in a folder through which a path leads:
--- for `/a/b/c/d` in `/a` it is `/a/b`, for `/a/b` there is none
+-- the folder directly in a folder through which a path leads: for `/a/b/c/d` in `/a` it is `/a/b`;
+-- for `/a/b` in `/a` there is none
 abbrev pub folder_towards : List ℕ → List ℕ → Option (List ℕ)
 folder_towards folder path = option_and_then (λ rest. option_map (below folder) (first_folder (parts_of rest))) (inside folder path)
 
--- the path is the last of these
+-- the path is the last of these paths
 abbrev pub is_last : List ℕ → List (List ℕ) → Bool
 is_last path [] = false
 is_last path (first ∷ paths) = bytes_eq path (last_of first paths)
 
--- the folders with one more, if there is one and it is not the last already
+-- the folders, with a folder appended if there is one and the last folder is another
 abbrev pub with_new : List (List ℕ) → Option (List ℕ) → List (List ℕ)
 with_new folders None = folders
 with_new folders (Some folder) = if is_last folder folders then folders else folders ++ folder ∷ []
 
--- the folders directly in a folder through which some paths lead, in the order of the paths, without repeats in a row
+-- The folders directly in a folder through which these paths lead, in the order of the paths. No
+-- folder occurs twice in a row.
 abbrev pub folders_among : List ℕ → List (List ℕ) → List (List ℕ)
 folders_among folder paths = fold with_new [] (each (folder_towards folder) paths)
 
--- The folders directly in a folder that have a file below them.
--- In byte order the files below one folder are adjacent, so each folder is listed once.
+-- The folders directly in a folder that have a file below them. Files below one folder are adjacent
+-- in byte order, so each folder is listed once.
 abbrev pub listed_folders : List ℕ → World → List (List ℕ)
 listed_folders folder w = folders_among folder (listed folder w)
 
--- the sources for a target folder: the files that are not at or below it, which are all that a clean build sees
+-- The sources, given the target folder. These are all files that are not at or below the target
+-- folder. A clean build sees nothing else.
 abbrev pub from_nothing : List ℕ → World → World
 from_nothing target w = removed target w
 
--- two maps agree at each path for which the test fails
+-- two maps agree at each path to which `may` does not apply
 abbrev pub AgreeBut : (List ℕ → Bool) → Map → Map → Type 0
 AgreeBut may old new = (q : List ℕ) → may q ≡ false → map.get new q ≡ map.get old q
 
@@ -103,7 +107,7 @@ AgreeBut may old new = (q : List ℕ) → may q ≡ false → map.get new q ≡ 
 abbrev pub is_same_path : List ℕ → List ℕ → Bool
 is_same_path p q = eq_by_cmp (slice_cmp nat_cmp) q p
 
--- after a failed write the path has its old bytes, none, or the first n of the new bytes
+-- after a failed write the path has its old bytes, no bytes, or the first n of the new bytes
 pub record TornAt (path bytes : List ℕ) (old new : Map) : Type 0 where
   pub only : AgreeBut (is_same_path path) old new
   pub there : (map.get new path ≡ map.get old path) ⊎ ((map.get new path ≡ None) ⊎ ((n : ℕ) × (map.get new path ≡ Some (take n bytes))))
@@ -113,7 +117,7 @@ pub record PartlyRemovedAt (path : List ℕ) (old new : Map) : Type 0 where
   pub only : AgreeBut (is_at_or_below path) old new
   pub there : (q : List ℕ) → (map.get new q ≡ map.get old q) ⊎ (map.get new q ≡ None)
 
--- only the files change, and they change as stated
+-- the variables are unchanged, and the files change as `change` states
 pub record Files (change : Map → Map → Type 0) (old new : World) : Type 0 where
   pub variables : new.variables ≡ old.variables
   pub files : change old.files new.files
@@ -131,22 +135,22 @@ ChangesOnly may = Files (AgreeBut may)
 abbrev pub ChangesOnlyIn : List ℕ → World → World → Type 0
 ChangesOnlyIn folder = ChangesOnly (is_below folder)
 
--- nothing changes, or only files inside the folder if there is one
+-- nothing changes if there is no folder; otherwise only files strictly below the folder change
 abbrev pub ChangesOnlyInSome : Option (List ℕ) → World → World → Type 0
 ChangesOnlyInSome None old new = new ≡ old
 ChangesOnlyInSome (Some folder) old new = ChangesOnlyIn folder old new
 
--- a map with these files put in a folder, in turn, by their paths there
+-- the map after these files are put into a folder one by one, each at its path inside the folder
 abbrev pub put_files : List ℕ → List (List ℕ × List ℕ) → Map → Map
 put_files folder [] m = m
 put_files folder (f ∷ fs) m = put_files folder fs (map.insert m (below folder f.0) f.1)
 
--- the world with the files of a reply put where the command says
+-- the world after the files of a reply are put where the command says
 abbrev pub put_reply : Option (List ℕ) → List (List ℕ × List ℕ) → World → World
 put_reply None files w = w
 put_reply (Some folder) files w = record w { files = put_files folder files w.files }
 
--- a child ended with its reply to what it sees, and the reply's files are where the command says
+-- A child has ended with its reply to what it sees. The reply's files are where the command says.
 pub record Ends (child : World → Reply) (command : Command) (old : World) (ended : Ended) (new : World) : Type 0 where
   pub status : ended.status ≡ (child (seen_by command old)).status
   pub stdout : ended.stdout ≡ (child (seen_by command old)).stdout

@@ -1,4 +1,5 @@
--- The line of a profile in the terms of The Cargo Book: profiles each of which inherits from the next.
+-- The line of a profile in the terms of The Cargo Book: a list of profiles, each of which inherits
+-- from the next.
 use Rattle.std.specs.Prelude.{◌≡◌, ℕ, List, [], ◌∷◌, Some, None, Ok, Err, IsSome}
 use Rattle.pb_profile_keys.specs.declared.key.ProfileKey.{ProfileKey}
 use Rattle.pb_manifest_types.specs.declared.profile.Profile.{Profile}
@@ -8,26 +9,27 @@ use Rattle.pb_profile.specs.declared.fault.ProfileFault.TheVariants.{NoSuchProfi
 use Rattle.pb_profile.specs.Line.{Seen, seen_at, above, line_of}
 use Rattle.pb_profile.specs.Settings.{looked_up, places_of}
 
--- a profile inherits from another
+-- the profile `s` inherits from the profile `t`
 abbrev pub InheritsFrom : List Profile → Seen → Seen → Type 0
 InheritsFrom profiles s t = above profiles s ≡ Ok (Some t)
 
--- a line is a profile that inherits from none, or a profile and then the line of the profile that it inherits from
+-- The line of a profile that inherits from none is this profile. The line of any other profile is
+-- the profile, followed by the line of the profile from which it inherits.
 pub data IsLine (profiles : List Profile) : Seen → List Seen → Type 0 where
   last : (s : Seen) (ends : above profiles s ≡ Ok None) → IsLine profiles s (s ∷ [])
   further : (s t : Seen) (line : List Seen) (inherits : InheritsFrom profiles s t) (rest : IsLine profiles t line) → IsLine profiles s (s ∷ line)
 
--- the profile itself, or one that it inherits from in one or more steps
+-- `u` is the profile `s` itself, or `s` inherits from `u` in one or more steps
 pub data IsAncestor (profiles : List Profile) : Seen → Seen → Type 0 where
   itself : (s : Seen) → IsAncestor profiles s s
   higher : (s t u : Seen) (inherits : InheritsFrom profiles s t) (more : IsAncestor profiles t u) → IsAncestor profiles s u
 
--- a line that is returned is a line in this sense
+-- each line that is returned is a line as `IsLine` defines it
 abbrev pub GivesLines : Type 0
 GivesLines = (profiles : List Profile) (name : List ℕ) (line : List Seen) → line_of profiles name ≡ Ok line → IsLine profiles (seen_at profiles name) line
 
--- a profile is missing if it is neither built in nor written with `inherits`;
--- it is the requested profile or one from which that profile inherits
+-- A profile is missing if it is neither built in nor written with `inherits`. The requested profile
+-- is this profile, or inherits from it.
 pub record IsMissing (profiles : List Profile) (from : Seen) : Type 0 where
   pub profile : Seen
   pub ancestor : IsAncestor profiles from profile
@@ -36,7 +38,7 @@ pub record IsMissing (profiles : List Profile) (from : Seen) : Type 0 where
 abbrev pub TellsMissing : Type 0
 TellsMissing = (profiles : List Profile) (name : List ℕ) → line_of profiles name ≡ Err NoSuchProfile → IsMissing profiles (seen_at profiles name)
 
--- the line of a profile comes back: a profile in it inherits from itself in one or more steps
+-- the requested profile, or a profile from which it inherits, inherits from itself in one or more steps
 pub record ComesBack (profiles : List Profile) (from : Seen) : Type 0 where
   pub profile : Seen
   pub ancestor : IsAncestor profiles from profile
@@ -44,10 +46,10 @@ pub record ComesBack (profiles : List Profile) (from : Seen) : Type 0 where
   pub inherits : InheritsFrom profiles profile next
   pub back : IsAncestor profiles next profile
 
--- a cycle is reported only if the line comes back
+-- a cycle is reported only if some profile of the line inherits from itself
 abbrev pub TellsCycles : Type 0
 TellsCycles = (profiles : List Profile) (name : List ℕ) → line_of profiles name ≡ Err InheritsCycle → ComesBack profiles (seen_at profiles name)
 
--- each key has a value at some location, whatever the profiles contain
+-- for each key some location has a value, whatever the profiles contain
 abbrev pub FindsValues : Type 0
 FindsValues = (profiles : List Profile) (s : Seen) (line : List Seen) → IsLine profiles s line → (p : Package) (role : Side) (k : ProfileKey) → IsSome (looked_up k (places_of p role) line)

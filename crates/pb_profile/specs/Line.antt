@@ -1,4 +1,4 @@
--- Which profile a profile inherits from, and where its output goes (The Cargo Book, Profiles).
+-- From which profile a profile inherits, and what its output folder is called (The Cargo Book, Profiles).
 use Rattle.std.specs.Prelude.{ℕ, zero, suc, ◌+◌, Bool, true, ◌&&◌, ◌||◌, if◌then◌else◌, codes, List, [], ◌∷◌, length, Option, Some, None, Result, Ok, Err, option_map, is_none}
 use Rattle.std.specs.List.{list_all, find}
 use Rattle.std.specs.Str.{bytes_eq}
@@ -12,35 +12,35 @@ use Rattle.pb_profile.specs.declared.line.Ancestor.{Ancestor}
 use Rattle.pb_profile.specs.declared.fault.ProfileFault.{ProfileFault}
 use Rattle.pb_profile.specs.declared.fault.ProfileFault.TheVariants.{NoSuchProfile, InheritsCycle, NotInOverride}
 
--- the value passes the test, if there is one
+-- there is no value, or the test is true for it
 abbrev pub option_all : {A : Type 0} → (A → Bool) → Option A → Bool
 option_all test None = true
 option_all test (Some x) = test x
 
--- whether a name is one of two
+-- the name is one of the two
 abbrev pub is_either : List ℕ → List ℕ → List ℕ → Bool
 is_either first second name = bytes_eq name first || bytes_eq name second
 
--- the output folder of a profile
+-- the name of a profile's output folder in the target folder
 abbrev pub folder_of : List ℕ → List ℕ
 folder_of name =
     if is_either (codes "dev") (codes "test") name then codes "debug"
     else (if is_either (codes "release") (codes "bench") name then codes "release" else name)
 
--- a profile in a line: its name, and its table if one is written
+-- a profile of a line: its name, and its table if it is written
 pub record Seen : Type 0 where
   pub name : List ℕ
   pub table : Option Profile
 
--- a profile in a line, as contracts see it
+-- a profile of a line as contracts see it
 abbrev pub seen : Ancestor → Seen
 seen a = record { name = a.name.now; table = option_map (λ p. p.now) a.table }
 
--- the table with this name, if there is one
+-- the written profile with this name, if there is one
 abbrev pub named : List Profile → List ℕ → Option Profile
 named profiles name = find (λ (p : Profile). bytes_eq p.name name) profiles
 
--- the profile that a custom profile inherits from, which it must name
+-- the name of the profile from which a custom profile inherits; it must be written
 abbrev pub inherited : Option (List ℕ) → Result (Option (List ℕ)) ProfileFault
 inherited None = Err NoSuchProfile
 inherited (Some parent) = Ok (Some parent)
@@ -49,17 +49,18 @@ abbrev pub custom_parent : Option Profile → Result (Option (List ℕ)) Profile
 custom_parent None = Err NoSuchProfile
 custom_parent (Some p) = inherited p.inherits
 
--- a result with borrowed values, as contracts see it
+-- a result with borrowed values as contracts see it
 abbrev pub shown_parent : {P Q : Type 0} → (P → Q) → Result (Option P) ProfileFault → Result (Option Q) ProfileFault
 shown_parent shows (Ok parent) = Ok (option_map shows parent)
 shown_parent shows (Err fault) = Err fault
 
--- the profile with this name
+-- the profile with this name, and its table if it is written
 abbrev pub seen_at : List Profile → List ℕ → Seen
 seen_at profiles name = record { name = name; table = named profiles name }
 
--- the parent of a profile: `dev` for `test`, `release` for `bench`, none for these two,
--- and the written one for a custom profile
+-- The name of the profile from which a profile inherits. `test` inherits from `dev`, and `bench`
+-- from `release`. `dev` and `release` inherit from none. A custom profile inherits from the profile
+-- that its table names.
 abbrev pub parent_of : Seen → Result (Option (List ℕ)) ProfileFault
 parent_of s =
     if is_either (codes "dev") (codes "release") s.name then Ok None
@@ -71,33 +72,33 @@ parent_of s =
 abbrev pub above : List Profile → Seen → Result (Option Seen) ProfileFault
 above profiles s = parent_of s >>= (λ parent. Ok (option_map (seen_at profiles) parent))
 
--- the profile alone, or the profile and its parent's line
+-- the profile's line: the profile alone if it has no parent, or else the profile and the line of its parent
 abbrev pub then_above : (Seen → Result (List Seen) ProfileFault) → Seen → Option Seen → Result (List Seen) ProfileFault
 then_above line_of s None = Ok (s ∷ [])
 then_above line_of s (Some parent) = line_of parent >>= (λ line. Ok (s ∷ line))
 
--- the line of a profile, with at most n profiles: itself, its parent, and so on to `dev` or `release`
+-- The line of a profile: the profile, its parent, and so on to `dev` or `release`. A line with more
+-- than n profiles counts as a cycle.
 abbrev pub line_within : ℕ → List Profile → Seen → Result (List Seen) ProfileFault
 line_within zero profiles s = Err InheritsCycle
 line_within (suc n) profiles s = above profiles s >>= then_above (line_within n profiles) s
 
--- The line of the profile with this name.
--- Its limit is two more than the number of written profiles, for the two built-in ones:
--- a longer line repeats a profile.
+-- The line of the profile with this name. A line has at most the written profiles and two built-in
+-- ones. So a longer line contains some profile twice.
 abbrev pub line_of : List Profile → List ℕ → Result (List Seen) ProfileFault
 line_of profiles name = line_within (length profiles + 2) profiles (seen_at profiles name)
 
--- an override may set each of these keys that is set: all keys except `panic`, `lto` and `rpath`
+-- no key is set that an override may not set: `panic`, `lto` and `rpath`
 abbrev pub may_override : Said → Bool
 may_override values = list_all (λ k. (row k).in_override || is_none (says values k)) keys
 
--- no override of a table sets a key that it may not set
+-- no override in a profile's table sets a key that an override may not set
 abbrev pub table_allows : Profile → Bool
 table_allows table = option_all may_override table.build_override && list_all (λ (o : ProfileOverride). may_override o.keys) table.packages
 
 abbrev pub allows : Seen → Bool
 allows s = option_all table_allows s.table
 
--- the line of a profile, if no override in it sets a key that it may not set
+-- the line of a profile, or a fault if some override in the line sets a key that it may not set
 abbrev pub checked_line : List Profile → List ℕ → Result (List Seen) ProfileFault
 checked_line profiles name = line_of profiles name >>= (λ line. if list_all allows line then Ok line else Err NotInOverride)

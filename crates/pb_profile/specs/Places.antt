@@ -1,4 +1,4 @@
--- The locations as the code names them. These definitions serve private functions only.
+-- The locations of values as the code names them. Only private functions need these definitions.
 use Rattle.std.specs.Prelude.{Option, None}
 use Rattle.pb_profile_keys.specs.Keys.{says}
 use Rattle.pb_profile_keys.specs.declared.key.ProfileKey.{ProfileKey}
@@ -8,7 +8,7 @@ use Rattle.pb_profile.specs.Settings.{Place, said_by, override_named, in_package
 use Rattle.pb_profile.specs.declared.places.Source.{Source}
 use Rattle.pb_profile.specs.declared.places.Source.TheVariants.{Package, BuildOverride, OfHosts, Own, BuiltIn}
 
--- the location that a source means, such as `in_package`
+-- the location that a source of the code means
 abbrev pub sought : Source → Place
 sought (Package name) = in_package name.now
 sought BuildOverride = in_build_override
@@ -16,7 +16,7 @@ sought OfHosts = of_hosts
 sought Own = own
 sought BuiltIn = built_in
 
--- the value of a key in a profile's table at a location
+-- the value that a profile's table has for a key at a location
 abbrev pub written_in : Source → Profile → ProfileKey → Option Setting
 written_in (Package name) table k = said_by (override_named name.now table) k
 written_in BuildOverride table k = said_by table.build_override k

@@ -1,5 +1,5 @@
--- The value of a profile's key is that of the first location that has it.
--- Each location is looked up along `inherits` before the next one (The Cargo Book, Profiles).
+-- Which value a profile's key has: that of the first location with a value. Each location is looked
+-- up along `inherits` before the next location (The Cargo Book, Profiles).
 use Rattle.std.specs.Prelude.{ℕ, Bool, if◌then◌else◌, codes, List, [], ◌∷◌, ◌++◌, map, Option, Some, None, Result, Ok, option_and_then, option_map, unwrap_or}
 use Rattle.std.specs.List.{find}
 use Rattle.std.specs.Option.{option_or}
@@ -18,51 +18,51 @@ use Rattle.pb_workspace_types.specs.declared.workspace.Workspace.{Workspace}
 use Rattle.pb_profile.specs.declared.fault.ProfileFault.{ProfileFault}
 use Rattle.pb_profile.specs.Line.{Seen, checked_line}
 
--- a location of values: the value of a key that a profile of the line has there
+-- a location of values, which says for each profile of the line and each key which value is there
 abbrev pub Place : Type 0
 Place = Seen → ProfileKey → Option Setting
 
--- the value of a key among these, if there are any
+-- the value of a key in a list of values, if there is such a list
 abbrev pub said_by : Option Said → ProfileKey → Option Setting
 said_by values k = option_and_then (λ set. says set k) values
 
--- the profile's own keys
+-- the location of the keys that the profile itself sets
 abbrev pub own : Place
 own s k = said_by (option_map (λ (p : Profile). p.keys) s.table) k
 
--- the keys that the override `package.NAME` of a profile sets
+-- The keys that the override `package.NAME` of a profile sets. `in_package` is their location.
 abbrev pub override_named : List ℕ → Profile → Option Said
 override_named name p = option_map (λ (o : ProfileOverride). o.keys) (find (λ (o : ProfileOverride). bytes_eq o.name name) p.packages)
 
 abbrev pub in_package : List ℕ → Place
 in_package name s k = said_by (option_and_then (override_named name) s.table) k
 
--- the keys that the override `build-override` of a profile sets
+-- the location of the keys that the override `build-override` of a profile sets
 abbrev pub in_build_override : Place
 in_build_override s k = said_by (option_and_then (λ (p : Profile). p.build_override) s.table) k
 
--- the values of all host roles, unless an earlier location sets them: `package.NAME`, `package."*"` or `build-override`
+-- the location of the built-in values for host roles, which come after the overrides
 abbrev pub of_hosts : Place
 of_hosts s k = (defaults k).beside_override
 
--- the built-in values of `dev` and `release`
+-- the location of the built-in values of `dev` and `release`
 abbrev pub built_in : Place
 built_in s k = if bytes_eq s.name (codes "dev") then Some (defaults k).dev else (if bytes_eq s.name (codes "release") then Some (defaults k).release else None)
 
--- `package."*"` applies to packages that are no members
+-- the location of `package."*"`, which counts only for packages that are no members
 abbrev pub of_others : Bool → List Place
 of_others is_member = if is_member then [] else in_package (codes "*") ∷ []
 
--- `build-override` and its built-in values apply to host roles
+-- the locations of `build-override` and of its built-in values, which count only for host roles
 abbrev pub of_role : Side → List Place
 of_role Target = []
 of_role Host = in_build_override ∷ of_hosts ∷ []
 
--- the locations of a package's keys in a role, in order
+-- the locations that count for a package in a role, in order
 abbrev pub places_of : Package → Side → List Place
 places_of p role = in_package p.name ∷ of_others p.is_member ++ of_role role ++ own ∷ built_in ∷ []
 
--- the value of a key at one location, along the line
+-- the value of a key at one location, in the first profile of the line that has one there
 abbrev pub along : ProfileKey → Place → List Seen → Option Setting
 along k place [] = None
 along k place (s ∷ line) = option_or (place s k) (along k place line)
@@ -72,19 +72,21 @@ abbrev pub looked_up : ProfileKey → List Place → List Seen → Option Settin
 looked_up k [] line = None
 looked_up k (place ∷ places) line = option_or (along k place line) (looked_up k places line)
 
--- some keys have one value in host roles, whatever the profile contains
+-- the value that a key has in host roles whatever the profiles contain, if there is one, and the
+-- given value otherwise
 abbrev pub fixed : Side → ProfileKey → Setting → Setting
 fixed Target k value = value
 fixed Host k value = unwrap_or (defaults k).in_hosts value
 
--- the setting of a key; the default is never used, since each line ends with a profile that has all built-in values
+-- The setting of a key for a package in a role. Each line ends with a profile that has all built-in
+-- values, so the default is never used.
 abbrev pub setting_of : Package → Side → List Seen → ProfileKey → Setting
 setting_of p role line k = fixed role k (unwrap_or (looked_up k (places_of p role) line) (defaults k).dev)
 
--- the settings, along the keys
+-- the settings of a package in a role, in the order of the keys
 abbrev pub settings_along : Package → Side → List Seen → List Setting
 settings_along p role line = map (setting_of p role line) keys
 
--- the settings of a package in a role, under a profile
+-- the settings of a package in a role if this profile is requested
 abbrev pub settings_of : Workspace → List ℕ → Package → Side → Result (List Setting) ProfileFault
 settings_of ws profile p role = checked_line ws.profiles profile >>= (λ line. Ok (settings_along p role line))

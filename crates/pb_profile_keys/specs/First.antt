@@ -1,8 +1,8 @@
--- The first value that a list has.
+-- The first value of a function along a list.
 use Rattle.std.specs.Prelude.{List, [], ◌∷◌, Option, None}
 use Rattle.std.specs.Option.{option_or}
 
--- the first value that a function has along a list, if there is one
+-- the first value that the function has for an item of the list, if there is one
 abbrev pub first_some : {A B : Type 0} → (A → Option B) → List A → Option B
 first_some f [] = None
 first_some f (x ∷ xs) = option_or (f x) (first_some f xs)

@@ -1,4 +1,4 @@
--- What a profile or an override sets, and settings, both as lists along the keys.
+-- What a profile or an override sets, and the settings of a package. Both are lists in the order of the keys.
 use Rattle.std.specs.Prelude.{Bool, true, false, List, Option, None, get_or, map}
 use Rattle.pb_profile_keys.specs.Setting.{same}
 use Rattle.pb_profile_keys.specs.Table.{keys, index}
@@ -9,23 +9,23 @@ use Rattle.pb_profile_keys.specs.declared.setting.Setting.TheVariants as setting
 use Rattle.pb_profile_keys.specs.declared.setting.Word.{Word}
 use Rattle.pb_profile_keys.specs.declared.setting.Word.TheVariants as word
 
--- what a profile or an override sets: a value, or none, along the keys
+-- for each key, in order, the value that a profile or an override sets, if it sets one
 abbrev pub Said : Type 0
 Said = List (Option Setting)
 
--- the value that is set at a key, if there is one
+-- the value that is set for a key, if there is one
 abbrev pub says : Said → ProfileKey → Option Setting
 says values k = get_or values (index k) None
 
--- no key is set
+-- a list in which no key is set
 abbrev pub no_keys : Said
 no_keys = map (λ (k : ProfileKey). None) keys
 
--- the setting of a key
+-- the setting of a key in a list of settings
 abbrev pub setting_at : List Setting → ProfileKey → Setting
 setting_at settings k = get_or settings (index k) (setting.Truth false)
 
--- the word of a setting; other settings have none, and count as `0`
+-- the word of a setting; a setting that is no word counts as `0`
 abbrev pub word_in : Setting → Word
 word_in (setting.Word w) = w
 word_in _ = word.Zero

@@ -1,4 +1,4 @@
--- The values of a profile's keys (The Cargo Book, Profiles).
+-- Which values a profile's keys have (The Cargo Book, Profiles).
 use Rattle.std.specs.Prelude.{ℕ, Bool, not, false, ◌&&◌, ◌==◌, if◌then◌else◌, nat_le, codes, List, [], ◌∷◌, Option, Some, None}
 use Rattle.std.specs.Str.{bytes_eq}
 use Rattle.pb_profile_keys.specs.First.{first_some}
@@ -30,38 +30,38 @@ spelled word.Two = codes "2"
 spelled word.Unwind = codes "unwind"
 spelled word.Zero = codes "0"
 
--- each word
+-- all words
 abbrev pub words : List Word
 words =
     word.Abort ∷ word.DebugInfo ∷ word.Fat ∷ word.Full ∷ word.Limited ∷ word.LineDirectivesOnly ∷ word.LineTablesOnly ∷ word.Nothing ∷ word.Off
     ∷ word.One ∷ word.Size ∷ word.SmallestSize ∷ word.Symbols ∷ word.Thin ∷ word.Three ∷ word.Two ∷ word.Unwind ∷ word.Zero ∷ []
 
--- the word that is spelled so, if there is one
+-- The word, if it is spelled as this text. `word_of` is the word that a text spells.
 abbrev pub if_spelled : List ℕ → Word → Option Word
 if_spelled text w = if bytes_eq (spelled w) text then Some w else None
 
 unfoldable pub word_of : List ℕ → Option Word
 word_of text = first_some (if_spelled text) words
 
--- whether two values are equal
+-- the two values are equal
 abbrev pub same : Setting → Setting → Bool
 same (setting.Truth a) (setting.Truth b) = if a then b else not b
 same (setting.Number a) (setting.Number b) = a == b
 same (setting.Word a) (setting.Word b) = bytes_eq (spelled a) (spelled b)
 same _ _ = false
 
--- the number, if it is in a range
+-- the setting, if it is a number in this range
 abbrev pub between : ℕ → ℕ → Setting → Option Setting
 between low high (setting.Truth b) = None
 between low high (setting.Number n) = if nat_le low n && nat_le n high then Some (setting.Number n) else None
 between low high (setting.Word w) = None
 
--- what a written value means by a choice, if it is one of its values
+-- the meaning of a written value by one choice, if the choice accepts this value
 abbrev pub accepted : Setting → Choice → Option Setting
 accepted written (Is value) = if same written value then Some value else None
 accepted written (Means value meant) = if same written value then Some meant else None
 accepted written (Between low high) = between low high written
 
--- what a written value means by the first of these choices that has it
+-- the meaning of a written value by the first choice that accepts it
 abbrev pub meaning : List Choice → Setting → Option Setting
 meaning choices written = first_some (accepted written) choices

@@ -1,4 +1,4 @@
--- The table of a profile's keys: what is known of each (The Cargo Book, Profiles).
+-- The table of a profile's keys: what is known of each key (The Cargo Book, Profiles).
 use Rattle.std.specs.Prelude.{ℕ, Bool, true, false, codes, List, [], ◌∷◌, Option, Some, None}
 use Rattle.pb_profile_keys.specs.Setting.{meaning}
 use Rattle.pb_profile_keys.specs.declared.key.ProfileKey.{ProfileKey}
@@ -9,25 +9,25 @@ use Rattle.pb_profile_keys.specs.declared.setting.Choice.TheVariants.{Is, Means,
 use Rattle.pb_profile_keys.specs.declared.setting.Setting.{Setting}
 use Rattle.pb_profile_keys.specs.declared.setting.Setting.TheVariants.{Truth, Number, Word}
 
--- what is known of a key beside its values
+-- what is known of a key, apart from its values
 pub record Facts : Type 0 where
-  -- its name in a manifest
+  -- the key's name in a manifest
   pub name : List ℕ
-  -- whether an override may set it
+  -- an override may set the key
   pub in_override : Bool
-  -- the beginning of the compiler's option for it, and the option's value for `true`
+  -- The beginning of the compiler's option for the key. `yes` is what the option has for the value `true`.
   pub option : List ℕ
   pub yes : List ℕ
-  -- the value without an option, if there is one
+  -- the value for which the compiler gets no option, if there is one
   pub untold : Option Setting
-  -- whether only the compile of a binary has the option
+  -- only the compile of a binary gets the option
   pub of_binaries : Bool
 
--- a key with nothing special
+-- a key for which nothing special is known
 abbrev pub plain : Facts
 plain = record { name = []; in_override = true; option = []; yes = codes "on"; untold = None; of_binaries = false }
 
--- the table: a row for each key, in byte order of their names
+-- the row of a key in the table
 unfoldable pub row : ProfileKey → Facts
 row key.CodegenUnits = record plain { name = codes "codegen-units"; option = codes "codegen-units=" }
 row key.Debug = record plain { name = codes "debug"; option = codes "debuginfo=" }
@@ -39,17 +39,17 @@ row key.Panic = record plain { name = codes "panic"; in_override = false; option
 row key.Rpath = record plain { name = codes "rpath"; in_override = false; option = codes "rpath="; yes = codes "yes"; untold = Some (Truth false) }
 row key.Strip = record plain { name = codes "strip"; option = codes "strip="; untold = Some (Word word.Nothing) }
 
--- the values of a key that nobody writes
+-- the values that a key has if nobody writes it
 pub record Defaults : Type 0 where
-  -- in `dev` and `release`
+  -- the value in the profile `dev`, and then the value in `release`
   pub dev : Setting
   pub release : Setting
-  -- in the host's role beside `build-override`, if there is one
+  -- the value that host roles have after `build-override` was looked up, if there is one
   pub beside_override : Option Setting
-  -- in the host's role whatever is written, if there is one
+  -- the value that host roles have whatever is written, if there is one
   pub in_hosts : Option Setting
 
--- the built-in values of each key
+-- the built-in values of a key
 unfoldable pub defaults : ProfileKey → Defaults
 defaults key.CodegenUnits = record { dev = Number 256; release = Number 16; beside_override = Some (Number 256); in_hosts = None }
 defaults key.Debug = record { dev = Word word.Two; release = Word word.Zero; beside_override = Some (Word word.Zero); in_hosts = None }
@@ -61,7 +61,7 @@ defaults key.Panic = record { dev = Word word.Unwind; release = Word word.Unwind
 defaults key.Rpath = record { dev = Truth false; release = Truth false; beside_override = None; in_hosts = None }
 defaults key.Strip = record { dev = Word word.Nothing; release = Word word.Nothing; beside_override = None; in_hosts = None }
 
--- the values that a key may have, and what each means
+-- the values that a key may have, each with its meaning
 unfoldable pub choices : ProfileKey → List Choice
 choices key.CodegenUnits = Between 1 65536 ∷ []
 choices key.Debug =
@@ -79,15 +79,15 @@ choices key.Panic = Is (Word word.Unwind) ∷ Is (Word word.Abort) ∷ []
 choices key.Rpath = Is (Truth true) ∷ Is (Truth false) ∷ []
 choices key.Strip = Means (Truth false) (Word word.Nothing) ∷ Means (Truth true) (Word word.Symbols) ∷ Is (Word word.Nothing) ∷ Is (Word word.DebugInfo) ∷ Is (Word word.Symbols) ∷ []
 
--- what a written value means at a key, if the key may have it
+-- the meaning of a written value at a key, if the key may have this value
 abbrev pub meaning_at : ProfileKey → Setting → Option Setting
 meaning_at k written = meaning (choices k) written
 
--- each key, in byte order of their names
+-- all keys, in byte order of their names
 abbrev pub keys : List ProfileKey
 keys = key.CodegenUnits ∷ key.Debug ∷ key.DebugAssertions ∷ key.Lto ∷ key.OptLevel ∷ key.OverflowChecks ∷ key.Panic ∷ key.Rpath ∷ key.Strip ∷ []
 
--- the index of a key among them
+-- the index of a key in the list of all keys
 abbrev pub index : ProfileKey → ℕ
 index key.CodegenUnits = 0
 index key.Debug = 1

@@ -1,10 +1,10 @@
--- What a record says was requested, and the command that requests it.
+-- What a record says about the command that its child was given, and that command.
 use Rattle.std.specs.Prelude.{◌≡◌, true, if◌then◌else◌, Option, Some, None, List, ℕ}
 use Rattle.pb_place_types.specs.declared.command.Command.{Command}
 use Rattle.pb_record.specs.Sorted.{are_sorted}
 use Rattle.pb_record.specs.declared.recorded_command.RecordedCommand.{RecordedCommand}
 
--- the command that was requested
+-- the command that the record describes
 abbrev pub command_of : RecordedCommand → Command
 command_of a = record {
   program = a.program;
@@ -17,8 +17,9 @@ command_of a = record {
   reads = a.reads;
 }
 
--- the request of a command, from its parts and this output folder (below, with an optional one: a command has a request
--- if it has an output folder and its variables are sorted by name, each name once)
+-- What a record says about a command with this output folder. `asked_in` is the same for any
+-- command. The command must have an output folder, and its variables must be sorted by name, each
+-- name once.
 abbrev pub of_parts : Command → List ℕ → RecordedCommand
 of_parts c out = record {
   program = c.program;
@@ -38,7 +39,7 @@ asked_with c (Some out) = if are_sorted c.pairs then Some (of_parts c out) else 
 abbrev pub asked_in : Command → Option RecordedCommand
 asked_in c = asked_with c c.out
 
--- a command requests the same, variables apart
+-- the record and the command agree, except perhaps in their variables
 pub record AsksAs (a : RecordedCommand) (c : Command) : Type 0 where
   pub program : a.program ≡ c.program
   pub words : a.words ≡ c.words
@@ -48,14 +49,16 @@ pub record AsksAs (a : RecordedCommand) (c : Command) : Type 0 where
   pub toolchain : a.toolchain ≡ c.toolchain
   pub reads : a.reads ≡ c.reads
 
--- The command of a command's request is that command.
+-- If a command is written to a record, the command that the record describes is this command.
 abbrev pub AskedIsCommand : Type 0
 AskedIsCommand = (c : Command) (a : RecordedCommand) → asked_in c ≡ Some a → command_of a ≡ c
 
--- The request of a request's command is that request, if its variables are sorted.
+-- If the command that a record describes is written to a record, it says the same, provided that
+-- its variables are sorted.
 abbrev pub CommandIsAsked : Type 0
 CommandIsAsked = (a : RecordedCommand) → are_sorted a.pairs ≡ true → asked_in (command_of a) ≡ Some a
 
--- A command that requests the same, with the same variables, is the command that was requested.
+-- If a record and a command agree, and have the same variables, the command is the one that the
+-- record describes.
 abbrev pub SameAsked : Type 0
 SameAsked = (a : RecordedCommand) (c : Command) → AsksAs a c → a.pairs ≡ c.pairs → command_of a ≡ c

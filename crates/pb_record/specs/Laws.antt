@@ -1,4 +1,4 @@
--- Laws of records.
+-- Laws about the text of records.
 use Rattle.std.specs.Prelude.{◌≡◌, ◌≢◌, ◌<◌, ◌^◌, ℕ, false, List, ◌∷◌, ◌++◌, length, take, codes, Option}
 use Rattle.pb_data.specs.Ascii.{line_feed}
 use Rattle.pb_place_types.specs.Paths.{has_byte_0}
@@ -10,20 +10,21 @@ use Rattle.pb_record.specs.declared.record.Record.{Record}
 abbrev pub TellsApart : Type 0
 TellsApart = (r s : Record) → record_bytes r ≡ record_bytes s → r ≡ s
 
--- If two texts that begin with records are equal, the records are equal, and so is what follows them.
+-- If two texts begin with records and are equal, the records are equal, and the rests of the texts are equal.
 abbrev pub SaysWhereItEnds : Type 0
 SaysWhereItEnds = (r s : Record) (rest more : List ℕ) → record_bytes r ++ rest ≡ record_bytes s ++ more → (r ≡ s) × (rest ≡ more)
 
--- A proper first part of a record is no record, so a torn write never counts.
+-- A proper first part of a record's text is no record's text. So a torn write never counts as a record.
 abbrev pub FirstPartsSayNothing : Type 0
 FirstPartsSayNothing = (n : ℕ) (r s : Record) → n < length (record_bytes r) → Says (take n (record_bytes r)) s → ⊥
 
--- A record followed by more bytes is no record.
+-- A record's text followed by more bytes is no record's text.
 abbrev pub MoreBytesSayNothing : Type 0
 MoreBytesSayNothing = (r s : Record) (b : ℕ) (more : List ℕ) → Says (record_bytes r ++ b ∷ more) s → ⊥
 
--- If the bytes of a value are those of a record, the value is a record: its texts are UTF-8, its paths are normalised,
--- its numbers are not above the largest, and its variables are sorted, each name once.
+-- If the bytes of a value are the text of a record, the value is itself a record. So its texts are
+-- UTF-8, its paths are normalised, its numbers are not too large, and its variables are sorted,
+-- each name once.
 abbrev pub OnlyRecordsAreSaid : Type 0
 OnlyRecordsAreSaid = (r s : Record) → Says (record_bytes r) s → IsRecord r
 
@@ -31,15 +32,16 @@ OnlyRecordsAreSaid = (r s : Record) → Says (record_bytes r) s → IsRecord r
 abbrev pub PathsHaveNoByte0 : Type 0
 PathsHaveNoByte0 = (path : List ℕ) → IsPlace path → has_byte_0 path ≡ false
 
--- If a number begins with a 0, that 0 is the whole number. A number has at least one digit. Both
--- are true for any following bytes.
+-- If the text of a number begins with 0, the number is 0. `NumbersHaveDigits` says that each number
+-- has at least one digit. Both are true whatever bytes follow.
 abbrev pub NoZeroLeads : Type 0
 NoZeroLeads = (n d : ℕ) (rest more : List ℕ) → number n ++ rest ≡ 48 ∷ d ∷ more → (n ≡ 0) × (d ≡ 10)
 
 abbrev pub NumbersHaveDigits : Type 0
 NumbersHaveDigits = (n : ℕ) (rest more : List ℕ) → number n ++ rest ≢ line_feed ∷ more
 
--- The same for the run number of a record.
+-- If the run number in a record begins with 0, it is 0. The next two laws say that it has at least
+-- one digit, and that it fits in 64 bits.
 abbrev pub NoZeroLeadsRecord : Type 0
 NoZeroLeadsRecord = (r : Record) (d : ℕ) (more : List ℕ) → Says (line (codes "record 2") ++ 48 ∷ d ∷ more) r → d ≡ 10
 
@@ -49,10 +51,10 @@ RecordNumbersHaveDigits = (r : Record) (more : List ℕ) → Says (line (codes "
 abbrev pub RecordNumbersFit : Type 0
 RecordNumbersFit = (r : Record) (n : ℕ) (more : List ℕ) → Says (line (codes "record 2") ++ (number n ++ more)) r → n < 2 ^ 64
 
--- Each text is read in one way.
+-- Each text is read in at most one way.
 abbrev pub HasOneReading : Type 0
 HasOneReading = (text : List ℕ) (found other : Option Record) → Reads text found → Reads text other → found ≡ other
 
--- There is a function that reads each text.
+-- There is a function that reads every text.
 abbrev pub HasReading : Type 0
 HasReading = (read : List ℕ → Option Record) × IsReading read

@@ -1,4 +1,4 @@
--- The run numbers in a record.
+-- Which run numbers a record has.
 use Rattle.std.specs.Prelude.{◌≡◌, ℕ, List, Option, Some, None, option_map}
 use Rattle.pb_record.specs.Parts.{IsReading, Says}
 use Rattle.pb_record.specs.declared.numbers.Numbers.{Numbers}
@@ -6,20 +6,21 @@ use Rattle.pb_record.specs.declared.record.Needed.{Needed}
 use Rattle.pb_record.specs.declared.record.Needed.TheVariants as needed
 use Rattle.pb_record.specs.declared.record.Record.{Record}
 
--- a record's own run number, and the numbers by which it names the units that it needs; none in format 1
+-- A record's own run number, and the numbers that it has for the units that it needs. A record of
+-- format 1 has none.
 abbrev pub numbered_in : Needed → Option (ℕ × List (List ℕ × ℕ))
 numbered_in (needed.Copies copies) = None
 numbered_in (needed.Numbers own needs) = Some (own, needs)
 
--- the key of a record's unit, and its run numbers
+-- the key of a record's unit, with the run numbers in the record
 abbrev pub numbers_of : Record → Numbers
 numbers_of r = record { key = r.key; numbered = numbered_in r.needed }
 
--- the numbers of the record of a text; none if the text is not that of a record
+-- `found` has the numbers of the record that the text is, or is nothing if the text is no record
 abbrev pub AreNumbersOf : List ℕ → Option Numbers → Type 0
 AreNumbersOf text found = (read : List ℕ → Option Record) → IsReading read → found ≡ option_map numbers_of (read text)
 
--- the text is the text of a record with these numbers
+-- the text is that of a record, and the record has these numbers
 pub record SaysNumbers (text : List ℕ) (numbers : Numbers) : Type 0 where
   pub kept : Record
   pub says : Says text kept

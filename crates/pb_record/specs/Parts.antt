@@ -1,5 +1,5 @@
--- What a record is, apart from its text: texts are UTF-8, paths are normalised, names inside a folder stay in it,
--- numbers fit in 64 bits, and variables are sorted by name, each name once.
+-- What a record is, apart from its text. Texts are UTF-8, and paths are normalised. Names inside a
+-- folder stay inside it, and numbers fit in 64 bits. Variables are sorted by name, each name once.
 use Rattle.std.specs.Prelude.{◌≡◌, ◌↔◌, ◌<◌, ◌^◌, ℕ, true, List, Option, Some, None}
 use Rattle.std.specs.List.{AllByRecursion}
 use Rattle.std.specs.Str.{IsUtf8}
@@ -13,18 +13,18 @@ use Rattle.pb_record.specs.declared.record.Needed.{Needed}
 use Rattle.pb_record.specs.declared.record.Needed.TheVariants.{Copies, Numbers}
 use Rattle.pb_record.specs.declared.record.Record.{Record}
 
--- any value is allowed
+-- Any value is allowed. `IsNumber` says that a number fits in 64 bits.
 abbrev pub IsAny : {A : Type 0} → A → Type 0
 IsAny x = Unit {0}
 
 abbrev pub IsNumber : ℕ → Type 0
 IsNumber n = n < 2 ^ 64
 
--- a normalised path from the root
+-- the path is a normalised absolute path, in UTF-8
 abbrev pub IsPlace : List ℕ → Type 0
 IsPlace path = (is_path path ≡ true) × IsUtf8 path
 
--- a path inside a folder
+-- the path is a relative path inside a folder, in UTF-8
 abbrev pub IsInside : List ℕ → Type 0
 IsInside path = (is_relative path ≡ true) × IsUtf8 path
 
@@ -65,15 +65,15 @@ pub record IsRecord (r : Record) : Type 0 where
   pub inputs : AllByRecursion IsInput r.inputs
   pub needed : AreNeeded r.needed
 
--- the text is the text of a record
+-- the text is that of the record
 pub record Says (text : List ℕ) (r : Record) : Type 0 where
   pub is : IsRecord r
   pub same : text ≡ record_bytes r
 
--- The reading of a text: its record, or none if it is not the text of a record.
+-- what reading a text finds: the record that the text is, or nothing if it is no record
 abbrev pub Reads : List ℕ → Option Record → Type 0
 Reads text found = (r : Record) → (found ≡ Some r) ↔ Says text r
 
--- a function that returns the reading of each text
+-- the function finds for each text what reading finds
 abbrev pub IsReading : (List ℕ → Option Record) → Type 0
 IsReading read = (text : List ℕ) → Reads text (read text)

@@ -1,4 +1,4 @@
--- For private functions only: a record and its request as nested pairs, in the order of the text.
+-- A record as nested pairs, in the order of its text. Only private functions need these definitions.
 use Rattle.std.specs.Prelude.{◌≡◌, ◌++◌, ℕ, List, codes}
 use Rattle.std.specs.List.{AllByRecursion}
 use Rattle.std.specs.Str.{IsUtf8}
@@ -27,7 +27,7 @@ asked_of (program, (words, (folder, (pairs, (out, (target, (toolchain, reads))))
   reads = reads;
 }
 
--- the parts of a record of format 2
+-- all parts of a record of format 2
 abbrev pub NumberedParts : Type 0
 NumberedParts = ℕ × (List ℕ × (RecordedCommand × (List Input × (List (List ℕ × ℕ) × (List ℕ × List ℕ)))))
 
@@ -41,7 +41,7 @@ numbered_of (own, (key, (asked, (inputs, (needs, (stdout, stderr)))))) = record 
   stderr = stderr;
 }
 
--- the parts of a record of format 1
+-- all parts of a record of format 1
 abbrev pub CopiedParts : Type 0
 CopiedParts = List ℕ × (RecordedCommand × (List Input × (List (List ℕ × Files) × (List ℕ × List ℕ))))
 
@@ -55,8 +55,8 @@ copied_of (key, (asked, (inputs, (copies, (stdout, stderr))))) = record {
   stderr = stderr;
 }
 
--- the parts after the key of a record of format 2: the request and the inputs; the needed units with their numbers, and
--- the streams
+-- The parts that follow the key in a record of format 2. The command and the inputs come first,
+-- then the needed units with their numbers, then the two streams.
 abbrev pub RestParts : Type 0
 RestParts = (RecordedCommand × List Input) × (List (List ℕ × ℕ) × (List ℕ × List ℕ))
 
@@ -66,17 +66,17 @@ rest_spelled = both (both asked_bytes (listed input_bytes)) (both (listed (both 
 abbrev pub AreRest : RestParts → Type 0
 AreRest = AreBoth (AreBoth IsAsked (AllByRecursion IsInput)) (AreBoth (AllByRecursion (AreBoth IsUtf8 IsNumber)) (AreBoth IsAny IsAny))
 
--- a text consists of these parts and the last line
+-- the text consists of these parts and the last line
 abbrev pub IsRest : List ℕ → RestParts → Type 0
 IsRest text p = AreRest p × (text ≡ rest_spelled p ++ line (codes "end"))
 
--- a text consists of such parts, with these needed units, and the last line
+-- the text consists of such parts and the last line, and the needed units are these
 pub record HasNeeds (text : List ℕ) (needs : List (List ℕ × ℕ)) : Type 0 where
   pub parts : RestParts
   pub is : IsRest text parts
   pub same : needs ≡ parts.1.0
 
--- a text consists of two streams and the last line
+-- the text consists of two streams and the last line
 pub record IsEnd (text : List ℕ) : Type 0 where
   pub streams : List ℕ × List ℕ
   pub is : text ≡ both block block streams ++ line (codes "end")

@@ -15,15 +15,15 @@ use Rattle.pb_workspace_types.specs.declared.package.Package.{Package}
 use Rattle.pb_command_types.specs.declared.project.Project.{Project}
 use Rattle.pb_command_types.specs.declared.project.Setup.{Setup}
 
--- this is a command of the unit, after some runs
+-- the command is one that the unit has for some setup and some directives
 abbrev pub IsCommandOf : Project → Planned → Command → Type 0
 IsCommandOf project u c = (setup : Setup) × (done : List (Option (List Directive))) × (c ≡ command_of setup project u done)
 
--- the folder of the records of a project's units: the profile's folder, inside the target folder
+-- the folder of the records of a project's units, which is the profile's folder in the target folder
 abbrev pub records_folder : Project → List ℕ
 records_folder project = profile_folder project.workspace project.profile
 
--- the folder of a unit that this unit needs, or a folder that such a unit reads
+-- the folder `f` is the output folder of a unit that this unit needs, or is read by such a unit
 pub record IsReadByNeed (project : Project) (u : Planned) (f : List ℕ) : Type 0 where
   pub place : ℕ
   pub needed : Contains u.needs place
@@ -31,9 +31,9 @@ pub record IsReadByNeed (project : Project) (u : Planned) (f : List ℕ) : Type 
   pub there : slice_get project.plan.planned place ≡ Some need
   pub own_or_read : (f ≡ need.out) ⊎ Contains (reads_of project need) f
 
--- what a build requires of a project: its workspace is settled, and its plan is a plan of that
--- workspace. These two fields imply the others, which are about its units: their packages, order,
--- folders and keys, and what they need and read
+-- What a build requires of a project. The workspace is settled, and the plan is a plan of this
+-- workspace. The other fields follow from these two. Those fields are about the units: their
+-- packages, order, folders and keys, and what they need and read.
 pub record IsInOrder (project : Project) : Type 0 where
   pub settled : IsSettled project.workspace
   pub selection : Selection

@@ -1,4 +1,5 @@
--- What is true of the outside world while units of a build begin and answer, with any number of them in flight.
+-- What is true of the outside world while units of a build begin and answer. Any number of them may
+-- be in flight.
 use Rattle.std.specs.Prelude.{◌≡◌, ◌≢◌, ◌∷◌, [], ℕ, Bool, true, false, not, List, Option, Some, None, IfSome, slice_get, take, length}
 use Rattle.std.specs.FinMap as finite
 use Rattle.std.specs.List.{flat_map}
@@ -35,13 +36,14 @@ use Rattle.pb_store.specs.Folder.{HasNeeds}
 use Rattle.pb_store.specs.Differences.{IsReplayed}
 use Rattle.pb_unit.specs.declared.plan.Planned.{Planned}
 
--- what a build rests on: a sound folder of records and an honest child; or no records, and then
--- each unit that has a record has begun
+-- What a build assumes. With `TrustedRecords` the folder of records is sound and the child is
+-- honest. With `NoRecords` no unit has a record when the build begins, so a unit that has one has
+-- begun.
 pub data Premise : Type 0 where
   TrustedRecords : Premise
   NoRecords : Premise
 
--- what the facts of a build are about: its premise, the child, the setup, the project and the sources
+-- what facts about a build refer to: its premise, the child, the setup, the project and the sources
 pub record BuildContext : Type 0 where
   pub premise : Premise
   pub child : Answers
@@ -52,25 +54,25 @@ pub record BuildContext : Type 0 where
 abbrev pub build_context : Premise → Answers → Setup → Project → World → BuildContext
 build_context premise child setup project sources = record { premise = premise; child = child; setup = setup; project = project; sources = sources }
 
--- the outcome of each unit in a clean build
+-- the outcome that each unit has in a clean build
 abbrev pub outcomes_in : BuildContext → List Outcome
 outcomes_in b = outcomes b.child b.setup b.project b.sources
 
--- the command of the unit at an index, after the outcomes of the units before it (below: the unit's
--- view)
+-- The command of the unit at an index, given the outcomes of the units before it. `view_in` is the unit's view.
 abbrev pub command_in : BuildContext → ℕ → Planned → Command
 command_in b index u = command_after b.setup b.project (take index (outcomes_in b)) u
 
 abbrev pub view_in : BuildContext → ℕ → Planned → World
 view_in b index u = view_of (take index (outcomes_in b)) b.sources u
 
--- the records that count in a world
+-- the records that count in a world, by key
 abbrev pub records_in : BuildContext → World → RecordMap
 records_in b w = records (records_folder b.project) w
 
--- The units that have answered and are good.
+-- Units that have answered and are good.
 
--- the outcome of the unit at an index is good: its directives are noted, and its files are in its output folder
+-- The unit at an index has a good outcome in a clean build. The unit's directives are noted, and
+-- its files are in its output folder.
 pub record StandsGood (b : BuildContext) (done : List (Option (List Directive))) (w : World) (index : ℕ) : Type 0 where
   pub unit : Planned
   pub there : unit_at b.project index ≡ Some unit
@@ -81,8 +83,8 @@ pub record StandsGood (b : BuildContext) (done : List (Option (List Directive)))
   pub noted : slice_get done index ≡ Some directives
   pub holds : files_in unit.out w.files ≡ files
 
--- the unit at an index has a grounded record with a number; the record reads the same folders as the unit, and nothing
--- differs from it
+-- The unit at an index has a grounded record with a number. The record's command reads the folders
+-- that the unit reads, and nothing differs from the record.
 pub record HasRecord (b : BuildContext) (w : World) (index : ℕ) : Type 0 where
   pub unit : Planned
   pub there : unit_at b.project index ≡ Some unit
@@ -96,27 +98,29 @@ pub record HasRecord (b : BuildContext) (w : World) (index : ℕ) : Type 0 where
 
 -- What stays true while units begin and answer.
 
--- the child is honest on the command of each unit, in each world with these sources in which it sees the unit's view
+-- The child is honest on the command of each unit. This is so in each world that has these sources
+-- and in which the child sees the unit's view.
 abbrev pub IsHonestOnUnits : BuildContext → Type 0
 IsHonestOnUnits b = (index : ℕ) (u : Planned) (w : World) → unit_at b.project index ≡ Some u → from_nothing b.project.workspace.target w ≡ b.sources
     → seen_by (command_in b index u) w ≡ view_in b index u → IsHonest judge b.child (command_in b index u) w
 
--- the folder of records is sound; all numbers in its records are below the next number; and each unit that has answered
--- and is good has its record
+-- The child is honest on the units' commands, and the folder of records is sound. All numbers in
+-- the records are below the next number. Each unit that has answered and is good has its record.
 pub record HoldsRecords (b : BuildContext) (states : List (State BadUnit)) (next : Option ℕ) (w : World) : Type 0 where
   pub honest : IsHonestOnUnits b
   pub sound : Sound reading judge b.child (records_folder b.project) w.files
   pub ahead : IsAhead (records_in b w) next
   pub recorded : (index : ℕ) → is_good_at (slice_get states index) ≡ true → HasRecord b w index
 
--- over trusted records, these facts are true; over no records, each unit that has a record has
--- begun
+-- what the premise requires of the records: with `TrustedRecords` these facts, and with `NoRecords`
+-- that no unit has a record before it begins
 abbrev pub HoldsBy : Premise → BuildContext → List (State BadUnit) → Option ℕ → World → Type 0
 HoldsBy TrustedRecords b states next w = HoldsRecords b states next w
 HoldsBy NoRecords b states next w = (index : ℕ) (u : Planned) → unit_at b.project index ≡ Some u → slice_get states index ≡ Some Untouched → records_in b w u.key ≡ None
 
--- what is true while units are in these states: there is a note for each state; the sources are unchanged; each good
--- unit has its files, and all that it reaches is good; and the records are as the premise requires
+-- What is true while units are in these states. There is a note for each state. The sources are
+-- unchanged. Each good unit has its files, and all that it reaches is good. The records are as the
+-- premise requires.
 pub record BuildInvariant (b : BuildContext) (states : List (State BadUnit)) (done : List (Option (List Directive))) (next : Option ℕ) (w : World) : Type 0 where
   pub long : length done ≡ length states
   pub sources_stay : from_nothing b.project.workspace.target w ≡ b.sources
@@ -137,11 +141,11 @@ key_at project index = key_in (unit_at project index)
 abbrev pub needed_keys : Project → Planned → List (List ℕ)
 needed_keys project u = flat_map (key_at project) u.needs
 
--- the unit with this key has begun with this command, and waits in this way; its difference is none
+-- a unit that has begun: it has this key and this command, waits in this way, and reports no difference
 abbrev pub begun_with : List ℕ → Command → Awaited → Begun
 begun_with key c by = record { unit = key; command = c; difference = None; awaited = by }
 
--- the child that a unit waits for, if it has one
+-- the child for which a unit waits, if it has one
 abbrev pub child_in : Awaited → Option SpawnedChild
 child_in (awaited.Child launched) = Some launched
 child_in (awaited.Record again) = None
@@ -154,8 +158,8 @@ abbrev pub awaits_number : Awaited → Bool
 awaits_number (awaited.Child launched) = false
 awaits_number (awaited.Record again) = not again.numbered
 
--- the unit's child is in flight: it was spawned for this command, it saw this view, it found its folder empty, and
--- none of this has changed since
+-- The unit's child is in flight. The child was spawned for this command, saw this view, and found
+-- its output folder empty. None of this has changed since the spawn.
 pub record IsInFlight (child : Answers) (c : Command) (view : World) (ticket : ℕ) (flying : List ChildInFlight) (still : ℕ → Type 0) : Type 0 where
   pub spawned : World
   pub flies : child_at ticket flying ≡ Some (child_spawned (child c) c spawned ticket)
@@ -163,8 +167,9 @@ pub record IsInFlight (child : Answers) (c : Command) (view : World) (ticket : �
   pub emptied : inside_out c.out spawned.files ≡ finite.empty
   pub stands : still ticket
 
--- a record of the unit may be kept with this number: it has no record now, no record names the number, the number is
--- below the next one, and the units that it needs have their records
+-- A record of the unit may be kept with this number. No record counts for the unit now, and no
+-- record has or names the number. The number is below the next one. The units that it needs have
+-- their records.
 pub record AwaitsRecord (b : BuildContext) (u : Planned) (number : ℕ) (next : Option ℕ) (w : World) : Type 0 where
   pub gone : records_in b w u.key ≡ None
   pub unnamed : NoneNames (records_in b w) number
@@ -175,52 +180,53 @@ abbrev pub AwaitsBy : Premise → BuildContext → Planned → ℕ → Option �
 AwaitsBy TrustedRecords b u number next w = AwaitsRecord b u number next w
 AwaitsBy NoRecords b u number next w = Unit {0}
 
--- nothing differs from the unit's record
+-- nothing differs from the unit's record; without trusted records this is never so
 abbrev pub IsUnchanged : Premise → BuildContext → Planned → Command → World → Type 0
 IsUnchanged TrustedRecords b u c w = (r : Record) × IsSame reading (records_folder b.project) u.key c w r
 IsUnchanged NoRecords b u c w = ⊥
 
--- either the unit has a child in flight, or nothing differs from its record and the unit carries
--- what this record replays
+-- Either the unit has a child in flight. Or nothing differs from its record, and it has what this
+-- record replays.
 abbrev pub WaitsBy : BuildContext → Planned → Command → World → Awaited → Option ℕ → World → List ChildInFlight → (ℕ → Type 0) → Type 0
 WaitsBy b u c view (awaited.Child launched) next w flying still = IsInFlight b.child c view launched.ticket flying still × AwaitsBy b.premise b u launched.number next w
 WaitsBy b u c view (awaited.Record again) next w flying still = IsUnchanged b.premise b u c w × IsReplayed (records_in b w u.key) again
 
--- the unit at an index has begun in this way
+-- the unit at this index has begun in this way
 pub record IsBegun (b : BuildContext) (index : ℕ) (begun : Begun) (next : Option ℕ) (w : World) (flying : List ChildInFlight) (still : ℕ → Type 0) : Type 0 where
   pub unit : Planned
   pub there : unit_at b.project index ≡ Some unit
   pub command : begun.command ≡ command_in b index unit
   pub waits : WaitsBy b unit begun.command (view_in b index unit) begun.awaited next w flying still
 
--- if a unit that has begun has a child, the child writes into this folder
+-- if the unit has a child, this child writes into this folder
 abbrev pub WritesTo : List ℕ → Option SpawnedChild → List ChildInFlight → Type 0
 WritesTo out None flying = Unit {0}
 WritesTo out (Some launched) flying = IfSome (child_at launched.ticket flying) (λ spawned. spawned.command.out ≡ Some out)
 
--- if another child stood still before, it stands still after, unless a change of these paths can
--- touch what that child sees
+-- Each child other than this one that stood still before stands still afterwards. This holds if
+-- changes at these paths cannot touch what that child sees.
 abbrev pub KeepsOthersStill : Option SpawnedChild → (List ℕ → Bool) → List ChildInFlight → (ℕ → Type 0) → (ℕ → Type 0) → Type 0
 KeepsOthersStill launched inside flying before after =
     (ticket : ℕ) → IfSome launched (λ its. ticket ≢ its.ticket) → ((v w : World) → ChangesOnly inside v w → StandsStill ticket flying v w) → before ticket → after ticket
 
--- What each step starts from.
+-- From which states a step may start.
 
--- the unit at an index can begin: it has not begun, and all that it reaches has answered and is good
+-- The unit at an index can begin: the unit has not begun, and all units that it reaches have
+-- answered and are good.
 pub record CanBegin (b : BuildContext) (states : List (State BadUnit)) (done : List (Option (List Directive))) (index : ℕ) (u : Planned) (next : Option ℕ) (w : World) : Type 0 where
   pub keeps : BuildInvariant b states done next w
   pub untouched : slice_get states index ≡ Some Untouched
   pub reaches : are_good states u.reaches ≡ true
 
--- the unit at an index can answer: it has begun in this way
+-- The unit at an index can answer: the unit has begun in this way, and all units that it reaches are good.
 pub record CanAnswer (b : BuildContext) (states : List (State BadUnit)) (done : List (Option (List Directive))) (index : ℕ) (u : Planned) (begun : Begun) (next : Option ℕ) (w : World) (flying : List ChildInFlight) (still : ℕ → Type 0) : Type 0 where
   pub keeps : BuildInvariant b states done next w
   pub state : slice_get states index ≡ Some begun_state
   pub reaches : are_good states u.reaches ≡ true
   pub begun_so : IsBegun b index begun next w flying still
 
--- another unit has begun, and all that it reaches is good; if both units have a child, their tickets and run numbers
--- differ
+-- Another unit has begun, and all units that it reaches are good. If both units have a child, their
+-- tickets differ, and so do their run numbers.
 pub record BeginsApart (b : BuildContext) (states : List (State BadUnit)) (index : ℕ) (launched : Option SpawnedChild) (other : ℕ) (its : Begun) (next : Option ℕ) (w : World) (flying : List ChildInFlight) (still : ℕ → Type 0) : Type 0 where
   pub another : other ≢ index
   pub unit : Planned

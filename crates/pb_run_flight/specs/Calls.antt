@@ -1,22 +1,22 @@
--- What all calls of a flight hand out together.
+-- What the calls of a flight hand out, taken together.
 use Rattle.std.specs.Prelude.{ℕ, List, [], ◌∷◌, ◌++◌}
 use Rattle.pb_run_flight.specs.Table.{Table, fresh, begun, answered, emitted, due_after}
 use Rattle.pb_run_flight.specs.Events.{Event, Began, Gave}
 
--- an event is noted, or the lines that are due are handed out
+-- a call notes an event, or hands out the lines that are due
 pub data Call (F : Type 0) : Type 0 where
   Noted : (event : Event F) → Call F
   Emitted : Call F
 
--- The newest call comes first in a list of calls.
+-- In a list of calls, the newest call is the first.
 
--- the events among these calls
+-- the events that these calls have noted
 abbrev pub events_of : {F : Type 0} → List (Call F) → List (Event F)
 events_of [] = []
 events_of (Noted e ∷ cs) = e ∷ events_of cs
 events_of (Emitted ∷ cs) = events_of cs
 
--- the table after an event is noted
+-- the table after this event is noted
 abbrev pub noted : {F : Type 0} → Event F → Table F → Table F
 noted (Began u spawned) t = begun u t
 noted (Gave u answer) t = answered u answer t
@@ -27,11 +27,11 @@ table_after needs [] = fresh needs
 table_after needs (Noted e ∷ cs) = noted e (table_after needs cs)
 table_after needs (Emitted ∷ cs) = emitted (table_after needs cs)
 
--- the lines that one more call hands out
+-- the lines that a further call hands out
 abbrev pub handed_by : {F : Type 0} → Table F → List ℕ
 handed_by t = due_after t.given t.states
 
--- all lines that were handed out, in order
+-- all lines that these calls have handed out, in order
 abbrev pub handed_out : {F : Type 0} → List (List ℕ) → List (Call F) → List ℕ
 handed_out needs [] = []
 handed_out needs (Noted e ∷ cs) = handed_out needs cs

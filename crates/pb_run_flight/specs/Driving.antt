@@ -1,12 +1,12 @@
--- A flight that a turn drives.
+-- A flight whose steps a turn decides.
 use Rattle.std.specs.Prelude.{◌≡◌, ℕ, List}
 use Rattle.pb_run_flight.specs.declared.turn.Step.{Step}
 use Rattle.pb_run_flight.specs.Table.{Table, count_due}
 use Rattle.pb_run_flight.specs.Events.{Event, Anything, states_after, flying_after}
 use Rattle.pb_run_flight.specs.Steps.{Flies, Anyhow}
 
--- the steps of a turn, each from the state that the last one left, produced these events; the table
--- and the units in flight are those after the events; all lines that are due have been handed out
+-- The turn has decided the steps that produced these events. The table and the units in flight are
+-- those after the events. All lines that are due have been handed out.
 pub record IsFlown {F S : Type 0} (Turns : S → List ℕ → List ℕ → Step → S → Type 0) (needs : List (List ℕ)) (from : S) (es : List (Event F)) (now : S) (table : Table F) (flying : List ℕ) : Type 0 where
   pub flies : Flies Turns needs Anyhow Anything from es now
   pub needs_are : table.needs ≡ needs

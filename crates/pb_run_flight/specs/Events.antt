@@ -1,16 +1,16 @@
--- The events of a flight, and which of them are lawful.
+-- The events of a flight, and which lists of events are lawful.
 use Rattle.std.specs.Prelude.{◌≡◌, ◌<◌, ◌+◌, ℕ, max, Bool, true, false, ◌==◌, if◌then◌else◌, List, [], ◌∷◌, ◌++◌, map, length, Some, Contains, slice_get, slice_set}
 use Rattle.pb_run_flight.specs.declared.flight.Answer.{Answer}
 use Rattle.pb_run_flight.specs.declared.flight.State.{State}
 use Rattle.pb_run_flight.specs.declared.flight.State.TheVariants.{Untouched, Begun, Answered}
 use Rattle.pb_run_flight.specs.Table.{is_bad, is_good_at, if_so}
 
--- a unit begins, with or without a child spawned for it; or a unit answers
+-- an event is that a unit begins, with or without a child that was spawned for it, or that a unit answers
 pub data Event (F : Type 0) : Type 0 where
   Began : (unit : ℕ) (spawned : Bool) → Event F
   Gave : (unit : ℕ) (answer : Answer F) → Event F
 
--- The newest event comes first in a list of events.
+-- In a list of events, the newest event is the first.
 
 -- the state of each unit after these events
 abbrev pub states_after : {F : Type 0} → List (List ℕ) → List (Event F) → List (State F)
@@ -18,43 +18,43 @@ states_after needs [] = map (λ _. Untouched) needs
 states_after needs (Began u spawned ∷ es) = slice_set (states_after needs es) u Begun
 states_after needs (Gave u answer ∷ es) = slice_set (states_after needs es) u (Answered answer)
 
--- the units that have begun, in this order
+-- the units that have begun, in the order in which they began
 abbrev pub begun_by : {F : Type 0} → List (Event F) → List ℕ
 begun_by [] = []
 begun_by (Began u spawned ∷ es) = begun_by es ++ u ∷ []
 begun_by (Gave u answer ∷ es) = begun_by es
 
--- the units that have begun with a child
+-- the units that have begun with a child, in the order in which they began
 abbrev pub started_by : {F : Type 0} → List (Event F) → List ℕ
 started_by [] = []
 started_by (Began u spawned ∷ es) = started_by es ++ if_so spawned u
 started_by (Gave u answer ∷ es) = started_by es
 
--- the list without the first element that is this one
+-- the list without the first occurrence of `u`
 abbrev pub without : ℕ → List ℕ → List ℕ
 without u [] = []
 without u (v ∷ vs) = if v == u then vs else (v ∷ without u vs)
 
--- the units in flight: those that have begun and not answered, in order of beginning
+-- the units in flight, in the order in which they began; they have begun and not answered
 abbrev pub flying_after : {F : Type 0} → List (Event F) → List ℕ
 flying_after [] = []
 flying_after (Began u spawned ∷ es) = flying_after es ++ u ∷ []
 flying_after (Gave u answer ∷ es) = without u (flying_after es)
 
--- the units in flight that have a child
+-- the units in flight that have a child, in the order in which they began
 abbrev pub launched_after : {F : Type 0} → List (Event F) → List ℕ
 launched_after [] = []
 launched_after (Began u spawned ∷ es) = launched_after es ++ if_so spawned u
 launched_after (Gave u answer ∷ es) = without u (launched_after es)
 
--- the greatest number of children that were in flight at any point
+-- the greatest number of children that were in flight at any time
 abbrev pub peak : {F : Type 0} → List (Event F) → ℕ
 peak [] = 0
 peak (Began u spawned ∷ es) = if spawned then max (peak es) (length (launched_after es) + 1) else peak es
 peak (Gave u answer ∷ es) = peak es
 
--- a unit may begin if it has not begun, each need has answered and
--- is good, and no unit earlier in plan order has answered and is bad
+-- A unit may begin if it has not begun, and each unit that it needs has answered and is good. No
+-- unit before it in plan order may be bad.
 pub record MayBegin {F : Type 0} (needs : List (List ℕ)) (states : List (State F)) (u : ℕ) : Type 0 where
   pub wanted : List ℕ
   pub unit : slice_get needs u ≡ Some wanted
@@ -62,14 +62,14 @@ pub record MayBegin {F : Type 0} (needs : List (List ℕ)) (states : List (State
   pub good : (v : ℕ) → Contains wanted v → is_good_at (slice_get states v) ≡ true
   pub first : (v : ℕ) (s : State F) → v < u → slice_get states v ≡ Some s → is_bad s ≡ false
 
--- events are lawful if a unit begins only when it may, and answers
--- only after it has begun, once, with an answer that it can give
+-- Events are lawful if each unit begins only when it may, and answers once after it has begun. The
+-- answer must be one that `Gives` allows.
 pub data Lawful {F : Type 0} (needs : List (List ℕ)) (Gives : ℕ → Answer F → Type 0) : List (Event F) → Type 0 where
   nothing : Lawful needs Gives []
   begin : (es : List (Event F)) (u : ℕ) (spawned : Bool) (before : Lawful needs Gives es) (may : MayBegin needs (states_after needs es) u) → Lawful needs Gives (Began u spawned ∷ es)
   answer : (es : List (Event F)) (u : ℕ) (given : Answer F) (before : Lawful needs Gives es) (flying : slice_get (states_after needs es) u ≡ Some Begun) (gives : Gives u given) → Lawful needs Gives (Gave u given ∷ es)
 
--- a unit reaches another over one or more needs
+-- one or more needs lead from one unit to another
 pub data Reaches (needs : List (List ℕ)) : ℕ → ℕ → Type 0 where
   direct : (u v : ℕ) (wanted : List ℕ) (unit : slice_get needs u ≡ Some wanted) (need : Contains wanted v) → Reaches needs u v
   onward : (u v w : ℕ) (wanted : List ℕ) (unit : slice_get needs u ≡ Some wanted) (need : Contains wanted v) (more : Reaches needs v w) → Reaches needs u w

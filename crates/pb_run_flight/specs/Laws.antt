@@ -1,4 +1,4 @@
--- Laws of flights.
+-- Laws about flights.
 use Rattle.std.specs.Prelude.{◌≡◌, ◌≢◌, ◌<◌, ◌≤◌, ◌+◌, ◌⊎◌, ◌↔◌, ℕ, max, Bool, true, false, List, [], ◌∷◌, ◌++◌, length, Some, Contains, AllPairs, slice_get}
 use Rattle.std.specs.List.Sorted.{IsStrictlyIncreasing}
 use Rattle.pb_run_flight.specs.declared.flight.Answer.{Answer}
@@ -13,37 +13,37 @@ use Rattle.pb_run_flight.specs.Steps.{Flies, SpawnsAs, Anyhow, TurnsOfJobs}
 
 -- Which units are ready.
 
--- the units that are ready are exactly those that may begin, in plan order, each once
+-- the ready units are exactly those that may begin, in plan order, each once
 abbrev pub ReadyIsExact : (F : Type 0) → Type 0
 ReadyIsExact F = (needs : List (List ℕ)) (states : List (State F)) → IsStrictlyIncreasing (ready_of needs states) × ((u : ℕ) → Contains (ready_of needs states) u ↔ MayBegin needs states u)
 
--- a unit has begun, and may have answered
+-- the unit has begun, and may have answered
 abbrev pub HasBegun : {F : Type 0} → List (State F) → ℕ → Type 0
 HasBegun {F} states u = (s : State F) × (slice_get states u ≡ Some s) × (is_untouched s ≡ false)
 
--- after lawful events, a unit that may begin or has begun reaches
--- only units that have answered and are good, so none in flight
+-- After lawful events, all units that a unit reaches have answered and are good, if it has begun or
+-- may begin. So none of them is in flight.
 abbrev pub ReachedIsGood : (F : Type 0) → Type 0
 ReachedIsGood F = (needs : List (List ℕ)) (es : List (Event F)) → IsLawful needs es → (u v : ℕ) → MayBegin needs (states_after needs es) u ⊎ HasBegun (states_after needs es) u → Reaches needs u v → is_good_at (slice_get (states_after needs es) v) ≡ true
 
 -- Which lines are handed out.
 
--- after each call that hands out, all lines handed out are those of the units that
--- have answered, from the start of plan order, up to and including the first bad one
+-- After a call that hands out lines, all lines handed out are those that are due. These are the
+-- lines of the units from the start of plan order that have answered, up to and including the first
+-- bad unit.
 abbrev pub HandsOutAllDue : (F : Type 0) → Type 0
 HandsOutAllDue F = (needs : List (List ℕ)) (cs : List (Call F)) → IsLawful needs (events_of cs) → handed_out needs (Emitted ∷ cs) ≡ due (states_after needs (events_of cs))
 
--- each unit that has answered has this answer at the end
+-- each unit that has answered has the same answer at the end
 abbrev pub EndsAs : {F : Type 0} → List (State F) → List (State F) → Type 0
 EndsAs {F} states end = (u : ℕ) (answer : Answer F) → slice_get states u ≡ Some (Answered answer) → slice_get end u ≡ Some (Answered answer)
 
--- the lines that are due now are those of the units that are due now, and the first of the lines
--- that are due at the end
+-- The lines due now are those of the units due now. These lines are a first part of the lines due at the end.
 abbrev pub DueIsStart : (F : Type 0) → Type 0
 DueIsStart F = (states end : List (State F)) → EndsAs states end → (due states ≡ due_first (count_due states) end) × ((rest : List ℕ) × (due end ≡ due states ++ rest))
 
--- once all units up to and including the first bad one have answered, no further lines will be due
--- at the end, and the first bad unit will still be the first at the end
+-- Once all units up to and including the first bad one have answered, the lines due now are all
+-- lines due at the end. The first bad unit now is also the first at the end.
 abbrev pub FinishedIsAll : (F : Type 0) → Type 0
 FinishedIsAll F = (states end : List (State F)) → length states ≡ length end → is_finished states ≡ true → EndsAs states end → (due states ≡ due end) × (first_bad states ≡ first_bad end)
 
@@ -53,30 +53,31 @@ FinishedIsAll F = (states end : List (State F)) → length states ≡ length end
 abbrev pub FlyingIsBegun : (F : Type 0) → Type 0
 FlyingIsBegun F = (needs : List (List ℕ)) (es : List (Event F)) → IsLawful needs es → AllPairs (λ u v. u ≢ v) (flying_after es) × ((u : ℕ) → Contains (flying_after es) u ↔ (slice_get (states_after needs es) u ≡ Some Begun))
 
--- each need comes earlier in plan order
+-- whatever a unit needs comes before it in plan order
 abbrev pub IsInPlanOrder : List (List ℕ) → Type 0
 IsInPlanOrder needs = (u v : ℕ) (wanted : List ℕ) → slice_get needs u ≡ Some wanted → Contains wanted v → v < u
 
--- if units are missing after lawful events, one may begin or one is in flight
+-- if lawful events have not finished a flight, some unit may begin or is in flight
 abbrev pub SomethingIsLeft : (F : Type 0) → Type 0
 SomethingIsLeft F = (needs : List (List ℕ)) (es : List (Event F)) → IsInPlanOrder needs → IsLawful needs es → is_finished (states_after needs es) ≡ false → 0 < length (ready_of needs (states_after needs es)) + length (flying_after es)
 
--- Steps.
+-- Laws about the steps of a turn.
 
--- the events of steps are lawful, whoever decides the steps
+-- the events of steps are lawful, whatever decides the steps
 abbrev pub StepsAreLawful : {S : Type 0} → (F : Type 0) → (S → List ℕ → List ℕ → Step → S → Type 0) → Type 0
 StepsAreLawful {S} F Turns = (needs : List (List ℕ)) (from now : S) (es : List (Event F)) → Flies Turns needs Anyhow Anything from es now → IsLawful needs es
 
--- if a child is spawned for what differs, the units that were started are exactly those that have begun and differ
+-- If a unit has a child if and only if it differs, the started units are exactly those that have
+-- begun and differ.
 abbrev pub StartedDiffers : {S : Type 0} → (F : Type 0) → (S → List ℕ → List ℕ → Step → S → Type 0) → Type 0
 StartedDiffers {S} F Turns = (needs : List (List ℕ)) (different : List ℕ) (from now : S) (es : List (Event F)) → Flies Turns needs (SpawnsAs (Contains different)) Anything from es now
     → (u : ℕ) → Contains (started_by es) u ↔ (Contains (begun_by es) u × Contains different u)
 
--- at no point are more units in flight than there are jobs
+-- at no time are more units in flight than there are jobs
 abbrev pub JobsBoundFlying : {S : Type 0} → (F : Type 0) → (S → List ℕ → ℕ → S → Type 0) → Type 0
 JobsBoundFlying {S} F Picks = (needs : List (List ℕ)) (from now : Jobs S) (es : List (Event F)) → Flies (TurnsOfJobs Picks) needs Anyhow Anything from es now → length (flying_after es) ≤ max from.jobs 1
 
--- each unit answers right after it has begun; the last one may still be in flight
+-- Each unit answers before the next one begins. The last one may still be in flight.
 pub data OneByOne {F : Type 0} : List (Event F) → Type 0 where
   nothing : OneByOne []
   begin : (es : List (Event F)) (u : ℕ) (spawned : Bool) (before : OneByOne es) (none : flying_after es ≡ []) → OneByOne (Began u spawned ∷ es)

@@ -1,4 +1,4 @@
--- What happens next, and who decides it.
+-- Which step comes next, and what decides it.
 use Rattle.std.specs.Prelude.{◌≡◌, ◌<◌, ◌≤◌, ◌+◌, ◌⊎◌, ℕ, max, Bool, true, false, List, [], ◌∷◌, length, Option, Some, None, slice_get}
 use Rattle.std.specs.Borrow.{MutBor}
 use Rattle.pb_run_flight.specs.declared.flight.Answer.{Answer}
@@ -8,14 +8,14 @@ use Rattle.pb_run_flight.specs.declared.turn.Jobs.{Jobs}
 use Rattle.pb_run_flight.specs.Table.{ready_of, is_finished}
 use Rattle.pb_run_flight.specs.Events.{Event, Began, Gave, states_after, flying_after}
 
--- a step names an item of its list
+-- a step names the index of an item in its list
 abbrev pub IsWithin : ℕ → ℕ → Step → Type 0
 IsWithin ready flying (step.Begin i) = i < ready
 IsWithin ready flying (step.Answer i) = i < flying
 
--- a turn produced these events, step by step, each step from the state that the last one left: as
--- long as units were missing, it chose among those that may begin and those in flight; `Spawns`
--- decides whether a unit has a child, and `Gives` which answer a unit may give
+-- A turn has decided the steps that produced these events. Each step started from the state after
+-- the last one. Each chose a unit that might begin or was in flight, while units were missing.
+-- `Spawns` says if a unit has a child, and `Gives` which answer it may give.
 pub data Flies {F S : Type 0} (Turns : S → List ℕ → List ℕ → Step → S → Type 0) (needs : List (List ℕ)) (Spawns : ℕ → Bool → Type 0) (Gives : ℕ → Answer F → Type 0) (from : S) : List (Event F) → S → Type 0 where
   nothing : Flies Turns needs Spawns Gives from [] from
   begin : (es : List (Event F)) (now next : S) (i u : ℕ) (spawned : Bool) (before : Flies Turns needs Spawns Gives from es now) (missing : is_finished (states_after needs es) ≡ false)
@@ -25,9 +25,9 @@ pub data Flies {F S : Type 0} (Turns : S → List ℕ → List ℕ → Step → 
       (turned : Turns now (ready_of needs (states_after needs es)) (flying_after es) (step.Answer i) next) (unit : slice_get (flying_after es) i ≡ Some u) (gives : Gives u given)
       → Flies Turns needs Spawns Gives from (Gave u given ∷ es) next
 
--- the state that is returned after these events: the state after the last event. If a fault then
--- ended the answer of this unit while units were missing, it is the state after the step that chose
--- this unit.
+-- The state that is returned after these events is the state after the last event. But if a fault
+-- ended the answer of a unit while units were missing, the state is that after the step which chose
+-- the unit.
 abbrev pub HandsBack : {F S : Type 0} → (S → List ℕ → List ℕ → Step → S → Type 0) → List (List ℕ) → List (Event F) → S → Option ℕ → S → Type 0
 HandsBack Turns needs es last None back = back ≡ last
 HandsBack Turns needs es last (Some u) back = (i : ℕ) × (is_finished (states_after needs es) ≡ false) × (slice_get (flying_after es) i ≡ Some u) × Turns last (ready_of needs (states_after needs es)) (flying_after es) (step.Answer i) back
@@ -36,29 +36,30 @@ HandsBack Turns needs es last (Some u) back = (i : ℕ) × (is_finished (states_
 abbrev pub Anyhow : ℕ → Bool → Type 0
 Anyhow u spawned = Unit {0}
 
--- a unit has a child if something differs, and none if nothing does
+-- a unit has a child if and only if it differs
 abbrev pub SpawnsAs : (ℕ → Type 0) → ℕ → Bool → Type 0
 SpawnsAs Differs u true = Differs u
 SpawnsAs Differs u false = Differs u → ⊥
 
--- the first unit that may begin is picked
+-- the first of the units that may begin is picked
 abbrev pub PicksFirst : List ℕ → ℕ → Type 0
 PicksFirst ready place = place ≡ 0
 
--- the last unit that may begin is picked
+-- the last of the units that may begin is picked
 abbrev pub PicksLast : List ℕ → ℕ → Type 0
 PicksLast ready place = place + 1 ≡ length ready
 
--- a borrowed pick chooses as the pick itself does, and stays the same borrow
+-- a borrowed pick picks what the pick itself would pick, and stays the same borrow
 abbrev pub PicksLent : {S : Type 0} → (S → List ℕ → ℕ → S → Type 0) → MutBor S → List ℕ → ℕ → MutBor S → Type 0
 PicksLent Picks old ready place new = Picks old.now ready place new.now × (new.ghost_name ≡ old.ghost_name)
 
--- if a unit may begin and fewer units than the jobs are in flight, the picked one begins; else the
--- one that began first answers; zero jobs count as one, and the number of jobs does not change
+-- If some unit may begin, and fewer units are in flight than there are jobs, the picked unit
+-- begins. Otherwise the unit in flight that began first answers. Zero jobs count as one, and the
+-- number of jobs does not change.
 abbrev pub JobsTurn : {S : Type 0} → (S → List ℕ → ℕ → S → Type 0) → ℕ → S → ℕ → List ℕ → List ℕ → Step → S → Type 0
 JobsTurn Picks jobs old after ready flying (step.Begin i) new = (after ≡ jobs) × (0 < length ready) × (length flying < max jobs 1) × Picks old ready i new
 JobsTurn Picks jobs old after ready flying (step.Answer i) new = (after ≡ jobs) × (i ≡ 0) × (new ≡ old) × ((length ready ≡ 0) ⊎ (max jobs 1 ≤ length flying))
 
--- the turn of a number of jobs and a pick, as they were and as they are
+-- the turn that a number of jobs and a pick make, from the old jobs to the new jobs
 abbrev pub TurnsOfJobs : {S : Type 0} → (S → List ℕ → ℕ → S → Type 0) → Jobs S → List ℕ → List ℕ → Step → Jobs S → Type 0
 TurnsOfJobs Picks old ready flying step new = JobsTurn Picks old.jobs old.pick new.jobs ready flying step new.pick

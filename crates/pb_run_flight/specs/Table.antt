@@ -1,4 +1,5 @@
--- The flight table, as contracts see it: what each unit needs, the state of each, and how many have been handed out.
+-- The table of a flight as contracts see it. The table has the needs and the state of each unit,
+-- and the number of units whose lines have been handed out.
 use Rattle.std.specs.Prelude.{ℕ, zero, suc, Bool, true, false, ◌&&◌, if◌then◌else◌, List, [], ◌∷◌, ◌++◌, map, Option, Some, None, is_some, is_none, slice_get, slice_set}
 use Rattle.std.specs.List.{list_all}
 use Rattle.pb_run_flight.specs.declared.flight.State.{State}
@@ -7,14 +8,14 @@ use Rattle.pb_run_flight.specs.declared.flight.Answer.{Answer}
 
 -- A unit is known by its index in plan order.
 
--- what each unit needs, the state of each, and of how many units
--- the lines have been handed out, from the start of plan order
+-- The table has what each unit needs and the state of each unit. `given` is the number of units
+-- whose lines have been handed out, from the start of plan order.
 pub record Table (F : Type 0) : Type 0 where
   pub needs : List (List ℕ)
   pub states : List (State F)
   pub given : ℕ
 
--- The state of a unit.
+-- The states of units.
 
 abbrev pub is_untouched : {F : Type 0} → State F → Bool
 is_untouched Untouched = true
@@ -43,15 +44,15 @@ is_good_at (Some s) = is_good s
 abbrev pub are_good : {F : Type 0} → List (State F) → List ℕ → Bool
 are_good states units = list_all (λ u. is_good_at (slice_get states u)) units
 
--- the unit has not begun, and all that it needs has answered and is good
+-- the unit has not begun, and all units that it needs have answered and are good
 abbrev pub is_open : {F : Type 0} → List (State F) → State F → List ℕ → Bool
 is_open states s needs = is_untouched s && are_good states needs
 
--- this unit, if the condition is true
+-- a list with the unit, if the condition is true, or else the empty list
 abbrev pub if_so : Bool → ℕ → List ℕ
 if_so so u = if so then u ∷ [] else []
 
--- the units from the i-th on that may begin: the open ones, up to the first bad one
+-- the units from the i-th on that are open, if no bad unit comes before them; these may begin
 abbrev pub ready_from : {F : Type 0} → List (State F) → ℕ → List (List ℕ) → List (State F) → List ℕ
 ready_from states i needs [] = []
 ready_from states i [] (s ∷ ss) = []
@@ -63,23 +64,24 @@ ready_of needs states = ready_from states 0 needs states
 
 -- Which lines are due.
 
--- the lines of the units that have answered, from the start of plan order, up to and including the first bad one
+-- the lines of the units that have answered, from the start of plan order, up to and including the
+-- first bad unit
 abbrev pub due : {F : Type 0} → List (State F) → List ℕ
 due (Answered answer ∷ ss) = answer.lines ++ (if is_none answer.fault then due ss else [])
 due _ = []
 
--- the number of these units
+-- the number of units whose lines are due
 abbrev pub count_due : {F : Type 0} → List (State F) → ℕ
 count_due (Answered answer ∷ ss) = suc (if is_none answer.fault then count_due ss else 0)
 count_due _ = 0
 
--- the lines of these units after the first n
+-- the lines that are due, without those of the first n units
 abbrev pub due_after : {F : Type 0} → ℕ → List (State F) → List ℕ
 due_after zero (Answered answer ∷ ss) = answer.lines ++ (if is_none answer.fault then due_after zero ss else [])
 due_after (suc n) (Answered answer ∷ ss) = if is_none answer.fault then due_after n ss else []
 due_after n _ = []
 
--- the lines of the first n of these units
+-- the lines of the first n units, as far as they are due
 abbrev pub due_first : {F : Type 0} → ℕ → List (State F) → List ℕ
 due_first zero ss = []
 due_first (suc n) [] = []
@@ -87,7 +89,8 @@ due_first (suc n) (Untouched ∷ ss) = []
 due_first (suc n) (Begun ∷ ss) = []
 due_first (suc n) (Answered answer ∷ ss) = answer.lines ++ (if is_none answer.fault then due_first n ss else [])
 
--- the first bad one of these units
+-- The index of the first bad unit, if all units before it have answered. `first_bad` counts from
+-- the start of plan order.
 abbrev pub first_bad_from : {F : Type 0} → ℕ → List (State F) → Option ℕ
 first_bad_from i (Answered answer ∷ ss) = if is_none answer.fault then first_bad_from (suc i) ss else Some i
 first_bad_from i _ = None
@@ -95,7 +98,7 @@ first_bad_from i _ = None
 abbrev pub first_bad : {F : Type 0} → List (State F) → Option ℕ
 first_bad states = first_bad_from 0 states
 
--- all units have answered, or all up to and including the first bad one
+-- all units have answered, or all up to and including the first bad unit have
 abbrev pub is_finished : {F : Type 0} → List (State F) → Bool
 is_finished [] = true
 is_finished (Untouched ∷ ss) = false
@@ -114,6 +117,6 @@ begun u t = record t { states = slice_set t.states u Begun }
 abbrev pub answered : {F : Type 0} → ℕ → Answer F → Table F → Table F
 answered u answer t = record t { states = slice_set t.states u (Answered answer) }
 
--- the table after all that is due has been handed out
+-- the table after all lines that are due were handed out
 abbrev pub emitted : {F : Type 0} → Table F → Table F
 emitted t = record t { given = count_due t.states }

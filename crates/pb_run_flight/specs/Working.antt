@@ -1,34 +1,36 @@
--- What the table stores besides its states, so that no call has to go through all needs again. Only
+-- What the table stores besides the states, so that no call has to go through all needs again. Only
 -- private functions need these definitions.
 use Rattle.std.specs.Prelude.{◌≡◌, ℕ, zero, suc, ◌<◌, ◌≤◌, ◌+◌, ◌⊎◌, Bool, false, if◌then◌else◌, List, [], ◌∷◌, map, length, Contains, slice_index, slice_index_or, slice_get, Option, Some, None}
 use Rattle.pb_run_flight.specs.declared.flight.State.{State}
 use Rattle.pb_run_flight.specs.declared.flight.State.TheVariants.{Untouched, Begun, Answered}
 use Rattle.pb_run_flight.specs.Table.{is_bad, is_good_at, is_open, count_due}
 
--- how many of these units have answered and are good, from the first on, up to the first that is not
+-- The number of units at the start of the list that have answered and are good. The count ends at
+-- the first unit of which this is not so.
 abbrev pub count_met : {F : Type 0} → List (State F) → List ℕ → ℕ
 count_met states [] = 0
 count_met states (u ∷ us) = if is_good_at (slice_get states u) then suc (count_met states us) else 0
 
--- the units at an index
+-- the list of units at an index
 abbrev pub units_at : List (List ℕ) → ℕ → List ℕ
 units_at lists u = slice_index_or lists u []
 
--- each need of the first `upto` units is listed the other way round
+-- for each need of the first `upto` units, the needed unit's list in `needed_by` contains the unit
 pub record AreListed (needs : List (List ℕ)) (upto : ℕ) (needed_by : List (List ℕ)) : Type 0 where
   pub each : (u v : ℕ) → u < upto → Contains (units_at needs u) v → v < length needed_by → Contains (units_at needed_by v) u
 
--- each unit from this index on has needs that are not met
+-- each unit from the index `reach` on has needs that are not met yet
 pub record IsFar (needs : List (List ℕ)) (met : List ℕ) (reach : ℕ) : Type 0 where
   pub each : (u : ℕ) → reach ≤ u → u < length needs → slice_index met u < length (units_at needs u)
 
--- each count is right, or is too small and its unit is one of these
+-- For each unit, the count of its met needs is right, or it is too small and the unit is in `units`.
 pub record AreKnown {F : Type 0} (needs : List (List ℕ)) (states : List (State F)) (units : List ℕ) (met : List ℕ) : Type 0 where
   pub each : (u : ℕ) → u < length needs → slice_index met u ≤ count_met states (units_at needs u)
   pub right : (u : ℕ) → u < length needs → (slice_index met u ≡ count_met states (units_at needs u)) ⊎ Contains units u
 
--- what the table keeps: the needs the other way round; how many needs of each unit are met; an
--- index from which no unit has all its needs met; and no more has been handed out than is due
+-- What the table stores. `needed_by` has the needs the other way round. `met` has the number of met
+-- needs of each unit. From `reach` on, no unit has all its needs met. No more has been handed out
+-- than is due.
 pub record IsKept {F : Type 0} (needs needed_by : List (List ℕ)) (met : List ℕ) (reach : ℕ) (states : List (State F)) (given : ℕ) : Type 0 where
   pub states_long : length states ≡ length needs
   pub lists_long : length needed_by ≡ length needs
@@ -46,7 +48,8 @@ abbrev pub ends_badly : {F : Type 0} → ℕ → List (State F) → Bool
 ends_badly zero states = false
 ends_badly (suc n) states = is_bad_at (slice_get states n)
 
--- a unit that has not begun needs nothing more; `None` if it has answered and is bad, or does not exist
+-- Says that a unit has not begun and all its needs are met. The value is `None` if the unit has
+-- answered and is bad, or does not exist.
 abbrev pub opening_by : {F : Type 0} → List (State F) → Option (List ℕ) → Option (State F) → Option Bool
 opening_by states None s = None
 opening_by states (Some wanted) None = None
@@ -55,7 +58,8 @@ opening_by states (Some wanted) (Some s) = if is_bad s then None else Some (is_o
 abbrev pub opening : {F : Type 0} → List (List ℕ) → List (State F) → ℕ → Option Bool
 opening needs states u = opening_by states (slice_get needs u) (slice_get states u)
 
--- the steps that are still to be done: two for a unit that has not begun, one for one that has
+-- The number of steps that a unit still has to make: two if it has not begun, and one if it has
+-- begun. `weight_of` is the sum for all units.
 abbrev pub weight : {F : Type 0} → State F → ℕ
 weight Untouched = 2
 weight Begun = 1

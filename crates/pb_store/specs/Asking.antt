@@ -1,4 +1,4 @@
--- What two commands differ in: their parts in order, and their variables by name.
+-- In what a command differs from the recorded one: in one of its parts, which have an order, or in a variable.
 use Rattle.std.specs.Prelude.{◌≡◌, ◌++◌, ◌∷◌, ◌&&◌, if◌then◌else◌, true, ℕ, List, [], Option, Some, None}
 use Rattle.std.specs.Str.{bytes_eq}
 use Rattle.std.specs.Ordering.{nat_cmp, is_lt}
@@ -15,7 +15,7 @@ use Rattle.pb_store.specs.declared.difference.CommandPart.TheVariants.{Program, 
 abbrev pub parts : List CommandPart
 parts = Program ∷ Words ∷ Folder ∷ Out ∷ Target ∷ Toolchain ∷ Reads ∷ []
 
--- this part of a command is equal to the recorded one
+-- this part of the command is equal to the recorded part
 abbrev pub SamePart : RecordedCommand → Command → CommandPart → Type 0
 SamePart a c Program = a.program ≡ c.program
 SamePart a c Words = a.words ≡ c.words
@@ -29,16 +29,16 @@ SamePart a c Reads = a.reads ≡ c.reads
 abbrev pub lesser : List ℕ → List ℕ → List ℕ
 lesser name other = if is_lt (slice_cmp nat_cmp other name) then other else name
 
--- the first variables of two rows differ, and this is the lesser of their names; or one row is empty, and this is the
--- name of the first variable of the other
+-- The first variables of the two rows differ, and `name` is the lesser of their names. If one row
+-- is empty, `name` is that of the other row's first variable.
 abbrev pub IsNextName : List (List ℕ × List ℕ) → List (List ℕ × List ℕ) → List ℕ → Type 0
 IsNextName [] [] name = ⊥
 IsNextName [] (y ∷ ys) name = name ≡ y.0
 IsNextName (x ∷ xs) [] name = name ≡ x.0
 IsNextName (x ∷ xs) (y ∷ ys) name = (x ≡ y → ⊥) × (name ≡ lesser x.0 y.0)
 
--- the first name at which two rows of variables, each sorted by name, differ: both begin with the same variables, and
--- this is the next name
+-- The first name at which two rows of variables differ. Both rows are sorted by name, and begin
+-- with the same variables. `name` is the next name.
 pub record IsFirstName (row other : List (List ℕ × List ℕ)) (name : List ℕ) : Type 0 where
   pub before : List (List ℕ × List ℕ)
   pub after : List (List ℕ × List ℕ)
@@ -47,16 +47,17 @@ pub record IsFirstName (row other : List (List ℕ × List ℕ)) (name : List �
   pub other_place : other ≡ before ++ behind
   pub next : IsNextName after behind name
 
--- two rows of variables differ at this name, and agree at each lesser name
+-- the two rows have different variables at this name, and agree at each lesser name
 pub record IsLeastName (row other : List (List ℕ × List ℕ)) (name : List ℕ) : Type 0 where
   pub here : find (slice_cmp nat_cmp) name row ≡ find (slice_cmp nat_cmp) name other → ⊥
   pub below : (less : List ℕ) → slice_cmp nat_cmp less name ≡ Less → find (slice_cmp nat_cmp) less row ≡ find (slice_cmp nat_cmp) less other
 
--- In two rows that are sorted by name, the first name at which they differ is the least name at which they differ.
+-- If two rows of variables are sorted by name, `IsFirstName` finds the least name at which they differ.
 abbrev pub FirstNameIsFirst : Type 0
 FirstNameIsFirst = (row other : List (List ℕ × List ℕ)) (name : List ℕ) → are_sorted row ≡ true → are_sorted other ≡ true → IsFirstName row other name → IsLeastName row other name
 
--- the first name at which two rows of variables differ, found variable by variable
+-- the first name at which two rows of variables differ, if they differ; the rows are compared
+-- variable by variable
 abbrev pub first_name : List (List ℕ × List ℕ) → List (List ℕ × List ℕ) → Option (List ℕ)
 first_name [] [] = None
 first_name [] (y ∷ ys) = Some y.0

@@ -1,4 +1,4 @@
--- What a call of the store does to the place, which call of the place failed, and why.
+-- How a call of the store changes the place, which call of the place failed, and what its fault was.
 use Rattle.std.specs.Prelude.{◌≡◌, ◌⊎◌, ℕ, List, Option, Some, None, Result, MatchResult, Bool, true, false, IsTrue, Contains, IfErr}
 use Rattle.pb_place_types.specs.At.{At}
 use Rattle.pb_place_types.specs.CallsInTurn.{Fails}
@@ -17,102 +17,106 @@ use Rattle.pb_store.specs.declared.fault.OpenFault.TheVariants as open_fault
 use Rattle.pb_store.specs.declared.fault.StoreFault.{StoreFault}
 use Rattle.pb_store.specs.declared.fault.StoreFault.TheVariants.{Place, NumbersSpent, OutOfMemory}
 
--- a fault of the place as a fault of the store; out of memory stays out of memory
+-- the fault of the store for a fault of the place; out of memory stays out of memory
 abbrev pub stored : PlaceFault → StoreFault
 stored place.OutOfMemory = OutOfMemory
 stored fault = Place fault
 
--- a fault of a call of the place on this path as a fault of opening; out of memory stays out of memory
+-- the fault of opening for a fault of the place on this path; out of memory stays out of memory
 abbrev pub opened : List ℕ → PlaceFault → OpenFault
 opened path place.OutOfMemory = open_fault.OutOfMemory
 opened path fault = open_fault.Place path fault
 
--- a call failed with this fault, and no call came after it
+-- a call of the place failed in this way, and no call came after it
 abbrev pub FailedLast : Failure → Counts → Counts → Type 0
 FailedLast failure old new = (new.failures ≡ up old.failures) × (new.late ≡ 0) × (new.last ≡ Some failure)
 
--- if the fault is one of a call, that call failed with this fault and was the last; if it is the store's own, or out of
--- memory, no call failed
+-- The cause of a fault of the store. For a fault of the place, the failed call had this fault and
+-- was the last. For any other fault, no call failed.
 abbrev pub HasCause : StoreFault → Counts → Counts → Type 0
 HasCause (Place fault) old new = FailedLast (Called fault) old new
 HasCause NumbersSpent old new = new.failures ≡ old.failures
 HasCause OutOfMemory old new = new.failures ≡ old.failures
 
--- what a call of the store does to the counters: it starts no child; if it ended well, no call failed; else its fault
--- is a possible one and has its cause
+-- How a call of the store changes the counters. The call starts no child. If the call succeeds, no
+-- call of the place failed. If not, the fault is an allowed one, and has its cause.
 abbrev pub CountsAs : {T : Type 0} → (StoreFault → Type 0) → Result T StoreFault → Counts → Counts → Type 0
 CountsAs May result old new = (new.starts ≡ old.starts) × MatchResult result (λ x. new.failures ≡ old.failures) (λ e. May e × HasCause e old new)
 
--- the faults of a call that reads files
+-- the faults that are allowed for a call that reads files
 abbrev pub MayRead : StoreFault → Type 0
 MayRead (Place fault) = fault ≡ place.Read
 MayRead NumbersSpent = ⊥
 MayRead OutOfMemory = Unit {0}
 
--- the faults of a call that looks at inputs: it reads files, lists folders and reads variables
+-- the faults that are allowed for a call that looks at inputs: it reads files, lists folders and
+-- reads variables
 abbrev pub MayLook : StoreFault → Type 0
 MayLook (Place fault) = (fault ≡ place.Read) ⊎ ((fault ≡ place.List) ⊎ (fault ≡ place.Variable))
 MayLook NumbersSpent = ⊥
 MayLook OutOfMemory = Unit {0}
 
--- the faults of a call that removes a record
+-- the faults that are allowed for a call that removes a record
 abbrev pub MayRemove : StoreFault → Type 0
 MayRemove (Place fault) = fault ≡ place.Remove
 MayRemove NumbersSpent = ⊥
 MayRemove OutOfMemory = Unit {0}
 
--- the faults of a call that takes a run number first: the fault is `NumbersSpent` if and only if no
--- number is left
+-- The faults that are allowed for a call that first takes a run number. If no number is left, only
+-- `NumbersSpent` is allowed; otherwise it is not.
 abbrev pub MayDrop : Option ℕ → StoreFault → Type 0
 MayDrop None NumbersSpent = Unit {0}
 MayDrop None (Place fault) = ⊥
 MayDrop None OutOfMemory = ⊥
 MayDrop (Some number) e = MayRemove e
 
--- the faults of a call that writes a record
+-- the faults that are allowed for a call that writes a record
 abbrev pub MayWrite : StoreFault → Type 0
 MayWrite (Place fault) = fault ≡ place.Write
 MayWrite NumbersSpent = ⊥
 MayWrite OutOfMemory = Unit {0}
 
--- the faults of a call that looks at inputs, and then writes a record
+-- the faults that are allowed for a call that looks at inputs and then writes a record
 abbrev pub MayKeep : StoreFault → Type 0
 MayKeep (Place fault) = (fault ≡ place.Write) ⊎ MayLook (Place fault)
 MayKeep NumbersSpent = ⊥
 MayKeep OutOfMemory = Unit {0}
 
--- the faults of a call that reads, takes a run number, and writes a record: the fault is
--- `NumbersSpent` only if no number is left
+-- The faults that are allowed for a call that reads a record, takes a run number and writes the
+-- record. `NumbersSpent` is allowed only if no number is left.
 abbrev pub MayMigrate : Option ℕ → StoreFault → Type 0
 MayMigrate next (Place fault) = (fault ≡ place.Write) ⊎ (fault ≡ place.Read)
 MayMigrate next NumbersSpent = next ≡ None
 MayMigrate next OutOfMemory = Unit {0}
 
--- the cause of a fault of opening: the call on this path failed with this fault and was the last; or memory ran out,
--- and no call failed
+-- The cause of a fault of opening. Either the call on this path failed with this fault and was the
+-- last. Or memory ran out and no call failed.
 abbrev pub FailsToOpen : OpenFault → Counts → Counts → Type 0
 FailsToOpen (open_fault.Place path fault) old new = ((fault ≡ place.List) ⊎ (fault ≡ place.Read)) × FailedLast (Called fault) old new × (named_in new ≡ path)
 FailsToOpen open_fault.OutOfMemory old new = new.failures ≡ old.failures
 
--- what opening does to the counters: it starts no child; if it ended well, no call failed; else its fault has its cause
+-- How opening changes the counters. Opening starts no child. After a success no call of the place
+-- has failed. A fault has its cause.
 abbrev pub CountsAsOpen : {T : Type 0} → Result T OpenFault → Counts → Counts → Type 0
 CountsAsOpen result old new = (new.starts ≡ old.starts) × MatchResult result (λ x. new.failures ≡ old.failures) (λ e. FailsToOpen e old new)
 
--- this one call failed with this fault; if the fault is the store's own, no call was made; out of memory, at most one
+-- How one call of the place ended with this fault of the store. If the fault is that of the place,
+-- the call failed with it. If no number is left, the call was not made. If memory ran out, it may
+-- have been made.
 abbrev pub EndsOnce : Call → StoreFault → Counts → Counts → Type 0
 EndsOnce call (Place fault) old new = Fails fault call old new
 EndsOnce call NumbersSpent old new = new ≡ old
 EndsOnce call OutOfMemory old new = (new ≡ old) ⊎ (new ≡ past_call old)
 
--- this one call of the place was made, and its failure is reported
+-- this one call of the place was made, and if it failed, its fault is reported
 abbrev pub CallsOnce : {T : Type 0} → Call → Result T StoreFault → Counts → Counts → Type 0
 CallsOnce call result old new = MatchResult result (λ x. new ≡ past_call old) (λ e. EndsOnce call e old new)
 
--- if a write failed, it was the write of this file
+-- if the fault is that of a failed write, the write of this file failed
 abbrev pub FailsToWrite : {T : Type 0} → List ℕ → Result T StoreFault → Counts → Type 0
 FailsToWrite path result new = IfErr result (λ e. e ≡ Place place.Write → new.failing ≡ Some (call.Write path))
 
--- the fault of a call that looks: it reads a file, lists a folder or reads a variable
+-- the fault is that of a call that looks: it reads a file, lists a folder or reads a variable
 abbrev pub is_look : PlaceFault → Bool
 is_look place.Read = true
 is_look place.List = true
@@ -121,39 +125,40 @@ is_look place.Remove = false
 is_look place.Variable = true
 is_look place.OutOfMemory = false
 
--- the call that failed was a call that looks
+-- the fault comes from a call that looks
 abbrev pub looked : StoreFault → Bool
 looked (Place fault) = is_look fault
 looked NumbersSpent = false
 looked OutOfMemory = false
 
--- one of these files is a record that could not be read
+-- the fault is that of one of these files, which is a record that could not be read; otherwise memory ran out
 abbrev pub ReadsOneOf : List (List ℕ) → OpenFault → Type 0
 ReadsOneOf paths (open_fault.Place at fault) = (fault ≡ place.Read) × Contains paths at × (ends_as_record at ≡ true)
 ReadsOneOf paths open_fault.OutOfMemory = Unit {0}
 
--- the folder could not be listed, or a record directly in it could not be read
+-- The fault is that of the folder, which could not be listed, or of a record directly in it, which
+-- could not be read. Otherwise memory ran out.
 abbrev pub OpensBy : Bool → List ℕ → World → OpenFault → Type 0
 OpensBy is_modelled folder w (open_fault.Place at fault) = ((fault ≡ place.List) × (at ≡ folder)) ⊎ ((fault ≡ place.Read) × (ends_as_record at ≡ true) × (IsTrue is_modelled → Contains (listed_directly folder w) at))
 OpensBy is_modelled folder w open_fault.OutOfMemory = Unit {0}
 
--- a call only looks: nothing changes but the counters; a call of the place that failed was the last, with one of these
--- faults
+-- A call of the store only looks: it changes nothing but the counters. If a call of the place
+-- failed, it was the last, and its fault is an allowed one.
 pub record OnlyLooks {T : Type 0} (May : StoreFault → Type 0) (result : Result T StoreFault) (old new : At) : Type 0 where
   pub world : new.world ≡ old.world
   pub most : new.most ≡ old.most
   pub still : KeepsStill old.still new.still
   pub takes : CountsAs May result old.counts new.counts
 
--- opening only looks: nothing changes but the counters, and an error has its cause
+-- Opening only looks: nothing changes but the counters. A fault of opening has its cause.
 pub record OnlyOpens {T : Type 0} (result : Result T OpenFault) (old new : At) : Type 0 where
   pub world : new.world ≡ old.world
   pub most : new.most ≡ old.most
   pub still : KeepsStill old.still new.still
   pub takes : CountsAsOpen result old.counts new.counts
 
--- a call changes only files of these paths, and starts no child; a call of the place that failed was the last, with one
--- of these faults
+-- A call of the store changes files only at these paths, and starts no child. If a call of the
+-- place failed, it was the last, and its fault is an allowed one.
 pub record ChangesOnlyAt {T : Type 0} (inside : List ℕ → Bool) (May : StoreFault → Type 0) (result : Result T StoreFault) (old new : At) : Type 0 where
   pub only : ChangesOnly inside old.world new.world
   pub most : new.most ≡ old.most

@@ -1,4 +1,4 @@
--- The first difference of a unit, in this order; and what its record replays if nothing differs.
+-- The first difference of a unit, in a fixed order, and what the unit's record replays if nothing differs.
 use Rattle.std.specs.Prelude.{◌≡◌, ◌++◌, ◌∷◌, ◌&&◌, ℕ, Bool, true, false, List, [], Option, Some, None, pos, is_some, option_map}
 use Rattle.std.specs.List.{AllByRecursion}
 use Rattle.std.specs.Str.{bytes_eq}
@@ -23,8 +23,7 @@ use Rattle.pb_store.specs.declared.replaying.Compared.{Compared}
 use Rattle.pb_store.specs.declared.replaying.Compared.TheVariants.{Differs, Same}
 use Rattle.pb_store.specs.declared.replaying.Replayed.{Replayed}
 
--- this is the report on the first item of a row for which the condition is false; for all items
--- before it the condition is true
+-- `b` reports the first item of the row for which `Holds` is false. For all items before it, `Holds` is true.
 pub record IsFirst {A B : Type 0} (Holds : A → Type 0) (told : A → B) (row : List A) (b : B) : Type 0 where
   pub before : List A
   pub here : A
@@ -34,31 +33,32 @@ pub record IsFirst {A B : Type 0} (Holds : A → Type 0) (told : A → B) (row :
   pub fails : Holds here → ⊥
   pub tells : b ≡ told here
 
--- this is true for all items of a row; or this is the name of the first item for which it is false
+-- No name is reported, and `Holds` is true for all items of the row. Or the reported name is that
+-- of the first item for which it is false.
 abbrev pub FirstOrAll : {A : Type 0} → ((List ℕ × A) → Type 0) → List (List ℕ × A) → Option (List ℕ) → Type 0
 FirstOrAll Holds row None = AllByRecursion Holds row
 FirstOrAll Holds row (Some b) = IsFirst Holds (λ x. x.0) row b
 
--- an input has its present value
+-- the input has the value that the world now has for it
 abbrev pub IsPresent : List ℕ → World → inputs.Input → Type 0
 IsPresent target w i = input_in target w (name_of i) ≡ i
 
--- the report on a row of inputs: the name of the first input that does not have its present value,
--- or none if each has it
+-- The report on a row of inputs: the name of the first input without its present value. If each
+-- input has its present value, no name is reported.
 abbrev pub FirstInput : List ℕ → List inputs.Input → World → Option InputName → Type 0
 FirstInput target row w None = Agrees target row w
 FirstInput target row w (Some name) = IsFirst (IsPresent target w) name_of row name
 
--- the record of a needed unit has the number by which it is named
+-- the record of the needed unit has the number that is named with the unit
 abbrev pub HasNumber : RecordMap → (List ℕ × ℕ) → Type 0
 HasNumber at need = number_if (at need.0) ≡ Some need.1
 
--- the needed unit is named by a relative path, and its folder contains exactly the named files
+-- the needed unit is named by a relative path, and its folder contains exactly the files that are named with it
 abbrev pub HasFiles : List ℕ → Map → (List ℕ × List (List ℕ × List ℕ)) → Type 0
 HasFiles folder files need = (is_relative need.0 ≡ true) × (contents (out_of folder need.0) files ≡ need.1)
 
--- the needed units are as the record names them, by its format (below: the name of the first unit
--- that is not, in the record's order)
+-- The needed units are as the record names them, in its format. `FirstNeed` is the first unit, in
+-- the record's order, that is not.
 abbrev pub AreNeeded : List ℕ → RecordMap → Map → Needed → Type 0
 AreNeeded folder at files (Copies copies) = AllByRecursion (HasFiles folder files) copies
 AreNeeded folder at files (Numbers number needs) = AllByRecursion (HasNumber at) needs
@@ -67,14 +67,15 @@ abbrev pub FirstNeed : List ℕ → RecordMap → Map → Needed → List ℕ �
 FirstNeed folder at files (Copies copies) need = IsFirst (HasFiles folder files) (λ c. c.0) copies need
 FirstNeed folder at files (Numbers number needs) need = IsFirst (HasNumber at) (λ n. n.0) needs need
 
--- nothing differs from a record
+-- nothing differs from the record: it has this command, its inputs have their present values, and
+-- the needed units are as it names them
 pub record IsAsRecorded (folder : List ℕ) (at : RecordMap) (c : commands.Command) (w : World) (r : Record) : Type 0 where
   pub asked : command_of r.asked ≡ c
   pub inputs : Agrees c.target r.inputs w
   pub needed : AreNeeded folder at w.files r.needed
 
--- the first difference from a record: a part of its command, variables apart; then a variable; then an input; then a
--- needed unit
+-- The first difference from a record. The parts of the command are compared first, without
+-- variables. Then come the variables, the inputs, and the needed units.
 abbrev pub DiffersFrom : List ℕ → RecordMap → commands.Command → World → Record → Difference → Type 0
 DiffersFrom folder at c w r NoRecord = ⊥
 DiffersFrom folder at c w r (Command part) = IsFirst (SamePart r.asked c) (λ p. p) parts part
@@ -82,12 +83,13 @@ DiffersFrom folder at c w r (Pair name) = AsksAs r.asked c × IsFirstName r.aske
 DiffersFrom folder at c w r (Input name) = (command_of r.asked ≡ c) × IsFirst (IsPresent c.target w) name_of r.inputs name
 DiffersFrom folder at c w r (Dependency need) = (command_of r.asked ≡ c) × Agrees c.target r.inputs w × FirstNeed folder at w.files r.needed need
 
--- the report on a record: none if nothing differs from it, else the first difference
+-- the report on a record: its first difference, or nothing if nothing differs from it
 abbrev pub FirstFrom : List ℕ → RecordMap → commands.Command → World → Record → Option Difference → Type 0
 FirstFrom folder at c w r None = IsAsRecorded folder at c w r
 FirstFrom folder at c w r (Some d) = DiffersFrom folder at c w r d
 
--- the report on a unit: `NoRecord` if no record counts for it, else the report on its record
+-- The report on a unit: `NoRecord` if no record counts for it, or else the report on its record.
+-- `FirstDifference` is this report for a folder of a world.
 abbrev pub FirstOf : List ℕ → RecordMap → commands.Command → World → Option Record → Option Difference → Type 0
 FirstOf folder at c w None found = found ≡ Some NoRecord
 FirstOf folder at c w (Some r) found = FirstFrom folder at c w r found
@@ -95,17 +97,17 @@ FirstOf folder at c w (Some r) found = FirstFrom folder at c w r found
 abbrev pub FirstDifference : List ℕ → List ℕ → commands.Command → World → Option Difference → Type 0
 FirstDifference folder key c w found = FirstOf folder (records folder w) c w (records folder w key) found
 
--- if a record names units by copies, it names each by a relative path
+-- if the record has copies of needed units, it names each of them by a relative path
 abbrev pub NamesPaths : Needed → Type 0
 NamesPaths (Copies copies) = AllByRecursion (λ c. is_relative c.0 ≡ true) copies
 NamesPaths (Numbers number needs) = Unit {0}
 
--- nothing differs from a unit's record for some command
+-- for some command, nothing differs from the unit's record
 abbrev pub NothingDiffers : List ℕ → List ℕ → World → Type 0
 NothingDiffers folder key w = (c : commands.Command) × FirstDifference folder key c w None
 
--- If nothing differs from a unit's record, the record contains what a child would answer. The converse is true unless
--- the record names a unit by a text that is no path.
+-- If nothing differs from a unit's record, `IsSame` is true of the record. The converse is true if
+-- the record names each unit by a relative path.
 pub record UnchangedIsSame : Type 0 where
   pub same : (folder key : List ℕ) (c : commands.Command) (w : World) → FirstDifference folder key c w None → (r : Record) × IsSame reading folder key c w r
   pub none : (folder key : List ℕ) (c : commands.Command) (w : World) (r : Record) → IsSame reading folder key c w r → NamesPaths r.needed → FirstDifference folder key c w None
@@ -114,32 +116,32 @@ pub record UnchangedIsSame : Type 0 where
 abbrev pub DifferencesAreOne : Type 0
 DifferencesAreOne = (folder key : List ℕ) (c : commands.Command) (w : World) (found other : Option Difference) → FirstDifference folder key c w found → FirstDifference folder key c w other → found ≡ other
 
--- whether two lists of files are equal
+-- the two lists of files are equal
 abbrev pub same_files : List (List ℕ × List ℕ) → List (List ℕ × List ℕ) → Bool
 same_files [] [] = true
 same_files [] (y ∷ ys) = false
 same_files (x ∷ xs) [] = false
 same_files (x ∷ xs) (y ∷ ys) = (bytes_eq x.0 y.0 && bytes_eq x.1 y.1) && same_files xs ys
 
--- what a record replays: a child that ended well with the recorded streams, and whether the record
--- has a number
+-- What a record replays: a child that ended well and wrote the recorded streams, and whether the
+-- record has a number.
 abbrev pub replayed : Record → Replayed
 replayed r = record { ended = record { status = pos 0; stdout = r.stdout; stderr = r.stderr }; numbered = is_some (number_of r) }
 
--- this is what the record that counts for a unit replays
+-- `again` is what the record that counts for a unit replays
 abbrev pub IsReplayed : Option Record → Replayed → Type 0
 IsReplayed found again = option_map replayed found ≡ Some again
 
--- the difference that a comparison reports; none if nothing differs
+-- the difference that a comparison found, or none if nothing differs
 abbrev pub difference_in : Compared → Option Difference
 difference_in (Differs difference) = Some difference
 difference_in (Same again) = None
 
--- if nothing differs, a comparison carries what the record replays
+-- if a comparison found no difference, it contains what the record replays
 abbrev pub CarriesReplayed : Option Record → Compared → Type 0
 CarriesReplayed found (Differs difference) = Unit {0}
 CarriesReplayed found (Same again) = IsReplayed found again
 
--- a record replays this answer
+-- the record replays a child that ended so
 abbrev pub IsAnswered : Option Record → Ended → Type 0
 IsAnswered found ended = option_map (λ (r : Record). (replayed r).ended) found ≡ Some ended

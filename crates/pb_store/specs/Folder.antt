@@ -1,4 +1,4 @@
--- What each call of the store does to the records of its folder, and to its run numbers.
+-- How each call of the store changes the records of its folder and its run numbers.
 use Rattle.std.specs.Prelude.{◌≡◌, ℕ, List, Option, Some, None, ◌⊎◌, pos, ◌↔◌, ◌<◌, true, map, Contains, Bool, false, not, is_some, Result, IfErr, if◌then◌else◌, max, Err, OnOk, MatchResult}
 use Rattle.std.specs.FinMap as finite
 use Rattle.std.specs.List.{fold}
@@ -30,21 +30,22 @@ use Rattle.pb_store.specs.declared.fault.StoreFault.TheVariants.{Place, NumbersS
 use Rattle.pb_store.specs.declared.replaying.Compared.{Compared}
 use Rattle.pb_store.specs.declared.store.Store.{Store}
 
--- the run number of a key in a table, if there is one
+-- the run number that a table has for a key, if it has one
 abbrev pub number_in : List (List ℕ × Option ℕ) → List ℕ → Option ℕ
 number_in table key = option_and_then (λ (number : Option ℕ). number) (value_at key table)
 
--- a table contains the run number of each record that counts, by its key, and no other number
+-- the table has, for each key, the run number of the record that counts for the key, if there is one
 abbrev pub HasNumbers : RecordMap → List (List ℕ × Option ℕ) → Type 0
 HasNumbers at table = (key : List ℕ) → number_in table key ≡ number_if (at key)
 
--- this folder is the output folder of one of these units, or the record of such a unit reads it
+-- The folder `f` is the output folder of one of these units, or the record of such a unit says that
+-- it reads `f`.
 pub data ReadBy (at : RecordMap) (folder : List ℕ) (needs : List (List ℕ)) (f : List ℕ) : Type 0 where
   itself : (need : List ℕ) → Contains needs need → f ≡ out_of folder need → ReadBy at folder needs f
   further : (need : List ℕ) (s : Record) → Contains needs need → at need ≡ Some s → Contains s.asked.reads f → ReadBy at folder needs f
 
--- each needed unit has a record of format 2 with a number below this one; the command reads exactly
--- the folders of these units and the folders that their records read
+-- Each needed unit has a record of format 2, with a number below `number`. The folders in `reads`
+-- are exactly those of these units and those that their records read.
 pub record HasNeeds (at : RecordMap) (folder : List ℕ) (reads : List (List ℕ)) (needs : List (List ℕ)) (number : ℕ) : Type 0 where
   pub stand : (need : List ℕ) → Contains needs need → (s : Record) × (at need ≡ Some s) × ((n : ℕ) × (number_of s ≡ Some n) × (n < number))
   pub reads_are : (f : List ℕ) → Contains reads f ↔ ReadBy at folder needs f
@@ -53,12 +54,12 @@ abbrev pub or_zero : Option ℕ → ℕ
 or_zero None = 0
 or_zero (Some n) = n
 
--- the needed units with the numbers of their records
+-- the needed units, each with the number of its record
 abbrev pub numbered : RecordMap → List (List ℕ) → List (List ℕ × ℕ)
 numbered at needs = map (λ (need : List ℕ). (need, or_zero (number_if (at need)))) needs
 
--- in the view of this world the child is honest on the command; its reply is good, with these input names and streams;
--- and its files are those in the unit's folder
+-- In this world the child is honest on the command. The child's reply is good, and has these input
+-- names and streams. The files of the reply are those in the unit's folder.
 pub record IsEarned (judge : Judge) (child : Answers) (folder key : List ℕ) (c : Command) (names : List InputName) (ended : Ended) (w : World) : Type 0 where
   pub honest : IsHonest judge child c w
   pub good : judge c (reply_in child c w) ≡ Some names
@@ -67,24 +68,25 @@ pub record IsEarned (judge : Judge) (child : Answers) (folder key : List ℕ) (c
   pub stderr : (reply_in child c w).stderr ≡ ended.stderr
   pub files : replied_files (out_of folder key) (reply_in child c w) ≡ files_in (out_of folder key) w.files
 
--- the record that is kept of a unit
+-- the record that is kept for a unit
 abbrev pub kept_of : List ℕ → List ℕ → Command → List Input → ℕ → List (List ℕ × ℕ) → Ended → Record
 kept_of folder key c inputs number pairs ended = record { key = key; asked = of_parts c (out_of folder key); inputs = inputs; needed = Numbers number pairs; stdout = ended.stdout; stderr = ended.stderr }
 
--- the record of a unit after a call that may have put one there: no record that counts, the old
--- record, or the new one
+-- The record of a unit after a call that was to put a record there. No record counts, or it is the
+-- old record, or it is the one that was to be put.
 abbrev pub Leaves : Option Record → Option Record → Option Record → Type 0
 Leaves put old new = (new ≡ None) ⊎ ((new ≡ old) ⊎ (new ≡ put))
 
--- what makes a kept record true: its answer is earned, the needed units have their records, and no record names its
--- number
+-- When a record may be kept, so that it is true. The answer is earned, the needed units have their
+-- records, and no record has or names this number.
 pub record IsKept (judge : Judge) (child : Answers) (folder key : List ℕ) (c : Command) (needs : List (List ℕ)) (names : List InputName) (ended : Ended) (number : ℕ) (w : World) : Type 0 where
   pub earned : IsEarned judge child folder key c names ended w
   pub needs_stand : HasNeeds (records folder w) folder c.reads needs number
   pub unnamed : NoneNames (records folder w) number
 
--- a record may be put into the folder: it contains the reply of an honest child in the present view; it names present
--- records; and no record that counts names its unit by its number
+-- When a record may be put into the folder. The record contains the reply of an honest child in
+-- this world, and names records that are there. No record that counts names its unit with its
+-- number.
 pub record MayPut (read : RecordParser) (judge : Judge) (child : Answers) (folder key : List ℕ) (w : World) (r : Record) (number : ℕ) : Type 0 where
   pub honest : IsHonest judge child (command_of r.asked) w
   pub agree : Agrees r.asked.target r.inputs w
@@ -96,17 +98,17 @@ pub record MayPut (read : RecordParser) (judge : Judge) (child : Answers) (folde
   pub numbered : number_of r ≡ Some number
   pub unnamed : Unnamed (record_at read folder w.files) key number
 
--- the record with a number and the numbers of the needed units, instead of copies
+-- the record with this number, and with the numbers of the needed units instead of copies of their files
 abbrev pub numbered_record : Record → ℕ → List (List ℕ × ℕ) → Record
 numbered_record r number pairs = record { key = r.key; asked = r.asked; inputs = r.inputs; needed = Numbers number pairs; stdout = r.stdout; stderr = r.stderr }
 
--- a unit has a record that counts, and it is of format 1: it has no number
+-- a record counts for the unit, and it has no number because it is of format 1
 abbrev pub lacks_number : Option Record → Bool
 lacks_number None = false
 lacks_number (Some r) = not (is_some (number_of r))
 
--- the record after a migration: a record with a number stays as it is; a record without one is
--- rewritten with the next number
+-- The record after a migration. A record with a number stays as it is. A record without one gets
+-- the next number, if a number is left.
 abbrev pub migrated_by : Option ℕ → Option ℕ → List (List ℕ × ℕ) → Record → Option Record
 migrated_by (Some own) next pairs r = Some r
 migrated_by None (Some number) pairs r = Some (numbered_record r number pairs)
@@ -116,8 +118,9 @@ abbrev pub migrated : Option ℕ → List (List ℕ × ℕ) → Option Record �
 migrated next pairs None = None
 migrated next pairs (Some r) = migrated_by (number_of r) next pairs r
 
--- what makes a migrated record true: nothing differs from it, its child is honest, what its command reads is grounded,
--- the needed units have their records, and no record names its number
+-- When a record may be migrated, so that it is true. Nothing differs from it, and its child is
+-- honest. What its command reads is grounded, and the needed units have their records. No record
+-- has or names the new number.
 pub record IsMigrated (judge : Judge) (child : Answers) (folder key : List ℕ) (c : Command) (needs : List (List ℕ)) (number : ℕ) (w : World) (r : Record) : Type 0 where
   pub same : IsSame reading folder key c w r
   pub honest : IsHonest judge child c w
@@ -125,21 +128,22 @@ pub record IsMigrated (judge : Judge) (child : Answers) (folder key : List ℕ) 
   pub needs_stand : HasNeeds (records folder w) folder c.reads needs number
   pub unnamed : NoneNames (records folder w) number
 
--- the next number was taken
+-- the number that was next was taken, and the number after it is now next
 abbrev pub TakesNext : Option ℕ → Option ℕ → Type 0
 TakesNext old new = (number : ℕ) × (old ≡ Some number) × (new ≡ after number)
 
--- the next number is unchanged, or was taken
+-- the next number is unchanged, or it was taken
 abbrev pub TakesNumber : Option ℕ → Option ℕ → Type 0
 TakesNumber old new = (new ≡ old) ⊎ TakesNext old new
 
--- a migration and the next number: the number is not taken if a look failed, and it is taken if the write failed
+-- How a migration changes the next number. If a look failed, no number was taken. If the write
+-- failed, the number was taken.
 pub record MigratesNext (result : Result Unit StoreFault) (old new : Option ℕ) : Type 0 where
   pub next : TakesNumber old new
   pub before : IfErr result (λ e. looked e ≡ true → new ≡ old)
   pub used : IfErr result (λ e. e ≡ Place Write → TakesNext old new)
 
--- the greatest number that a record has or names; 0 if there is none
+-- The greatest number that a record has or names. `greatest_if` is 0 without a record.
 abbrev pub greatest_named : Needed → ℕ
 greatest_named (Copies copies) = 0
 greatest_named (Numbers number needs) = max number (fold (λ g (pair : List ℕ × ℕ). max g pair.1) 0 needs)
@@ -148,47 +152,51 @@ abbrev pub greatest_if : Option Record → ℕ
 greatest_if None = 0
 greatest_if (Some r) = greatest_named r.needed
 
--- the greatest number that the record at a path has or names, whatever its key is
+-- The greatest number that the record at a path has or names, even if the record does not count.
+-- `greatest_of` is the greatest of all these paths.
 abbrev pub greatest_at : Map → List ℕ → ℕ
 greatest_at m path = if ends_as_record path then greatest_if (read_text reading (finite.get m path)) else 0
 
 abbrev pub greatest_of : Map → List (List ℕ) → ℕ
 greatest_of m paths = fold (λ g path. max g (greatest_at m path)) 0 paths
 
--- the next run number: one above the greatest that a record has or names, so 1 if there is none; no
--- number if the greatest is the last
+-- The next run number of a folder: one more than the greatest number that a record in it has or
+-- names. If no record has a number, the next is 1. After the last number there is no next.
 abbrev pub next_in : List ℕ → World → Option ℕ
 next_in folder w = after (greatest_of w.files (listed_directly folder w))
 
--- the store of a folder: its next run number, and the run numbers of its records
+-- The store of a folder has its next run number and the run numbers of its records. All numbers
+-- that a record has or names are below the next one.
 pub record OpensStore (folder : List ℕ) (w : World) (store : Store) : Type 0 where
   pub next : store.next ≡ next_in folder w
   pub ahead : IsAhead (records folder w) store.next
   pub numbers : HasNumbers (records folder w) store.numbers
 
--- a comparison of a unit: it contains the first difference; if nothing differs, it contains what
--- the unit's record replays
+-- A comparison of a unit contains the unit's first difference. If nothing differs, it contains what
+-- the unit's record replays.
 pub record Compares (folder key : List ℕ) (c : Command) (w : World) (compared : Compared) : Type 0 where
   pub first : FirstDifference folder key c w (difference_in compared)
   pub carries : CarriesReplayed (records folder w key) compared
 
--- this number was next and was taken, and the one after it is next
+-- the number was next and was taken, and the number after it is now next
 abbrev pub IsGiven : ℕ → Option ℕ → Option ℕ → Type 0
 IsGiven number old new = (old ≡ Some number) × (new ≡ after number)
 
--- the record of a unit after a call that puts this one there: it is this one; after a fault it is
--- none, the old record, or this one
+-- The record of a unit after a call that was to put `put` there. After a success it is `put`. After
+-- a fault it is none, the old record, or `put`.
 abbrev pub Stands : {T : Type 0} → Result T StoreFault → Option Record → Option Record → Option Record → Type 0
 Stands result put old new = MatchResult result (λ x. new ≡ put) (λ e. Leaves put old new)
 
--- a record is removed
+-- What removing a record guarantees. The folder stays sound, no record counts for the key after a
+-- success, and a number that was above all others stays so.
 pub record RemovesRecord (child : Answers) (folder key : List ℕ) (result : Result Unit StoreFault) (old new : World) : Type 0 where
   pub sound : (judge : Judge) → Sound reading judge child folder old.files → Sound reading judge child folder new.files
   pub stands : Stands result None (records folder old key) (records folder new key)
   pub ahead : (next : Option ℕ) → IsAhead (records folder old) next → IsAhead (records folder new) next
 
--- a record is dropped: the folder stays sound, and the next number stays above all others; after a
--- success the store has the numbers of the records
+-- What dropping a record guarantees. The folder stays sound, and no record counts for the key after
+-- a success. The next number stays above all others. After a success the store has the numbers of
+-- the records.
 pub record DropsRecord (child : Answers) (key : List ℕ) (result : Result ℕ StoreFault) (old new : Store) (before now : World) : Type 0 where
   pub sound : (judge : Judge) → Sound reading judge child old.folder before.files → Sound reading judge child old.folder now.files
   pub stands : Stands result None (records old.folder before key) (records old.folder now key)
@@ -196,14 +204,17 @@ pub record DropsRecord (child : Answers) (key : List ℕ) (result : Result ℕ S
   pub numbers : OnOk result (HasNumbers (records old.folder now) new.numbers)
   pub spent : old.next ≡ None → now ≡ before
 
--- a record is put into the folder
+-- What putting a record guarantees. If `MayPut` is true, the folder stays sound. After a success
+-- the record counts for its key. A number that was above all others stays so, if the record has and
+-- names only lower ones.
 pub record PutsRecord (child : Answers) (folder key : List ℕ) (r : Record) (result : Result Unit StoreFault) (old new : World) : Type 0 where
   pub sound : (judge : Judge) (number : ℕ) → MayPut reading judge child folder key old r number → Sound reading judge child folder old.files → Sound reading judge child folder new.files
   pub stands : Stands result (Some r) (records folder old key) (records folder new key)
   pub ahead : (next : Option ℕ) → NamesBefore next r → IsAhead (records folder old) next → IsAhead (records folder new) next
 
--- a record is kept: the folder stays sound if the answer is earned (`IsKept`), and the next number
--- stays above all others if this number was taken
+-- What keeping a record guarantees. If `IsKept` is true, the folder stays sound. If `number` was
+-- taken before and the needed units have their records, the next number stays above all others.
+-- After a success the store has the numbers of the records. If a look failed, nothing has changed.
 pub record KeepsRecord (child : Answers) (key : List ℕ) (c : Command) (needs : List (List ℕ)) (names : List InputName) (ended : Ended) (number : ℕ) (result : Result Unit StoreFault) (old new : Store) (before now : World) : Type 0 where
   pub sound : (judge : Judge) → IsKept judge child old.folder key c needs names ended number before → Sound reading judge child old.folder before.files → Sound reading judge child old.folder now.files
   pub stands : Stands result (Some (kept_of old.folder key c (map (input_in c.target before) names) number (numbered (records old.folder before) needs) ended)) (records old.folder before key) (records old.folder now key)
@@ -211,14 +222,15 @@ pub record KeepsRecord (child : Answers) (key : List ℕ) (c : Command) (needs :
   pub numbers : OnOk result (HasNumbers (records old.folder now) new.numbers)
   pub looked : IfErr result (λ e. looked e ≡ true → now ≡ before)
 
--- a record without a number gets the next number, and any other record stays; the folder stays
--- sound under the conditions of `IsMigrated`
+-- What migrating a record guarantees. A record without a number gets the next number, and any other
+-- record stays. If `IsMigrated` is true, the folder stays sound and the next number stays above all
+-- others. After a success the store has the numbers of the records.
 pub record MigratesRecord (child : Answers) (key : List ℕ) (needs : List (List ℕ)) (result : Result Unit StoreFault) (old new : Store) (before now : World) : Type 0 where
   pub sound : (judge : Judge) (c : Command) (r : Record) → ((number : ℕ) → old.next ≡ Some number → IsMigrated judge child old.folder key c needs number before r) → Sound reading judge child old.folder before.files → Sound reading judge child old.folder now.files
   pub stands : Stands result (migrated old.next (numbered (records old.folder before) needs) (records old.folder before key)) (records old.folder before key) (records old.folder now key)
   pub ahead : (judge : Judge) (c : Command) (r : Record) → ((number : ℕ) → old.next ≡ Some number → IsMigrated judge child old.folder key c needs number before r) → IsAhead (records old.folder before) old.next → IsAhead (records old.folder now) new.next
   pub numbers : OnOk result (HasNumbers (records old.folder now) new.numbers)
-  -- a number is taken only for a record that has none
+  -- a number is taken only for a record that counts and has no number
   pub taken : lacks_number (records old.folder before key) ≡ true → OnOk result (TakesNext old.next new.next)
   pub unused : lacks_number (records old.folder before key) ≡ false → (new.next ≡ old.next) × (now ≡ before)
   pub cause : result ≡ Err NumbersSpent → lacks_number (records old.folder before key) ≡ true

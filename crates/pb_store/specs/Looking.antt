@@ -1,4 +1,4 @@
--- The calls that each call of the store makes of the place, with their arguments, in their order.
+-- Which calls of the place each call of the store makes, with their arguments and in order.
 use Rattle.std.specs.Prelude.{◌≡◌, ◌⊎◌, ◌++◌, ◌∷◌, ◌==◌, ◌&&◌, if◌then◌else◌, ℕ, Bool, true, false, map, List, [], Option, Some, None, Result, Err, MatchResult, Decides}
 use Rattle.std.specs.Cmp.Lexicographic.{pointwise}
 use Rattle.std.specs.FinMap as finite
@@ -30,20 +30,21 @@ use Rattle.pb_store.specs.declared.fault.OpenFault.TheVariants as open_fault
 use Rattle.pb_store.specs.declared.fault.StoreFault.{StoreFault}
 use Rattle.pb_store.specs.declared.fault.StoreFault.TheVariants.{Place, NumbersSpent, OutOfMemory}
 
--- if a call failed, it was one of these; if memory ran out, some first calls of the list were made;
--- no other fault is possible
+-- How these calls ended with this fault of the store. For a fault of the place, one of these calls
+-- failed. If memory ran out, the first few were made. No other fault is possible.
 abbrev pub StopsAt : StoreFault → List Call → Counts → Counts → Type 0
 StopsAt (Place fault) calls old new = FailsAt fault calls old new
 StopsAt NumbersSpent calls old new = ⊥
 StopsAt OutOfMemory calls old new = MakesSome calls old new
 
--- after a success exactly these calls were made; else the calls stopped at one of them. Every call
--- is counted, and the failed call is kept, so the list has an order
+-- After a success, exactly these calls were made. After an error, the first of them were. Each call
+-- is counted and the failed call is recorded, so the counters also determine the order of the
+-- calls.
 abbrev pub Looks : {T : Type 0} → Result T StoreFault → List Call → Counts → Counts → Type 0
 Looks result calls old new = MatchResult result (λ x. new ≡ past_calls calls old) (λ e. StopsAt e calls old new)
 
--- if a call of opening failed, it was one of these; if memory ran out, some first calls of the list
--- were made (below, as `Looks`)
+-- How these calls ended with this fault of opening: one of them failed, or memory ran out after the
+-- first few. `OpensLooking` also covers a success.
 abbrev pub OpeningStopsAt : OpenFault → List Call → Counts → Counts → Type 0
 OpeningStopsAt (open_fault.Place path fault) calls old new = FailsAt fault calls old new
 OpeningStopsAt open_fault.OutOfMemory calls old new = MakesSome calls old new
@@ -51,22 +52,22 @@ OpeningStopsAt open_fault.OutOfMemory calls old new = MakesSome calls old new
 abbrev pub OpensLooking : {T : Type 0} → Result T OpenFault → List Call → Counts → Counts → Type 0
 OpensLooking result calls old new = MatchResult result (λ x. new ≡ past_calls calls old) (λ e. OpeningStopsAt e calls old new)
 
--- the calls for each item of a row in turn, up to and including the first that differs
+-- the calls for the items of a row, item by item, up to the first item that differs, and including its calls
 abbrev pub looked_up_to : {A : Type 0} → (A → Bool) → (A → List Call) → List A → List Call
 looked_up_to is_same look [] = []
 looked_up_to is_same look (x ∷ xs) = look x ++ (if is_same x then looked_up_to is_same look xs else [])
 
--- a file of the sources is read; a file at or below the target folder is not
+-- the call that reads a file of the sources; a file at or below the target folder is not read
 abbrev pub source_looked : List ℕ → List ℕ → List Call
 source_looked target path = if is_at_or_below target path then [] else call.Read path ∷ []
 
--- if the path has no file, it is listed as a folder, without what is at or below the target folder; then each listed
--- file is read
+-- The calls for a path without a file. The path is listed as a folder, without what is at or below
+-- the target folder. Then each listed file is read.
 abbrev pub folder_looked : List ℕ → World → List ℕ → Option (List ℕ) → List Call
 folder_looked target w path (Some bytes) = []
 folder_looked target w path None = call.ListOutside path target ∷ map call.Read (listed path (removed target w))
 
--- the calls for an input: for a path its file, or its folder; for a variable its value
+-- the calls for an input: for a path those for its file or its folder, and for a variable the one for its value
 abbrev pub name_looked : List ℕ → World → InputName → List Call
 name_looked target w (Path path) = source_looked target path ++ folder_looked target w path (finite.get (from_nothing target w).files path)
 name_looked target w (Variable name) = call.Variable name ∷ []
@@ -78,7 +79,7 @@ same_text None (Some other) = false
 same_text (Some text) None = false
 same_text (Some text) (Some other) = bytes_eq text other
 
--- two inputs are equal: their kind, their name and their value
+-- the two inputs have the same kind, the same name and the same value
 abbrev pub same_input : Input → Input → Bool
 same_input (File path bytes) (File other others) = bytes_eq path other && bytes_eq bytes others
 same_input (File path bytes) (Tree other others) = false
@@ -90,78 +91,81 @@ same_input (Value name text) (File other others) = false
 same_input (Value name text) (Tree other others) = false
 same_input (Value name text) (Value other second) = bytes_eq name other && same_text text second
 
--- an input has its present value
+-- the input has the value that the world now has for it
 unfoldable pub is_present : List ℕ → World → Input → Bool
 is_present target w i = same_input (input_in target w (name_of i)) i
 
--- the calls for the inputs of a record, up to and including the first whose value is not the present one
+-- the calls for the inputs of a record, input by input, up to the first input without its present value
 abbrev pub inputs_looked : List ℕ → World → List Input → List Call
 inputs_looked target w inputs = looked_up_to (is_present target w) (λ i. name_looked target w (name_of i)) inputs
 
--- if the unit is named by a relative path, its folder is listed, and then each file there is read;
--- else no call is made
+-- The calls for a unit of which a record has copies. The unit's folder is listed, and then each
+-- file there is read. If the unit is not named by a relative path, no call is made.
 abbrev pub out_looked : List ℕ → World → List ℕ → List Call
 out_looked folder w key = if is_relative key then call.List (out_of folder key) ∷ map call.Read (listed (out_of folder key) w) else []
 
--- a needed unit has the files by which a record names it
+-- the needed unit has exactly the files that the record has as copies
 unfoldable pub has_files : List ℕ → Map → List ℕ × List (List ℕ × List ℕ) → Bool
 has_files folder files need = is_relative need.0 && same_files (contents (out_of folder need.0) files) need.1
 
--- the calls for the units that a record names by copies, up to and including the first that differs
+-- the calls for the units of which a record has copies, unit by unit, up to the first unit that differs
 abbrev pub copies_looked : List ℕ → World → List (List ℕ × List (List ℕ × List ℕ)) → List Call
 copies_looked folder w copies = looked_up_to (has_files folder w.files) (λ need. out_looked folder w need.0) copies
 
--- units that a record names by number need no call: the store has their numbers
+-- The calls for the needed units of a record. Units that are named with numbers need no call,
+-- because the store has their numbers.
 abbrev pub needed_looked : List ℕ → World → Needed → List Call
 needed_looked folder w (Copies copies) = copies_looked folder w copies
 needed_looked folder w (Numbers number needs) = []
 
--- the calls for the inputs of a record; if each has its present value, then come the calls for the
--- units that the record names
+-- The calls for a record with the right command. Those for its inputs come first. If each input has
+-- its present value, those for the needed units follow.
 unfoldable pub around_looked : List ℕ → List ℕ → World → Record → List Call
 around_looked folder target w r = inputs_looked target w r.inputs ++ (if list_all (is_present target w) r.inputs then needed_looked folder w r.needed else [])
 
 abbrev pub same_texts : List (List ℕ) → List (List ℕ) → Bool
 same_texts texts others = pointwise (pointwise ◌==◌) texts others
 
--- a command is equal to the recorded one, part for part, and variable for variable
+-- the command is equal to the recorded one, part by part and variable by variable
 unfoldable pub is_asked : RecordedCommand → commands.Command → Bool
 is_asked a c = bytes_eq a.program c.program && (same_texts a.words c.words && (bytes_eq a.folder c.folder && (same_text (Some a.out) c.out && (bytes_eq a.target c.target && (bytes_eq a.toolchain c.toolchain && (same_texts a.reads c.reads && same_files a.pairs c.pairs))))))
 
--- the calls for a record: none if its command differs
+-- the calls for a record; if its command differs, none are made
 unfoldable pub from_looked : List ℕ → commands.Command → World → Record → List Call
 from_looked folder c w r = if is_asked r.asked c then around_looked folder c.target w r else []
 
--- the calls for a unit: its record is read, and then come the calls for the record, if it counts
+-- the calls for a unit: its record is read, and if the record counts, the calls for the record follow
 unfoldable pub unit_looked : List ℕ → List ℕ → commands.Command → World → List Call
 unit_looked folder key c w = call.Read (place_of folder key) ∷ option_map_or (from_looked folder c w) (records folder w key) []
 
--- of these files, those with the name of a record are read, in their order
+-- the calls that read those of these files that have the name of a record, in their order
 abbrev pub records_looked : List (List ℕ) → List Call
 records_looked paths = map call.Read (filter ends_as_record paths)
 
--- to open a folder, the files directly in it are listed, and then each record directly in it is read, in the listed
--- order
+-- The calls that open a folder. The files directly in it are listed. Then each record among them is
+-- read, in the listed order.
 abbrev pub opened_looked : List ℕ → World → List Call
 opened_looked folder w = call.ListDirectly folder ∷ records_looked (listed_directly folder w)
 
--- the calls for each of these inputs, in their order
+-- the calls for inputs with these names, in their order
 abbrev pub names_looked : List ℕ → World → List InputName → List Call
 names_looked target w names = looked_up_to (λ name. true) (name_looked target w) names
 
--- to keep a record, the calls for its inputs are made, and then the record is written
+-- the calls that keep a record: those for its inputs, and then the one that writes the record
 abbrev pub kept_called : List ℕ → List ℕ → List ℕ → World → List InputName → List Call
 kept_called folder key target w names = names_looked target w names ++ (call.Write (place_of folder key) ∷ [])
 
--- to migrate a record, its file is read; if it is a record that counts and has no number, it is written again
+-- The calls that migrate a record. The record's file is read. If the record counts and has no
+-- number, its file is written again.
 abbrev pub migrated_called : List ℕ → List ℕ → World → List Call
 migrated_called folder key w = call.Read (place_of folder key) ∷ (if lacks_number (records folder w key) then call.Write (place_of folder key) ∷ [] else [])
 
--- the calls of the first list were made, and no run number was left; or those of the second list were made
+-- The calls of the first list were made, and then no run number was left. Or the calls of the
+-- second list were made, as `Looks` states.
 abbrev pub LooksOrSpent : {T : Type 0} → Result T StoreFault → List Call → List Call → Counts → Counts → Type 0
 LooksOrSpent result first calls old new = ((result ≡ Err NumbersSpent) × (new ≡ past_calls first old)) ⊎ Looks result calls old new
 
--- The tests that decide how far the store looks agree with the definitions of a difference.
+-- The tests that decide how far the store looks agree with the definitions of differences.
 pub record TestsDecide : Type 0 where
   pub input : (target : List ℕ) (w : World) (i : Input) → Decides (is_present target w i) (IsPresent target w i)
   pub copies : (folder : List ℕ) (files : Map) (need : List ℕ × List (List ℕ × List ℕ)) → Decides (has_files folder files need) (HasFiles folder files need)

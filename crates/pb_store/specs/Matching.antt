@@ -1,4 +1,4 @@
--- For private functions only: files are compared with the recorded ones, one by one.
+-- How files are compared with the recorded files, one by one. Only private functions need these definitions.
 use Rattle.std.specs.Prelude.{ℕ, Bool, false, if◌then◌else◌, List}
 use Rattle.pb_store.specs.Differences.{same_files}
 use Rattle.pb_store.specs.declared.comparing.Matching.{Matching}
@@ -6,6 +6,6 @@ use Rattle.pb_store.specs.declared.comparing.Matching.{Matching}
 abbrev pub Files : Type 0
 Files = List (List ℕ × List ℕ)
 
--- the result of a comparison if these files are left
+-- the result of the comparison: nothing has differed so far, and the recorded files that are left are these
 abbrev pub matched : Matching → Files → Bool
 matched matching files = if matching.same then same_files files matching.left.now else false

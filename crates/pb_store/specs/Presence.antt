@@ -1,5 +1,5 @@
--- For private functions only: the files below a folder are read one by one, and the numbers of records are collected
--- and looked up.
+-- How the files below a folder are read one by one, and how the numbers of records are collected
+-- and looked up. Only private functions need these definitions.
 use Rattle.std.specs.Prelude.{◌≡◌, ◌&&◌, ℕ, if◌then◌else◌, true, map, max, List, [], ◌∷◌, Option, Some, None}
 use Rattle.std.specs.FinMap as finite
 use Rattle.std.specs.List.{fold}
@@ -15,35 +15,34 @@ use Rattle.pb_store_soundness.specs.Records.{ends_as_record, is_key, number_of, 
 use Rattle.pb_store.specs.Folder.{number_in, or_zero}
 use Rattle.pb_store.specs.Looking.{looked_up_to}
 
--- two texts as a pair, if both are there
+-- the two texts as a pair, if both are there
 abbrev pub both_of : Option (List ℕ) → Option (List ℕ) → Option (List ℕ × List ℕ)
 both_of (Some relative) (Some bytes) = Some (relative, bytes)
 both_of (Some relative) None = None
 both_of None found = None
 
--- the file at a path, with its path relative to a folder
+-- the file at a path, with its path inside the folder, if it is below the folder and exists
 abbrev pub file_in : List ℕ → Map → List ℕ → Option (List ℕ × List ℕ)
 file_in folder files path = both_of (inside folder path) (finite.get files path)
 
--- the file is read if it is below the folder
+-- the call that reads a file, if the file is below the folder
 abbrev pub file_looked : List ℕ → Option (List ℕ) → List Call
 file_looked path None = []
 file_looked path (Some relative) = call.Read path ∷ []
 
--- the calls for the files at these paths, in their order
+-- the calls that read the files at these paths, in their order
 abbrev pub files_looked : List ℕ → List (List ℕ) → List Call
 files_looked folder paths = looked_up_to (λ path. true) (λ path. file_looked path (inside folder path)) paths
 
--- in a table of numbers, a needed unit has the number by which it is named
+-- the table has for the needed unit the number that is named with it
 abbrev pub IsHeld : List (List ℕ × Option ℕ) → (List ℕ × ℕ) → Type 0
 IsHeld numbers need = number_in numbers need.0 ≡ Some need.1
 
--- the needed units with their numbers from a table
+-- the needed units, each with the number that the table has for it
 abbrev pub numbered_by : List (List ℕ × Option ℕ) → List (List ℕ) → List (List ℕ × ℕ)
 numbered_by numbers needs = map (λ (need : List ℕ). (need, or_zero (number_in numbers need))) needs
 
--- the greatest run number that a record has or names; 0 if there is no record, or if the record has
--- no number
+-- the greatest run number that a record has or names, or 0 if there is no record or the record is of format 1
 abbrev pub greatest_said : Option (ℕ × List (List ℕ × ℕ)) → ℕ
 greatest_said None = 0
 greatest_said (Some (own, needs)) = max own (fold (λ g (pair : List ℕ × ℕ). max g pair.1) 0 needs)
@@ -57,19 +56,19 @@ abbrev pub own_said : Option (ℕ × List (List ℕ × ℕ)) → Option ℕ
 own_said None = None
 own_said (Some (own, needs)) = Some own
 
--- the table after a record with these parsed numbers was read at a path: it contains the record's
--- number if the path belongs to the record's key
+-- The table after the record at a path was read, given the numbers in the record. If the path is
+-- that of the record's key, the table then has the record's number.
 abbrev pub noted_told : List ℕ → List ℕ → Option Numbers → List (List ℕ × Option ℕ) → List (List ℕ × Option ℕ)
 noted_told folder path None numbers = numbers
 noted_told folder path (Some said) numbers = if is_key said.key && bytes_eq (place_of folder said.key) path then with_entry numbers said.key (own_said said.numbered) else numbers
 
--- the table after this record was read at a path: it contains the record's number if the path
--- belongs to the record's key
+-- The table after the record at a path was read. If the path is that of the record's key, the table
+-- then has the record's number.
 abbrev pub noted : List ℕ → List ℕ → Option Record → List (List ℕ × Option ℕ) → List (List ℕ × Option ℕ)
 noted folder path None numbers = numbers
 noted folder path (Some r) numbers = if is_key r.key && bytes_eq (place_of folder r.key) path then with_entry numbers r.key (number_of r) else numbers
 
--- the table after the file at a path was read, if the path has the name of a record; any other path
--- changes nothing
+-- The table after the file at a path was read, if it has the name of a record. Any other path
+-- leaves the table unchanged.
 abbrev pub noted_at : List ℕ → Map → List (List ℕ × Option ℕ) → List ℕ → List (List ℕ × Option ℕ)
 noted_at folder m numbers path = if ends_as_record path then noted folder path (read_text reading (finite.get m path)) numbers else numbers

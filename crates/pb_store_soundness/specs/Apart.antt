@@ -1,4 +1,4 @@
--- What other units do while a unit's child is in flight.
+-- What other units may do while a unit's child is in flight.
 use Rattle.std.specs.Prelude.{◌≡◌, ◌≢◌, ◌||◌, ℕ, Bool, true, List, Contains}
 use Rattle.pb_place_types.specs.Folders.{files_in}
 use Rattle.pb_place_types.specs.Paths.{is_path, is_at_or_below}
@@ -6,16 +6,16 @@ use Rattle.pb_place_types.specs.World.{World, ChangesOnly, seen_by}
 use Rattle.pb_place_types.specs.declared.command.Command.{Command}
 use Rattle.pb_store_soundness.specs.Records.{RecordParser, is_key, out_of, place_of, record_at}
 
--- a path of a unit: at or below its output folder, or at or below the path of its record
+-- a path belongs to a unit if it is at or below the unit's output folder or the path of its record
 abbrev pub is_of : List ℕ → List ℕ → List ℕ → Bool
 is_of folder key q = is_at_or_below (out_of folder key) q || is_at_or_below (place_of folder key) q
 
--- the folders that a command reads are those of other units
+-- each folder that the command reads is the output folder of another unit
 abbrev pub ReadsOthers : List ℕ → List ℕ → Command → Type 0
 ReadsOthers folder key c = (f : List ℕ) → Contains c.reads f → (v : List ℕ) × (is_key v ≡ true) × (v ≢ key) × (f ≡ out_of folder v)
 
--- A change at the paths of one unit leaves the records and files of all other units as they are. It also leaves the
--- view of each command that reads only folders of other units.
+-- A change at the paths of one unit leaves the records and files of all other units unchanged. The
+-- view of a command also stays unchanged, if it reads only folders of other units.
 abbrev pub OthersLaw : Type 0
 OthersLaw = (read : RecordParser) (folder key : List ℕ) (c : Command) (old new : World) → is_path folder ≡ true → is_key key ≡ true → is_at_or_below c.target folder ≡ true → ReadsOthers folder key c → ChangesOnly (is_of folder key) old new
     → (seen_by c new ≡ seen_by c old) × ((l : List ℕ) → l ≢ key → (record_at read folder new.files l ≡ record_at read folder old.files l)) × ((l : List ℕ) → is_key l ≡ true → l ≢ key → files_in (out_of folder l) new.files ≡ files_in (out_of folder l) old.files)

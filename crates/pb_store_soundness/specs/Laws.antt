@@ -1,4 +1,4 @@
--- What keeps a folder sound.
+-- Laws that say what keeps a folder sound.
 use Rattle.std.specs.Prelude.{◌≡◌, ℕ, true, List, Some, None, Contains}
 use Rattle.std.specs.FinMap as finite
 use Rattle.pb_place_types.specs.Folders.{files_in}
@@ -14,35 +14,36 @@ use Rattle.pb_store_soundness.specs.Sound.{Sound, IsTrueRecord}
 abbrev pub Unnamed : RecordMap → List ℕ → ℕ → Type 0
 Unnamed at key number = (other : List ℕ) (r : Record) → at other ≡ Some r → Contains (needs_of r) (key, number) → ⊥
 
--- what happened to a unit: no record counts for it; or its record and its files are unchanged; or it has a record for
--- which `Said` is true, with a number that no record named for it
+-- What became of a unit. No record counts for it; or its record and its files are unchanged; or it
+-- has a new record, of which `Said` is true. No record named the unit with the new record's number.
 pub data Became (read : RecordParser) (folder : List ℕ) (old new : Map) (Said : List ℕ → Record → Type 0) (key : List ℕ) : Type 0 where
   gone : record_at read folder new key ≡ None → Became read folder old new Said key
   stays : record_at read folder new key ≡ record_at read folder old key → files_in (out_of folder key) new ≡ files_in (out_of folder key) old → Became read folder old new Said key
   renewed : (r : Record) (number : ℕ) → record_at read folder new key ≡ Some r → number_of r ≡ Some number → Unnamed (record_at read folder old) key number → Said key r → Became read folder old new Said key
 
--- A folder stays sound if each record is gone, is unchanged, or is a true record with a number of
--- its own.
+-- A folder stays sound if each record is gone, is unchanged, or is a true record whose number no
+-- record named for its unit.
 abbrev pub StaysSound : Type 0
 StaysSound = (read : RecordParser) (judge : Judge) (child : Answers) (folder : List ℕ) (old new : Map)
     → ((key : List ℕ) → Became read folder old new (IsTrueRecord judge child folder (record_at read folder new) new) key) → Sound read judge child folder old → Sound read judge child folder new
 
--- It stays sound after a change outside the folder.
+-- A folder stays sound after a change outside the folder.
 abbrev pub OutsideLaw : Type 0
 OutsideLaw = (read : RecordParser) (judge : Judge) (child : Answers) (folder : List ℕ) (old new : Map) → ((q : List ℕ) → is_at_or_below folder q ≡ true → finite.get new q ≡ finite.get old q)
     → Sound read judge child folder old → Sound read judge child folder new
 
--- It stays sound after a change at or below the output folder of a unit without a record that counts.
+-- A folder stays sound after a change at or below the output folder of a unit for which no record counts.
 abbrev pub InOutputLaw : Type 0
 InOutputLaw = (read : RecordParser) (judge : Judge) (child : Answers) (folder : List ℕ) (old new : Map) (key : List ℕ) → is_path folder ≡ true → is_key key ≡ true
     → record_at read folder old key ≡ None → AgreeBut (is_at_or_below (out_of folder key)) old new → Sound read judge child folder old → Sound read judge child folder new
 
--- It stays sound if the text of a record is removed, or becomes one that does not count.
+-- A folder stays sound if the text of a record is removed, or becomes a text that does not count as a record.
 abbrev pub WithoutRecordLaw : Type 0
 WithoutRecordLaw = (read : RecordParser) (judge : Judge) (child : Answers) (folder : List ℕ) (old new : Map) (key : List ℕ) → is_path folder ≡ true → is_key key ≡ true
     → record_at read folder new key ≡ None → AgreeBut (is_at_or_below (place_of folder key)) old new → Sound read judge child folder old → Sound read judge child folder new
 
--- It stays sound if a true record of format 2 is written, with a number by which no record that counts names its unit.
+-- A folder stays sound if a true record of format 2 is written. No record that counts may name its
+-- unit with its number.
 abbrev pub PutLaw : Type 0
 PutLaw = (read : RecordParser) (judge : Judge) (child : Answers) (folder : List ℕ) (old new : Map) (key : List ℕ) (r : Record) (number : ℕ) → is_path folder ≡ true → is_key key ≡ true
     → record_at read folder new key ≡ Some r → number_of r ≡ Some number → Unnamed (record_at read folder old) key number → AgreeBut (is_at_or_below (place_of folder key)) old new

@@ -1,46 +1,48 @@
--- Run numbers: those that no record names, and the next one.
+-- Run numbers: which are in no record, and which is the next.
 use Rattle.std.specs.Prelude.{◌≡◌, ◌≢◌, ◌⊎◌, ◌<◌, ◌==◌, ◌+◌, if◌then◌else◌, ℕ, List, Option, Some, None, Contains}
 use Rattle.pb_record.specs.declared.record.Record.{Record}
 use Rattle.pb_store_soundness.specs.Records.{number_of, needs_of}
 use Rattle.pb_store_soundness.specs.Grounded.{RecordMap}
 
--- no record that counts has this number, or names a unit by it
+-- no record that counts has this number or names a unit with it
 abbrev pub NoneNames : RecordMap → ℕ → Type 0
 NoneNames at number = (other : List ℕ) (r : Record) → at other ≡ Some r → (number_of r ≢ Some number) × ((need : List ℕ) → Contains (needs_of r) (need, number) → ⊥)
 
--- A number that was taken and not yet used stays unused if the record of another unit is dropped.
--- It also stays unused if that record is replaced by one that has another number and names only
--- present records.
+-- A number that is in no record stays in no record if the record of another unit is dropped. The
+-- same is true if that record is replaced by one that has another number and names only records
+-- that are there.
 abbrev pub NumberWaitsLaw : Type 0
 NumberWaitsLaw = (old new : RecordMap) (key : List ℕ) (number : ℕ) → ((l : List ℕ) → l ≢ key → new l ≡ old l)
     → NoneNames old number → ((r : Record) → new key ≡ Some r → (number_of r ≢ Some number) × ((need : List ℕ) (n : ℕ) → Contains (needs_of r) (need, n) → (s : Record) × (old need ≡ Some s) × (number_of s ≡ Some n))) → NoneNames new number
 
--- the number after this one, if one is left: the last is the greatest number of 64 bits
+-- the number after this one, if one is left; the last is the greatest number of 64 bits
 abbrev pub after : ℕ → Option ℕ
 after n = if n == 0xffff_ffff_ffff_ffff then None else Some (n + 1)
 
--- a number is below the next one; if no number is left, each number is
+-- the number is below the next one; if no number is left, every number is
 abbrev pub IsBefore : Option ℕ → ℕ → Type 0
 IsBefore None n = Unit {0}
 IsBefore (Some next) n = n < next
 
--- all numbers that a record has or names are below the next one
+-- all numbers that the record has or names are below the next one
 pub record NamesBefore (next : Option ℕ) (r : Record) : Type 0 where
   pub own : (n : ℕ) → number_of r ≡ Some n → IsBefore next n
   pub named : (need : List ℕ) (n : ℕ) → Contains (needs_of r) (need, n) → IsBefore next n
 
--- the same for each record that counts
+-- all numbers that any record that counts has or names are below the next one
 abbrev pub IsAhead : RecordMap → Option ℕ → Type 0
 IsAhead at next = (key : List ℕ) (r : Record) → at key ≡ Some r → NamesBefore next r
 
--- It stays so if each record is gone, is unchanged, or has and names only numbers below the next one,
+-- The next number stays above all others if each record is gone, is unchanged, or has and names
+-- only numbers below the next one.
 abbrev pub StaysAheadLaw : Type 0
 StaysAheadLaw = (old new : RecordMap) (next : Option ℕ) → ((key : List ℕ) → (new key ≡ None) ⊎ ((new key ≡ old key) ⊎ ((r : Record) → new key ≡ Some r → NamesBefore next r))) → IsAhead old next → IsAhead new next
 
--- and if the next number is taken and the one after it is next.
+-- if the next number is taken and the one after it becomes the next, the new next number is above
+-- all others, too
 abbrev pub GivenAheadLaw : Type 0
 GivenAheadLaw = (at : RecordMap) (number : ℕ) → IsAhead at (Some number) → IsAhead at (after number) × IsBefore (after number) number
 
--- No record names the next number, and it is greater than the number of each record that counts.
+-- No record has or names the next number, and each record that counts has a number below it.
 abbrev pub NextIsNewLaw : Type 0
 NextIsNewLaw = (at : RecordMap) (number : ℕ) → IsAhead at (Some number) → NoneNames at number × ((key : List ℕ) (r : Record) (n : ℕ) → at key ≡ Some r → number_of r ≡ Some n → n < number)

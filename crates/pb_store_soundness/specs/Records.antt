@@ -1,4 +1,4 @@
--- Records as files beside the output folders of units.
+-- Records, which are files beside the output folders of units.
 use Rattle.std.specs.Prelude.{ℕ, Bool, not, ◌==◌, ◌&&◌, ◌-◌, if◌then◌else◌, codes, List, [], ◌++◌, length, drop, Option, Some, None}
 use Rattle.std.specs.FinMap as finite
 use Rattle.std.specs.List.{list_any}
@@ -11,22 +11,22 @@ use Rattle.pb_record.specs.declared.record.Needed.{Needed}
 use Rattle.pb_record.specs.declared.record.Needed.TheVariants.{Copies, Numbers}
 use Rattle.pb_record.specs.declared.record.Record.{Record}
 
--- the name of a record ends in `.record`
+-- the text ends in `.record`, as the names of records do
 abbrev pub ends_as_record : List ℕ → Bool
 ends_as_record name = bytes_eq (drop (length name - 7) name) (codes ".record")
 
--- a key: the name of a file or folder, of one part, that does not end as the name of a record
+-- a text is a key if it is the name of a file or folder, has no slash, and does not end in `.record`
 unfoldable pub is_key : List ℕ → Bool
 is_key key = is_name key && (not (list_any (λ b. b == slash) key) && not (ends_as_record key))
 
--- the output folder of the unit of a key (below, the path of its record)
+-- The output folder of the unit with this key. `place_of` is the path of its record.
 abbrev pub out_of : List ℕ → List ℕ → List ℕ
 out_of folder key = below folder key
 
 abbrev pub place_of : List ℕ → List ℕ → List ℕ
 place_of folder key = below folder (key ++ codes ".record")
 
--- a function from texts to records: none if a text is not that of a record
+-- A function from texts to records. For a text that is not the text of a record, the function has no record.
 abbrev pub RecordParser : Type 0
 RecordParser = List ℕ → Option Record
 
@@ -34,12 +34,12 @@ abbrev pub read_text : RecordParser → Option (List ℕ) → Option Record
 read_text read None = None
 read_text read (Some text) = read text
 
--- a record counts only for its own key: the key by which its file is named
+-- The record, if its own key is the key by which its file is named. Otherwise the record does not count.
 abbrev pub if_of_key : List ℕ → Option Record → Option Record
 if_of_key key None = None
 if_of_key key (Some r) = if bytes_eq r.key key then Some r else None
 
--- the record that counts for a key
+-- the record that counts for a key, if there is one
 unfoldable pub record_at : RecordParser → List ℕ → Map → List ℕ → Option Record
 record_at read folder files key = if is_key key then if_of_key key (read_text read (finite.get files (place_of folder key))) else None
 
@@ -47,7 +47,8 @@ record_at read folder files key = if is_key key then if_of_key key (read_text re
 abbrev pub records : List ℕ → World → List ℕ → Option Record
 records folder w = record_at reading folder w.files
 
--- a record's own number (below, the units that it names with their numbers); format 1 has neither
+-- A record's own number, if it has one. `numbered_in` are the units that it names with numbers. A
+-- record of format 1 has neither.
 abbrev pub number_in : Needed → Option ℕ
 number_in (Copies copies) = None
 number_in (Numbers number needs) = Some number

@@ -1,4 +1,4 @@
--- When a record is what its unit would answer, and what a new record rests on.
+-- When a record contains what its unit would answer, and on what a new record rests.
 use Rattle.std.specs.Prelude.{◌≡◌, ◌≢◌, ◌↔◌, ◌<◌, ℕ, true, List, Option, Some, None, Contains}
 use Rattle.pb_place_types.specs.Folders.{files_in}
 use Rattle.pb_place_types.specs.Paths.{is_path, is_at_or_below}
@@ -14,55 +14,57 @@ use Rattle.pb_store_soundness.specs.Grounded.{RecordMap, Grounded, Reaches}
 use Rattle.pb_store_soundness.specs.Sound.{Sound, Backs, HoldsCopies}
 use Rattle.pb_store_soundness.specs.Laws.{Unnamed}
 
--- the number of a record, if there is one
+-- the number of a record, if there is a record and it has a number
 abbrev pub number_if : Option Record → Option ℕ
 number_if None = None
 number_if (Some r) = number_of r
 
--- the needed units are as the record names them: by the present numbers of their records; in format 1, by their present
--- files
+-- The needed units are as the record names them. With numbers, these are the present numbers of
+-- their records. With copies, these are their present files.
 abbrev pub NeededNow : List ℕ → RecordMap → Map → Needed → Type 0
 NeededNow folder at files (Copies copies) = HoldsCopies folder copies files
 NeededNow folder at files (Numbers number needs) = (need : List ℕ) (n : ℕ) → Contains needs (need, n) → number_if (at need) ≡ Some n
 
--- nothing differs: a record counts, it is a record of the command, its inputs have their present
--- values, and the needed units are as the record names them
+-- Nothing differs from the record. The record counts and has this command. Its inputs have their
+-- present values, and the needed units are as the record names them.
 pub record IsSame (read : RecordParser) (folder key : List ℕ) (c : Command) (w : World) (r : Record) : Type 0 where
   pub stands : record_at read folder w.files key ≡ Some r
   pub asked : command_of r.asked ≡ c
   pub inputs : Agrees c.target r.inputs w
   pub needed : NeededNow folder (record_at read folder w.files) w.files r.needed
 
--- each unit whose folder is among these is grounded
+-- each unit whose output folder is among these is grounded
 abbrev pub AreGrounded : RecordMap → List ℕ → List (List ℕ) → Type 0
 AreGrounded at folder reads = (v : List ℕ) → Contains reads (out_of folder v) → (n : ℕ) × Grounded at v n
 
--- If nothing differs, and each unit that the command reads is grounded, then the unit is grounded if its record is of
--- format 2.
+-- If nothing differs from a unit's record of format 2, and each unit that the command reads is
+-- grounded, the unit is grounded.
 abbrev pub GroundsLaw : Type 0
 GroundsLaw = (read : RecordParser) (judge : Judge) (child : Answers) (folder key : List ℕ) (c : Command) (w : World) (r : Record) (number : ℕ) → Sound read judge child folder w.files
     → IsSame read folder key c w r → AreGrounded (record_at read folder w.files) folder c.reads → number_of r ≡ Some number → Grounded (record_at read folder w.files) key number
 
--- And the child's reply in the present view is the reply in the record, with the files in the
--- unit's folder.
+-- If nothing differs from a unit's record, and each unit that the command reads is grounded, the
+-- child would now reply what the record has. The files of the reply would be those in the unit's
+-- folder.
 abbrev pub ReuseLaw : Type 0
 ReuseLaw = (read : RecordParser) (judge : Judge) (child : Answers) (folder key : List ℕ) (c : Command) (w : World) (r : Record) → Sound read judge child folder w.files
     → IsSame read folder key c w r → AreGrounded (record_at read folder w.files) folder c.reads → Backs judge r (out_of folder key) (files_in (out_of folder key) w.files) (reply_in child c w)
 
--- the folder of a unit that is named, or a folder that the record of such a unit reads
+-- The folder `f` is the output folder of one of the named units, or the record of such a unit says
+-- that it reads `f`.
 pub data ReadByNeeds (at : RecordMap) (folder : List ℕ) (needs : List (List ℕ × ℕ)) (f : List ℕ) : Type 0 where
   own : (need : List ℕ) (n : ℕ) → Contains needs (need, n) → f ≡ out_of folder need → ReadByNeeds at folder needs f
   beyond : (need : List ℕ) (n : ℕ) (s : Record) → Contains needs (need, n) → at need ≡ Some s → Contains s.asked.reads f → ReadByNeeds at folder needs f
 
--- what a record names: units, each by the number of its record, which is less than the record's
--- own; the record's command reads the folders of these units, and the folders that their records
--- read
+-- What a record names is there. The record names each unit with the number of the unit's record,
+-- which is less than its own. The record's command reads exactly the folders of these units and the
+-- folders that their records read.
 pub record NamesNeeds (at : RecordMap) (folder : List ℕ) (r : Record) (number : ℕ) : Type 0 where
   pub stand : (need : List ℕ) (n : ℕ) → Contains (needs_of r) (need, n) → (s : Record) × (at need ≡ Some s) × (number_of s ≡ Some n)
   pub less : (need : List ℕ) (n : ℕ) → Contains (needs_of r) (need, n) → n < number
   pub reads : (f : List ℕ) → Contains r.asked.reads f ↔ ReadByNeeds at folder (needs_of r) f
 
--- a record was written, with a number by which no record named its unit, and nothing else has changed
+-- This record was written, and nothing else has changed. No record named its unit with its number.
 pub record IsPut (read : RecordParser) (folder key : List ℕ) (r : Record) (number : ℕ) (old new : Map) : Type 0 where
   pub path : is_path folder ≡ true
   pub key_is : is_key key ≡ true
@@ -71,18 +73,19 @@ pub record IsPut (read : RecordParser) (folder key : List ℕ) (r : Record) (num
   pub unnamed : Unnamed (record_at read folder old) key number
   pub only : AgreeBut (is_at_or_below (place_of folder key)) old new
 
--- A folder stays sound if a new record of format 2 contains the reply of an honest child in the present view, and the
--- present values of the inputs, whatever was there before.
+-- A folder stays sound if a new record of format 2 is put into it. The record must contain the
+-- reply of an honest child in the present world, and the present values of the inputs. What it
+-- names must be there.
 abbrev pub RenewLaw : Type 0
 RenewLaw = (read : RecordParser) (judge : Judge) (child : Answers) (folder key : List ℕ) (w : World) (new : Map) (r : Record) (number : ℕ) → IsHonest judge child (command_of r.asked) w
     → Agrees r.asked.target r.inputs w → Backs judge r (out_of folder key) (files_in (out_of folder key) w.files) (reply_in child (command_of r.asked) w)
     → NamesNeeds (record_at read folder w.files) folder r number → IsPut read folder key r number w.files new → Sound read judge child folder w.files → Sound read judge child folder new
 
--- A grounded unit that does not reach another unit stays grounded if only the record of that other unit changes.
+-- If only the record of one unit changes, a grounded unit that does not reach this unit stays grounded.
 abbrev pub SparesLaw : Type 0
 SparesLaw = (old new : RecordMap) (key v : List ℕ) (n : ℕ) → ((l : List ℕ) → l ≢ key → new l ≡ old l) → Grounded old v n → v ≢ key → (Reaches old v key → ⊥) → Grounded new v n
 
--- A new record is grounded if the units that it names were, and its unit was not grounded before.
+-- A new record is grounded if the units that it names were grounded, and its own unit was not grounded before.
 abbrev pub PutGroundsLaw : Type 0
 PutGroundsLaw = (old new : RecordMap) (key : List ℕ) (r : Record) (number : ℕ) → ((l : List ℕ) → l ≢ key → new l ≡ old l) → new key ≡ Some r → number_of r ≡ Some number → ((n : ℕ) → Grounded old key n → ⊥)
     → ((need : List ℕ) (n : ℕ) → Contains (needs_of r) (need, n) → (n < number) × Grounded old need n) → Grounded new key number

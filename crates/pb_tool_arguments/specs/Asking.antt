@@ -21,17 +21,17 @@ use Rattle.pb_tool_arguments.specs.declared.here.Here.{Here}
 use Rattle.pb_tool_arguments.specs.declared.invocation.ArgumentsError.{ArgumentsError}
 use Rattle.pb_tool_arguments.specs.declared.invocation.ArgumentsError.TheVariants.{Help, Wrong, OutOfMemory}
 
--- whether an option without a value was given
+-- says whether an option that has no value was given
 pub record IsFlag (name : Text) (rows : List Row) (given : Bool) : Type 0 where
   pub absent : one_of name rows ≡ None → given ≡ false
   pub on : one_of name rows ≡ Some (codes "true") → given ≡ true
   pub off : one_of name rows ≡ Some (codes "false") → given ≡ false
 
--- the values of an option, in order
+-- the values that were given for an option, in order
 abbrev pub values_of : Text → List Row → List Text
 values_of name rows = unwrap_or (all_of name rows) []
 
--- `release` if `--release` was given, else the given profile, else `dev`
+-- `release` if `--release` was given, or else the given profile, or else `dev`
 abbrev pub profile_of : Bool → List Row → Text
 profile_of release rows = if release then codes "release" else unwrap_or (first_of (codes "profile") rows) (codes "dev")
 
@@ -39,38 +39,38 @@ profile_of release rows = if release then codes "release" else unwrap_or (first_
 abbrev pub HasTwoProfiles : List Row → Type 0
 HasTwoProfiles rows = IsFlag (codes "release") rows true × ((profile : Text) × (first_of (codes "profile") rows ≡ Some profile))
 
--- the profile was given in at most one way, and it is this one
+-- the profile is the one that was given, and at most one way of giving it was used
 abbrev pub IsProfile : List Row → Text → Type 0
 IsProfile rows profile =
     (release : Bool) × IsFlag (codes "release") rows release × (release ≡ true → first_of (codes "profile") rows ≡ None) × (profile ≡ profile_of release rows)
 
--- the text has only digits, it is this number, and the number is below 2 ^ 64
+-- the text has only digits, `n` is its number, and the number is below 2 ^ 64
 abbrev pub IsNumber : Text → ℕ → Type 0
 IsNumber text n = IsNumeral 10 text × (digits_value 10 text < 2 ^ 64) × (n ≡ digits_value 10 text)
 
--- how many units may be in flight at a time: the given number;
--- the number of processors if `default` was given; otherwise 1
+-- How many units may be in flight at a time: the given number, or the number of processors if
+-- `default` was given. Without `--jobs` the number is 1.
 abbrev pub IsJobs : ℕ → Option Text → ℕ → Type 0
 IsJobs processors None n = n ≡ 1
 IsJobs processors (Some text) n = (text ≡ codes "default") × (n ≡ processors) ⊎ IsNumber text n
 
--- `--jobs` was given with neither a number nor `default`
+-- the value of `--jobs` is neither a number nor `default`
 abbrev pub HasBadJobs : List Row → Type 0
 HasBadJobs rows = (text : Text) × (first_of (codes "jobs") rows ≡ Some text) × (text ≢ codes "default") × ((n : ℕ) → ¬ IsNumber text n)
 
--- the path of a build's manifest; `Cargo.toml` if none was given
+-- the path of a build's manifest, or `Cargo.toml` if none was given
 abbrev pub manifest_of : List Row → Text
 manifest_of rows = unwrap_or (first_of (codes "manifest-path") rows) (codes "Cargo.toml")
 
--- the path of a session's file
+-- the path of a session's file, or the empty text if none was given
 abbrev pub file_of : List Row → Text
 file_of rows = unwrap_or (first_of (codes "FILE") rows) []
 
--- the name to be explained
+-- the name that is to be explained, or the empty text if none was given
 abbrev pub name_of : List Row → Text
 name_of rows = unwrap_or (first_of (codes "NAME") rows) []
 
--- the options of a build, by what was given
+-- the options of a build are those that these values express
 pub record IsOptions (called : Text) (here : Here) (rows : List Row) (options : Options) : Type 0 where
   pub manifest : joined here.folder (manifest_of rows) ≡ Ok options.manifest
   pub packages : options.packages ≡ values_of (codes "package") rows
@@ -87,25 +87,25 @@ pub record IsOptions (called : Text) (here : Here) (rows : List Row) (options : 
   pub tool : options.tool ≡ unwrap_or (first_of (codes "tool") rows) called
   pub jobs : IsJobs here.processors (first_of (codes "jobs") rows) options.jobs
 
--- a status line is shown if standard error is a terminal or `--progress` was given, but not if
--- `--quiet` was given
+-- A status line is shown if standard error is a terminal or `--progress` was given, and `--quiet`
+-- was not given.
 abbrev pub ShowsProgress : Here → List Row → Bool → Type 0
 ShowsProgress here rows progress =
     (asked quiet : Bool) × IsFlag (codes "progress") rows asked × IsFlag (codes "quiet") rows quiet × (progress ≡ ((here.is_terminal || asked) && not quiet))
 
--- the counts come at the end if standard error is a terminal and `--quiet` was not given
+-- the counts are shown at the end if standard error is a terminal and `--quiet` was not given
 abbrev pub ShowsCounts : Here → List Row → Bool → Type 0
 ShowsCounts here rows counts = (quiet : Bool) × IsFlag (codes "quiet") rows quiet × (counts ≡ (here.is_terminal && not quiet))
 
--- whether levels have colours, by the value of an option: always, never, or else as without the
--- option
+-- Says whether levels have colours. The option's value may be `always` or `never`. With any other
+-- value, or without the option, levels have colours if `shows` is true.
 abbrev pub IsColored : Bool → Option Text → Bool → Type 0
 IsColored shows None colors = colors ≡ shows
 IsColored shows (Some text) colors =
     (text ≡ codes "always" → colors ≡ true) × (text ≡ codes "never" → colors ≡ false)
     × (text ≢ codes "always" → text ≢ codes "never" → colors ≡ shows)
 
--- what is shown of a build besides its message lines
+-- what is shown of a build besides its message lines is what these values express
 pub record IsShown (here : Here) (rows : List Row) (shown : Shown) : Type 0 where
   pub explain : IsFlag (codes "explain") rows shown.explain
   pub render : IsFlag (codes "render") rows shown.render
@@ -114,21 +114,21 @@ pub record IsShown (here : Here) (rows : List Row) (shown : Shown) : Type 0 wher
   pub counts : ShowsCounts here rows shown.counts
   pub colors : IsColored here.shows_colors (first_of (codes "color") rows) shown.colors
 
--- the form in which a plan is printed: JSON or Graphviz if that form was given, else lines
+-- the form in which a plan is printed: JSON or Graphviz if this form was given, and otherwise lines
 abbrev pub IsForm : List Row → PlanForm → Type 0
 IsForm rows Lines = IsFlag (codes "json") rows false × IsFlag (codes "dot") rows false
 IsForm rows Json = IsFlag (codes "json") rows true × IsFlag (codes "dot") rows false
 IsForm rows Dot = IsFlag (codes "json") rows false × IsFlag (codes "dot") rows true
 
--- both forms were given
+-- both forms of a plan were given
 abbrev pub HasTwoForms : List Row → Type 0
 HasTwoForms rows = IsFlag (codes "json") rows true × IsFlag (codes "dot") rows true
 
--- whether a profile was given, by `--release` or by `--profile`
+-- says whether a profile was given, by `--release` or by `--profile`
 abbrev pub NamesProfile : List Row → Bool → Type 0
 NamesProfile rows named = (release : Bool) × IsFlag (codes "release") rows release × (named ≡ (release || is_some (first_of (codes "profile") rows)))
 
--- a subcommand with these values requests this
+-- the subcommand with these values requests this
 abbrev pub AsksBy : Text → Here → Option (Text × List Row) → Invocation → Type 0
 AsksBy tool here given (Build options shown) = (rows : List Row) × (given ≡ Some (codes "build", rows)) × IsFlag (codes "dry-run") rows false × IsOptions tool here rows options × IsShown here rows shown
 AsksBy tool here given (Preview options) = (rows : List Row) × (given ≡ Some (codes "build", rows)) × IsFlag (codes "dry-run") rows true × IsOptions tool here rows options
@@ -137,23 +137,24 @@ AsksBy tool here given (Plan options form) = (rows : List Row) × (given ≡ Som
 AsksBy tool here given (Clean options one_profile) = (rows : List Row) × (given ≡ Some (codes "clean", rows)) × IsOptions tool here rows options × NamesProfile rows one_profile
 AsksBy tool here given (Explain name) = (rows : List Row) × (given ≡ Some (codes "explain", rows)) × (name ≡ name_of rows)
 
--- the first word
+-- the first word of a command line, which is how the program was called
 abbrev pub tool_of : List Text → Text
 tool_of [] = []
 tool_of (word ∷ words) = word
 
--- the description of the command line accepts the words: `clap` finds no fault with them, and they do not request help
+-- The description of the command line accepts the words. `clap` finds no fault with them, and they
+-- do not request help.
 abbrev pub IsTaken : Choices → List Text → Type 0
 IsTaken choices words = fault_of (program choices) words ≡ []
 
--- the words request this, by the description of the command line
+-- the words request this, according to the description of the command line
 abbrev pub Asks : List Text → Here → Invocation → Type 0
 Asks words here asked = (choices : Choices) × AreChoices choices × IsTaken choices words × AsksBy (tool_of words) here (subcommand_of (program choices) words) asked
 
--- Why the words request nothing.
+-- Why words request nothing.
 
--- the texts that are reported: for a path with byte 0; for two profiles; for jobs that are no
--- number; and for a command that is no build, no session and no explanation
+-- The texts that are reported for wrong words. There is one for byte 0 in a path, for two profiles,
+-- for wrong jobs, for two forms of a plan, and for an unknown command.
 abbrev pub path_told : Text
 path_told = codes "error: a path has byte 0\n"
 
@@ -169,21 +170,23 @@ forms_told = codes "error: the argument '--json' cannot be used with '--dot'\n"
 abbrev pub command_told : Text
 command_told = codes "error: neither `build`, `session`, `explain`, `plan` nor `clean`\n"
 
--- why a build with these values requests nothing, and the text that is reported. The first of these
--- counts: the path of its manifest has byte 0; two profiles are given; the jobs are no number.
+-- Why a build with these values requests nothing, and the text that is reported. The first of these
+-- reasons counts. The path of its manifest has byte 0; two profiles are given; the jobs are no
+-- number.
 pub data BuildsWrongly (folder : Text) (rows : List Row) (text : Text) : Type 0 where
   bad_manifest : (fault : PathFault) (bad : joined folder (manifest_of rows) ≡ Err fault) (told : text ≡ path_told) → BuildsWrongly folder rows text
   two_profiles : (path : Text) (good : joined folder (manifest_of rows) ≡ Ok path) (both : HasTwoProfiles rows) (told : text ≡ profiles_told) → BuildsWrongly folder rows text
   bad_jobs : (path profile : Text) (good : joined folder (manifest_of rows) ≡ Ok path) (one : IsProfile rows profile) (bad : HasBadJobs rows) (told : text ≡ jobs_told) → BuildsWrongly folder rows text
 
--- why a plan with these values requests nothing. The first of these counts: two forms are given;
--- its options are wrong.
+-- Why a plan with these values requests nothing, and the text that is reported. The first of these
+-- reasons counts. Two forms are given; or its options are wrong as those of a build.
 pub data PlansWrongly (folder : Text) (rows : List Row) (text : Text) : Type 0 where
   two_forms : (both : HasTwoForms rows) (told : text ≡ forms_told) → PlansWrongly folder rows text
   bad_options : (form : PlanForm) (one : IsForm rows form) (wrong : BuildsWrongly folder rows text) → PlansWrongly folder rows text
 
--- why a subcommand with these values requests nothing, and the text that is reported: it is such a build, plan or
--- removal; the path of a session's file has byte 0; or it is none of the five
+-- Why a subcommand with these values requests nothing, and the text that is reported. A build, plan
+-- or removal has wrong values; or a session's path has byte 0; or the subcommand is none of the
+-- five.
 pub data AsksWrongly (folder : Text) (given : Option (Text × List Row)) (text : Text) : Type 0 where
   bad_build : (rows : List Row) (build : given ≡ Some (codes "build", rows)) (wrong : BuildsWrongly folder rows text) → AsksWrongly folder given text
   bad_plan : (rows : List Row) (plan : given ≡ Some (codes "plan", rows)) (wrong : PlansWrongly folder rows text) → AsksWrongly folder given text
@@ -192,14 +195,14 @@ pub data AsksWrongly (folder : Text) (given : Option (Text × List Row)) (text :
   no_command : (no_build : option_map (λ p. p.0) given ≢ Some (codes "build")) (no_plan : option_map (λ p. p.0) given ≢ Some (codes "plan")) (no_clean : option_map (λ p. p.0) given ≢ Some (codes "clean"))
       (no_session : option_map (λ p. p.0) given ≢ Some (codes "session")) (no_explain : option_map (λ p. p.0) given ≢ Some (codes "explain")) (told : text ≡ command_told) → AsksWrongly folder given text
 
--- `clap` found no fault: help or the version is requested, or there are no words
+-- an error of this kind is no fault of the words: help or the version is requested, or there are no words
 abbrev pub is_help : ErrorKind → Bool
 is_help kind.DisplayHelp = true
 is_help kind.DisplayVersion = true
 is_help kind.DisplayHelpOnMissingArgumentOrSubcommand = true
 is_help _ = false
 
--- help or the version is requested, or there are no words
+-- the words request help or the version, or there are no words
 abbrev pub AsksForHelp : Choices → List Text → Type 0
 AsksForHelp choices words = (found : ErrorKind) × (is_help found ≡ true) × IsAmong found (fault_of (program choices) words)
 
@@ -207,9 +210,9 @@ AsksForHelp choices words = (found : ErrorKind) × (is_help found ≡ true) × I
 abbrev pub IsRefused : Choices → List Text → Type 0
 IsRefused choices words = (found : ErrorKind) × (is_help found ≡ false) × IsAmong found (fault_of (program choices) words)
 
--- why the words request nothing, and the text that is reported; we promise nothing about the texts
+-- Why the words request nothing, and the text that is reported. We promise nothing about the texts
 -- of `clap`. Wrong values are reported only for words that `clap` accepts, so never if help is
--- requested
+-- requested.
 abbrev pub Unasks : List Text → Text → ArgumentsError → Type 0
 Unasks words folder (Help text) = (choices : Choices) × AreChoices choices × AsksForHelp choices words
 Unasks words folder (Wrong text) = (choices : Choices) × AreChoices choices × (IsRefused choices words ⊎ IsTaken choices words × AsksWrongly folder (subcommand_of (program choices) words) text)

@@ -1,4 +1,4 @@
--- The options of `pb_tool`, as they are described to `clap`.
+-- How the options of `pb_tool` are described to `clap`.
 use Rattle.std.specs.Prelude.{◌≡◌, codes, List, [], ◌∷◌, Some, map, true}
 use Rattle.clap.specs.Walk.{Rule, Text}
 use Rattle.clap.specs.Simple.{App, new_app, new_rule, with_rule, with_subcommand}
@@ -6,81 +6,81 @@ use Rattle.clap.specs.declared.builder.action.ArgAction.TheVariants.{SetTrue, Ap
 use Rattle.clap.specs.declared.builder.value_parser.ValueParser.{ValueParser}
 use Rattle.clap.specs.declared.builder.value_parser.ValueParser.TheVariants.{Names}
 
--- an option without a value
+-- an option that has no value
 abbrev pub flag : Text → Rule
 flag name = record (new_rule name) { long = Some name; action = Some SetTrue }
 
--- an option with a value
+-- an option that has a value
 abbrev pub option : Text → Rule
 option name = record (new_rule name) { long = Some name; value_names = 1 }
 
--- an option that may be given more than once, each time with a value
+-- an option that has a value and may be given more than once
 abbrev pub options : Text → Rule
 options name = record (option name) { action = Some Append }
 
--- the options that choose which part of the workspace is built
+-- the options that choose which packages and targets are built
 abbrev pub selection : List Rule
 selection =
     record (options (codes "package")) { short = Some 112 }
     ∷ flag (codes "workspace") ∷ flag (codes "lib") ∷ flag (codes "bins") ∷ options (codes "bin") ∷ []
 
--- the options for the features that are on, and for how the workspace is compiled
+-- the options that choose the features, and the profile
 abbrev pub features : List Rule
 features =
     record (options (codes "features")) { short = Some 70 }
     ∷ flag (codes "all-features") ∷ flag (codes "no-default-features")
     ∷ record (flag (codes "release")) { short = Some 114 } ∷ option (codes "profile") ∷ []
 
--- the option for how many units are in flight at a time
+-- the option that says how many units may be in flight at a time
 abbrev pub at_one_time : List Rule
 at_one_time = record (option (codes "jobs")) { short = Some 106 } ∷ []
 
--- the options for what is shown besides the messages
+-- the options that say what is shown besides the message lines
 abbrev pub telling : ValueParser → List Rule
 telling colors =
     flag (codes "explain") ∷ flag (codes "dry-run") ∷ flag (codes "render") ∷ record (flag (codes "verbose")) { short = Some 118 }
     ∷ flag (codes "progress") ∷ record (flag (codes "quiet")) { short = Some 113 }
     ∷ record (option (codes "color")) { parser = Some colors } ∷ []
 
--- the options for what a command reads, and for the folder of all that is made
+-- the options for the manifest and for the target folder
 abbrev pub places : List Rule
 places = option (codes "manifest-path") ∷ option (codes "target-dir") ∷ []
 
--- the options for the form of messages, for the runner, and for the tool that children see
+-- the options for the form of messages, for the runner, and for how children see the tool
 abbrev pub children : ValueParser → List Rule
 children formats = record (option (codes "message-format")) { parser = Some formats } ∷ option (codes "runner") ∷ option (codes "tool") ∷ []
 
--- options of cargo that need no work here: nothing is downloaded, and there is no lock file
+-- Options of cargo that have no effect here. Nothing is downloaded, and there is no lock file.
 abbrev pub without_effect : List Rule
 without_effect = flag (codes "locked") ∷ flag (codes "offline") ∷ flag (codes "frozen") ∷ []
 
--- What the values of two options may be.
+-- Which values two options may have.
 pub record Choices : Type 0 where
-  -- the form of messages
+  -- the forms that messages may have
   pub formats : ValueParser
-  -- when colours are used
+  -- the values that say when colours are used
   pub colors : ValueParser
 
--- a value may be one of these texts
+-- the option's value must be one of these texts
 abbrev pub IsOneOf : List Text → ValueParser → Type 0
 IsOneOf texts (Names names) = map (λ name. name.now) names.now ≡ texts
 IsOneOf texts _ = ⊥
 
--- JSON is the only form; colours are used always, never, or where they are shown
+-- The only form of messages is JSON. Colours are used always, never, or where they are shown.
 pub record AreChoices (choices : Choices) : Type 0 where
   pub formats : IsOneOf (codes "json" ∷ []) choices.formats
   pub colors : IsOneOf (codes "auto" ∷ codes "always" ∷ codes "never" ∷ []) choices.colors
 
--- the app with more rules, one after another
+-- the command after these rules are added to it one by one
 abbrev pub with_rules : List Rule → App → App
 with_rules [] app = app
 with_rules (rule ∷ rules) app = with_rules rules (with_rule app rule)
 
--- a command with the options that choose what is built, and how
+-- the command after the options are added that choose what is built, and how
 abbrev pub choosing : App → App
 choosing app = with_rules features (with_rules selection app)
 
--- `pb_tool build`
+-- the subcommand `pb_tool build`
 abbrev pub build : Choices → App
 build choices = with_rules without_effect (with_rules (children choices.formats) (with_rules places (with_rules (telling choices.colors) (with_rules at_one_time (choosing (new_app (codes "build")))))))
 
@@ -88,33 +88,33 @@ build choices = with_rules without_effect (with_rules (children choices.formats)
 abbrev pub forms : List Rule
 forms = flag (codes "json") ∷ flag (codes "dot") ∷ []
 
--- `pb_tool plan`
+-- the subcommand `pb_tool plan`
 abbrev pub plan : App
 plan = with_rules forms (with_rules places (choosing (new_app (codes "plan"))))
 
--- the options that choose what is removed from a target folder: they name packages and a profile
+-- the options that choose which packages and which profile are removed from a target folder
 abbrev pub removal : List Rule
 removal =
     record (options (codes "package")) { short = Some 112 }
     ∷ record (flag (codes "release")) { short = Some 114 } ∷ option (codes "profile") ∷ []
 
--- `pb_tool clean`
+-- the subcommand `pb_tool clean`
 abbrev pub clean : App
 clean = with_rules places (with_rules removal (new_app (codes "clean")))
 
--- `pb_tool session FILE`
+-- the subcommand `pb_tool session FILE`
 abbrev pub session : App
 session = with_rule (new_app (codes "session")) record (new_rule (codes "FILE")) { required = true }
 
--- `pb_tool explain NAME`
+-- the subcommand `pb_tool explain NAME`
 abbrev pub explain : App
 explain = with_rule (new_app (codes "explain")) record (new_rule (codes "NAME")) { required = true }
 
--- a command that has a version and requires a subcommand; without any words it shows help
+-- the command, but it has a version and requires a subcommand; without any words it shows help
 abbrev pub wanting : App → App
 wanting app = record app { top = record app.top { has_version = true; arg_required_else_help = true; subcommand_required = true } }
 
--- the program, which requires one of the three subcommands
+-- the program, which requires one of its five subcommands
 abbrev pub program : Choices → App
 program choices =
     with_subcommand (with_subcommand (with_subcommand (with_subcommand (with_subcommand (wanting (new_app (codes "pb_tool"))) (build choices).top) plan.top) clean.top) session.top) explain.top

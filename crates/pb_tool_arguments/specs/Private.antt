@@ -1,5 +1,5 @@
--- What private functions of the command line promise to one another. A reader who wants to know
--- what words request does not need this file.
+-- What private functions of the command line promise to each other. Nobody needs this file to know
+-- what words request.
 use Rattle.std.specs.Prelude.{◌≡◌, ◌≢◌, true, false, List}
 use Rattle.clap.specs.Walk.{Text}
 use Rattle.clap.specs.declared.error.kind.ErrorKind.{ErrorKind}
@@ -9,19 +9,19 @@ use Rattle.pb_tool_arguments.specs.Description.{AreChoices, Choices}
 use Rattle.pb_tool_arguments.specs.declared.invocation.ArgumentsError.{ArgumentsError}
 use Rattle.pb_tool_arguments.specs.declared.invocation.ArgumentsError.TheVariants.{Help, Wrong, OutOfMemory}
 
--- the error is not `Help`; if it is `Wrong`, `why` is true of its text
+-- the error does not show help; if the words are wrong, `why` is true of the text
 abbrev pub ToldWrong : (Text → Type 0) → ArgumentsError → Type 0
 ToldWrong why (Help text) = ⊥
 ToldWrong why (Wrong text) = why text
 ToldWrong why OutOfMemory = Unit {0}
 
--- an error of this kind is reported in this way
+-- an error of this kind may be reported in this way
 abbrev pub TellsKind : ErrorKind → ArgumentsError → Type 0
 TellsKind k (Help text) = is_help k ≡ true
 TellsKind k (Wrong text) = (is_help k ≡ false) × (k ≢ kind.OutOfMemory)
 TellsKind k OutOfMemory = Unit {0}
 
--- the description does not accept the words
+-- the description of the command line does not accept the words
 abbrev pub RefusedBy : List Text → ArgumentsError → Type 0
 RefusedBy words (Help text) = (choices : Choices) × AreChoices choices × AsksForHelp choices words
 RefusedBy words (Wrong text) = (choices : Choices) × AreChoices choices × IsRefused choices words

@@ -1,5 +1,5 @@
--- What a removal does, in three steps: it finds the target folder, lists what is in the folders of its profiles, and
--- removes what is chosen.
+-- What a removal does, in three steps. First the target folder is found. Then what is in the
+-- folders of the profiles is listed. Then what is chosen is removed.
 use Rattle.std.specs.Prelude.{◌≡◌, ◌≢◌, ℕ, ◌==◌, ◌&&◌, Bool, true, false, not, if◌then◌else◌, unwrap_or, codes, length, List, [], ◌∷◌, ◌++◌, Option, Some, None, Result, Ok, Err, IfOk, IfErr, OnOk, OnErr, IsTrue}
 use Rattle.std.specs.FinMap as finite
 use Rattle.std.specs.Str.{bytes_eq}
@@ -20,7 +20,7 @@ use Rattle.pb_tool_clean.specs.declared.looking.Listed.{Listed}
 
 -- The target folder, as a build finds it.
 
--- a variable that is empty counts as absent
+-- the text of a variable; an empty text counts as none
 abbrev pub set_text : Option (List ℕ) → Option (List ℕ)
 set_text None = None
 set_text (Some text) = if length text == 0 then None else Some text
@@ -29,38 +29,37 @@ abbrev pub path_or : List ℕ → Result (List ℕ) PathFault → List ℕ
 path_or other (Ok path) = path
 path_or other (Err fault) = other
 
--- the path that a text means, from the root if it is relative; the other path if there is no text,
--- or if the text has byte 0
+-- The path that a text spells; a relative text starts at the root. If there is no text, or it has
+-- byte 0, it is the other path.
 abbrev pub told_or : List ℕ → List ℕ → Option (List ℕ) → List ℕ
 told_or root other None = other
 told_or root other (Some text) = path_or other (joined root text)
 
--- the folder of `--target-dir`, else the folder of `CARGO_TARGET_DIR`, else `target` in the folder
+-- the folder of `--target-dir`, or else that of `CARGO_TARGET_DIR`, or else `target` in the folder
 -- of the manifest
 abbrev pub target_of : Options → Map → List ℕ
 target_of options variables =
     let root = folder_of options.manifest in
     told_or root (told_or root (below root (codes "target")) (set_text (finite.get variables (codes "CARGO_TARGET_DIR")))) options.target_dir
 
--- What is in the folders of its profiles.
+-- What is in the folders of the profiles.
 
 abbrev pub listed_in : List ℕ → World → Listed
 listed_in target w = record { files = files_of (profiles_of target w) w; folders = folders_of (profiles_of target w) w }
 
 -- What is removed.
 
--- all that is chosen: records first
+-- all paths that are chosen: first those of records, and then those of folders
 abbrev pub chosen_of : Choice → Listed → List (List ℕ)
 chosen_of choice listed = records_among choice listed.files ++ folders_among choice listed.folders
 
--- all that is at these paths is removed, and nothing else; a failure ends the removal at one of
--- them
+-- Exactly what is at or below these paths is removed. A failure ends the removal at one of them.
 pub record RemovesEach (is_modelled : Bool) (paths : List (List ℕ)) (result : Result (Unit {0}) CleanFault) (old new : Moment) : Type 0 where
   pub removes : Removes (is_among paths) result old new
   pub gone : IsTrue is_modelled → OnOk result (new.world ≡ removed_each paths old.world)
   pub cut : IsTrue is_modelled → OnErr result (CutsEach paths old.world new.world)
 
--- no file, or the tag alone
+-- there is no file, or the tag is the only file
 abbrev pub is_tag_alone : List ℕ → List (List ℕ) → Bool
 is_tag_alone tag [] = true
 is_tag_alone tag (path ∷ []) = bytes_eq path tag
@@ -74,19 +73,19 @@ is_bare listed = are_none listed.files listed.folders
     are_none [] [] = true
     are_none files folders = false
 
--- Only its tag is left in a target folder: nothing is in the folders of its profiles, and there is
--- no other file. On a machine, a folder without files, or another target folder, is only in the
--- first list.
+-- Only its tag is left in the target folder. Nothing is in the folders of its profiles, and the tag
+-- is its only file, if it has one. On a machine, only the first list shows a folder without files,
+-- or another target folder.
 abbrev pub is_emptied : List ℕ → World → Bool
 is_emptied target w = is_bare (listed_in target w) && is_tag_alone (tag_in target) (listed target w)
 
--- if only its tag is left in a target folder, the whole folder is removed; else nothing is removed
+-- if only its tag is left in the target folder, the whole folder is removed; otherwise nothing is removed
 pub record RemovesRest (is_modelled : Bool) (target : List ℕ) (result : Result (Unit {0}) CleanFault) (old new : Moment) : Type 0 where
   pub removes : Removes (is_at_or_below target) result old new
   pub kept : IsTrue is_modelled → is_emptied target old.world ≡ false → new.world ≡ old.world
   pub gone : IsTrue is_modelled → is_emptied target old.world ≡ true → OnOk result (new.world ≡ removed target old.world)
 
--- all is chosen: no package and no profile is named
+-- everything is chosen: neither a package nor a profile is named
 abbrev pub is_whole : Choice → Bool
 is_whole choice = whole_of choice.packages choice.profile
   where
@@ -94,14 +93,14 @@ is_whole choice = whole_of choice.packages choice.profile
     whole_of [] None = true
     whole_of packages profile = false
 
--- what follows after the chosen part was removed: a fault ends the removal; else the rest is
--- removed if all was chosen
+-- What follows after the chosen part was removed. A fault ends the removal. Otherwise, if
+-- everything was chosen, the rest is removed.
 abbrev pub GoesOn : Bool → Bool → List ℕ → Result (Unit {0}) CleanFault → Result (Unit {0}) CleanFault → Moment → Moment → Type 0
 GoesOn is_modelled true target (Ok done) result old new = RemovesRest is_modelled target result old new
 GoesOn is_modelled false target (Ok done) result old new = (result ≡ Ok done) × (new ≡ old)
 GoesOn is_modelled whole target (Err fault) result old new = (result ≡ Err fault) × (new ≡ old)
 
--- the chosen part of what was listed is removed, and then the rest if all was chosen
+-- the chosen part of what was listed is removed, and then the rest, if everything was chosen
 pub record Cleans (is_modelled : Bool) (choice : Choice) (listed : Listed) (result : Result (Unit {0}) CleanFault) (old new : Moment) : Type 0 where
   pub first : Result (Unit {0}) CleanFault
   pub mid : Moment
@@ -113,8 +112,7 @@ abbrev pub CleansListed : Bool → Choice → Result Listed CleanFault → Resul
 CleansListed is_modelled choice (Ok listed) result old new = Cleans is_modelled choice listed result old new
 CleansListed is_modelled choice (Err fault) result old new = (result ≡ Err fault) × (new ≡ old)
 
--- the contents of the folders of the profiles were listed, and the chosen part of the list is
--- removed
+-- the content of the profiles' folders was listed, and then the chosen part of it was removed
 pub record CleansNow (is_modelled : Bool) (choice : Choice) (result : Result (Unit {0}) CleanFault) (old new : Moment) : Type 0 where
   pub listed : Result Listed CleanFault
   pub mid : Moment
@@ -122,23 +120,23 @@ pub record CleansNow (is_modelled : Bool) (choice : Choice) (result : Result (Un
   pub is : IsTrue is_modelled → IfOk listed (λ l. l ≡ listed_in choice.target old.world)
   pub cleans : CleansListed is_modelled choice listed result mid new
 
--- What is found first.
+-- What is found before anything is removed.
 
--- all of a target folder
+-- the choice of everything in a target folder
 abbrev pub all_of : List ℕ → Choice
 all_of target = record { target = target; packages = []; profile = None }
 
--- a choice without its packages: all are chosen
+-- the same choice, but of all packages
 abbrev pub of_all_packages : Choice → Choice
 of_all_packages choice = record choice { packages = [] }
 
--- the folder in which a choice looks: the folder of the profile, if a profile is named, else the
--- target folder
+-- the folder in which a choice looks: that of the profile, if one is named, and otherwise the target folder
 abbrev pub looked_in : Choice → List ℕ
 looked_in choice = unwrap_or choice.profile choice.target
 
--- The first of these that was not listed: any record or unit's folder; one under the profile; one
--- of the packages. If something that is chosen was listed, nothing is missing.
+-- What is missing: the first of three things that was not listed. The three are any record or
+-- unit's folder, one under the profile, and one of the packages. If something that is chosen was
+-- listed, nothing is missing.
 abbrev pub IsMissing : Choice → Listed → Option Wanted → Type 0
 IsMissing choice listed (Some wanted.All) = chosen_of (all_of choice.target) listed ≡ []
 IsMissing choice listed (Some wanted.OfProfile) =
@@ -147,42 +145,41 @@ IsMissing choice listed (Some wanted.OfPackages) =
     (chosen_of (of_all_packages choice) listed ≢ []) × (chosen_of choice listed ≡ [])
 IsMissing choice listed None = chosen_of choice listed ≢ []
 
--- the folder that a refusal names
+-- the folder that a refusal names, given what is missing
 abbrev pub folder_for : Wanted → Choice → List ℕ
 folder_for wanted.All choice = choice.target
 folder_for some choice = looked_in choice
 
--- if something of a choice was listed, the choice stays as it is; else it is refused
+-- if something that is chosen was listed, the choice stays as it is; otherwise it is refused
 abbrev pub Judges : Choice → Listed → Result Choice CleanFault → Type 0
 Judges choice listed (Ok judged) = (judged ≡ choice) × IsMissing choice listed None
 Judges choice listed (Err (Nothing some folder)) = IsMissing choice listed (Some some) × (folder ≡ folder_for some choice)
 Judges choice listed (Err OutOfMemory) = Unit {0}
 Judges choice listed (Err fault) = ⊥
 
--- the folder of the profile that is named, if that folder has a name; no folder if all profiles are
--- chosen
+-- The folder of the named profile, which must have a name. If all profiles are chosen, there is no folder.
 abbrev pub IsProfile : List ℕ → List ℕ → Bool → Option (List ℕ) → Type 0
 IsProfile target name false profile = profile ≡ None
 IsProfile target name true profile = (is_relative (profile_folder name) ≡ true) × (profile ≡ Some (below target (profile_folder name)))
 
--- a profile is named, and its folder has no name
+-- a profile is named, and its folder would have no name
 abbrev pub HasNoFolder : Options → Bool → Type 0
 HasNoFolder options one_profile = (one_profile ≡ true) × (is_relative (profile_folder options.profile) ≡ false)
 
--- why a choice is refused: the folder of the profile has no name
+-- A choice is refused because the folder of its profile would have no name. Memory may also run out.
 abbrev pub RefusesChoice : Options → Bool → CleanFault → Type 0
 RefusesChoice options one_profile NoSuchProfile = HasNoFolder options one_profile
 RefusesChoice options one_profile OutOfMemory = Unit {0}
 RefusesChoice options one_profile fault = ⊥
 
--- what these options choose
+-- the choice is the one that these options express
 pub record Chooses (is_modelled : Bool) (options : Options) (one_profile : Bool) (w : World) (choice : Choice) : Type 0 where
   pub packages : choice.packages ≡ options.packages
   pub profile : IsProfile choice.target options.profile one_profile choice.profile
   pub target : IsTrue is_modelled → choice.target ≡ target_of options w.variables
 
--- why nothing is removed: nothing that the options choose exists; the folder of the profile has no
--- name; or a call failed
+-- Why nothing is removed. Nothing that the options choose exists; or the folder of the profile
+-- would have no name; or a call failed.
 abbrev pub Refuses : Bool → Options → Bool → World → Counts → Counts → CleanFault → Type 0
 Refuses is_modelled options one_profile w old new (Nothing some folder) =
     (choice : Choice) × Chooses is_modelled options one_profile w choice × (folder ≡ folder_for some choice)
@@ -190,7 +187,7 @@ Refuses is_modelled options one_profile w old new (Nothing some folder) =
 Refuses is_modelled options one_profile w old new NoSuchProfile = HasNoFolder options one_profile × NoneFailed old new
 Refuses is_modelled options one_profile w old new fault = NamesCall old new fault
 
--- the choice of the options was found, and something of it exists; or the choice is refused.
+-- The choice of the options was found, and something of it exists, or the choice is refused.
 -- Nothing has changed.
 pub record Finds (is_modelled : Bool) (options : Options) (one_profile : Bool) (result : Result Choice CleanFault) (old new : Moment) : Type 0 where
   pub looked : Looked old new

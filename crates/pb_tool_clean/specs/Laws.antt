@@ -1,4 +1,4 @@
--- Laws of what is removed.
+-- A law about what is removed.
 use Rattle.std.specs.Prelude.{◌≡◌, ◌⊎◌, ℕ, true, All, List}
 use Rattle.pb_place_types.specs.Paths.{is_below, last_part}
 use Rattle.pb_tool_clean.specs.Cleaning.{chosen_of}
@@ -6,11 +6,11 @@ use Rattle.pb_tool_clean.specs.Names.{is_record, is_unit, words_in}
 use Rattle.pb_tool_clean.specs.declared.choice.Choice.{Choice}
 use Rattle.pb_tool_clean.specs.declared.looking.Listed.{Listed}
 
--- a path below a target folder, whose last part is the name of a record or of a unit's folder
+-- the path is below the target folder, and its last part is the name of a record or of a unit's folder
 pub record IsMade (target path : List ℕ) : Type 0 where
   pub inside : is_below target path ≡ true
   pub name : (is_record (words_in (last_part path)) ≡ true) ⊎ (is_unit (words_in (last_part path)) ≡ true)
 
--- whatever a place lists, each chosen path is such a path
+-- Whatever a place lists, each chosen path is as `IsMade` says.
 abbrev pub ChosenAreMade : Type 0
 ChosenAreMade = (choice : Choice) (listed : Listed) → All (IsMade choice.target) (chosen_of choice listed)

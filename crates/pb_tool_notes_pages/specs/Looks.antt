@@ -1,9 +1,9 @@
--- What a second look does to a place.
+-- How a second look changes a place.
 use Rattle.std.specs.Prelude.{◌≡◌}
 use Rattle.pb_place_types.specs.At.{At}
 
--- only the counters of calls and of failures have changed: no file and no variable has, and no
--- child was started
+-- Nothing has changed but the counters of calls and of failures. No file and no variable has
+-- changed, and no child was started.
 pub record LooksAgain (old new : At) : Type 0 where
   pub world : new.world ≡ old.world
   pub most : new.most ≡ old.most

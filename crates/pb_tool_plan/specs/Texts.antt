@@ -1,11 +1,11 @@
--- The plan of a build as a text, in three forms (our own choice of forms).
+-- The plan of a build as a text. The text has three forms, which are our own choice.
 use Rattle.std.specs.Prelude.{ℕ, codes, List, [], ◌∷◌, ◌++◌, Option, Some, None, slice_get}
 use Rattle.std.specs.Fmt.{decimal}
 use Rattle.pb_json.specs.Json.{json_string}
 use Rattle.pb_unit.specs.declared.plan.Plan.{Plan}
 use Rattle.pb_unit.specs.declared.plan.Planned.{Planned}
 
--- the key of the unit at an index; empty if there is no such unit
+-- The key of a unit, or the empty text if there is no unit. `key_at` is the key of the unit at an index.
 abbrev pub key_in : Option Planned → List ℕ
 key_in None = []
 key_in (Some p) = p.key
@@ -15,17 +15,17 @@ key_at units place = key_in (slice_get units place)
 
 -- Lines.
 
--- the keys of the units at some indexes, each with a space before it
+-- the keys of the units at these indices, with a space before each
 abbrev pub spaced : List Planned → List ℕ → List ℕ
 spaced units [] = []
 spaced units (need ∷ needs) = codes " " ++ key_at units need ++ spaced units needs
 
--- a colon and these keys; nothing if there are none
+-- a colon and the keys of the units at these indices, or no text if there are none
 abbrev pub needed : List Planned → List ℕ → List ℕ
 needed units [] = []
 needed units (need ∷ needs) = codes ":" ++ spaced units (need ∷ needs)
 
--- `KEY`, or `KEY: NEED NEED`
+-- the line `KEY` or `KEY: NEED NEED` for a unit
 abbrev pub unit_line : List Planned → Planned → List ℕ
 unit_line units p = p.key ++ needed units p.needs ++ codes "\n"
 
@@ -33,23 +33,23 @@ abbrev pub unit_lines : List Planned → List Planned → List ℕ
 unit_lines units [] = []
 unit_lines units (p ∷ ps) = unit_line units p ++ unit_lines units ps
 
--- a line for each unit, in plan order: its key, and the keys of what it needs, in plan order
+-- a line for each unit, in plan order, with its key and the keys of what it needs, in plan order
 abbrev pub plan_lines : Plan → List ℕ
 plan_lines plan = unit_lines plan.planned plan.planned
 
 -- JSON.
 
--- the keys of the units at some indexes, as JSON strings, each with a comma before it
+-- the keys of the units at these indices as JSON strings, with a comma before each
 abbrev pub strings_rest : List Planned → List ℕ → List ℕ
 strings_rest units [] = []
 strings_rest units (need ∷ needs) = codes "," ++ json_string (key_at units need) ++ strings_rest units needs
 
--- the keys of the units at some indexes, as JSON strings, with commas between them
+-- the keys of the units at these indices as JSON strings, with commas between them
 abbrev pub strings : List Planned → List ℕ → List ℕ
 strings units [] = []
 strings units (need ∷ needs) = json_string (key_at units need) ++ strings_rest units needs
 
--- `{"unit":KEY,"level":N,"needs":[KEY,..]}`
+-- the object `{"unit":KEY,"level":N,"needs":[KEY,..]}` for a unit
 abbrev pub unit_object : List Planned → Planned → List ℕ
 unit_object units p = codes "{\"unit\":" ++ json_string p.key ++ codes ",\"level\":" ++ decimal p.level ++ codes ",\"needs\":[" ++ strings units p.needs ++ codes "]}"
 
@@ -61,22 +61,22 @@ abbrev pub objects : List Planned → List Planned → List ℕ
 objects units [] = []
 objects units (p ∷ ps) = unit_object units p ++ objects_rest units ps
 
--- one list with an object for each unit, in plan order, an object a line
+-- a JSON list with an object for each unit, in plan order, one object a line
 abbrev pub plan_json : Plan → List ℕ
 plan_json plan = codes "[\n" ++ objects plan.planned plan.planned ++ codes "\n]\n"
 
 -- A graph for Graphviz.
 
--- a key in quotation marks; it has only letters, digits, `-`, `_` and `.`, so nothing is escaped
+-- A key in quotation marks. A key has only letters, digits, `-`, `_` and `.`, so nothing is escaped.
 abbrev pub quoted : List ℕ → List ℕ
 quoted key = codes "\"" ++ key ++ codes "\""
 
--- an arrow from a unit to each unit that it needs
+-- an arrow from the unit with this key to each unit that it needs
 abbrev pub arrows : List Planned → List ℕ → List ℕ → List ℕ
 arrows units key [] = []
 arrows units key (need ∷ needs) = codes "  " ++ quoted key ++ codes " -> " ++ quoted (key_at units need) ++ codes ";\n" ++ arrows units key needs
 
--- a node, and its arrows
+-- the node of a unit, followed by its arrows
 abbrev pub unit_statements : List Planned → Planned → List ℕ
 unit_statements units p = codes "  " ++ quoted p.key ++ codes ";\n" ++ arrows units p.key p.needs
 
@@ -84,6 +84,6 @@ abbrev pub statements : List Planned → List Planned → List ℕ
 statements units [] = []
 statements units (p ∷ ps) = unit_statements units p ++ statements units ps
 
--- a node for each unit, in plan order, with its arrows, a statement a line
+-- a node for each unit with its arrows, in plan order, one statement a line
 abbrev pub plan_dot : Plan → List ℕ
 plan_dot plan = codes "digraph plan {\n" ++ statements plan.planned plan.planned ++ codes "}\n"

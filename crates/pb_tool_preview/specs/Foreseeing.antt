@@ -1,4 +1,4 @@
--- What a build would do with each unit, as far as the records of one world say.
+-- What a build would do with each unit, as far as the records in one world say.
 use Rattle.std.specs.Prelude.{◌≡◌, ℕ, Bool, true, false, not, if◌then◌else◌, List, [], ◌∷◌, ◌++◌, Option, Some, None, is_some, Result, MatchOption, MatchResult, slice_get}
 use Rattle.std.specs.List.{find}
 use Rattle.pb_build_result.specs.declared.fault.BuildFault.{BuildFault}
@@ -40,11 +40,11 @@ is_kept_if (Some fate) = is_kept fate
 abbrev pub is_kept_at : List Fate → ℕ → Bool
 is_kept_at fates index = is_kept_if (slice_get fates index)
 
--- the first of the reached units that is not kept
+-- the index of the first of these units that is not kept, if there is one
 abbrev pub first_unkept : List Fate → List ℕ → Option ℕ
 first_unkept fates reached = find (λ index. not (is_kept_at fates index)) reached
 
--- no unit that reaches a unit of this fate begins
+-- no unit begins that reaches a unit with this fate
 abbrev pub ends_badly : Option Fate → Bool
 ends_badly None = false
 ends_badly (Some (Starts difference)) = false
@@ -53,27 +53,27 @@ ends_badly (Some Bad) = true
 ends_badly (Some (Waits index)) = false
 ends_badly (Some (Unreached index)) = true
 
--- the fate of a unit that reaches a unit that is not kept; the first such unit is at this index. If
--- that unit ends badly, this one is not reached; else it waits for that unit.
+-- The fate of a unit that reaches a unit which is not kept. The first such unit has this index. If
+-- that first unit ends badly, the unit is not reached. If not, the unit waits for that first unit.
 abbrev pub waits_for : List Fate → ℕ → Fate
 waits_for fates index = if ends_badly (slice_get fates index) then Unreached index else Waits index
 
 -- Units that can be compared.
 
--- this result of a unit determines its fate, kept or bad, and its directives
+-- this result of a unit determines that its fate is kept or bad, and determines its directives
 abbrev pub Judges : Ran → Fate → Option (List Directive) → Type 0
 Judges ran fate said = (fate ≡ (if is_some ran.bad then Bad else Kept)) × (said ≡ ran.directives)
 
--- nothing differs from a unit's record for this command, and this is the judgement of what the
--- record replays
+-- nothing differs from the unit's record for this command, and the fate and the directives are
+-- those of what the record replays
 pub record IsReplay (project : Project) (w : World) (u : Planned) (c : Command) (fate : Fate) (said : Option (List Directive)) : Type 0 where
   pub same : FirstDifference (records_folder project) u.key c w None
   pub again : Replayed
   pub replays : IsReplayed (records (records_folder project) w u.key) again
   pub judged : Judges (ran_of project u c again.ended w.files) fate said
 
--- the comparison of a unit with its record, for this command: if a build would start the child,
--- this is the first difference; else it would replay the record
+-- How a unit compares with its record, for this command. If a build would start its child, the fate
+-- has the first difference. If not, the fate is that of what the record replays.
 abbrev pub IsCompared : Project → World → Planned → Command → Fate → Option (List Directive) → Type 0
 IsCompared project w u c (Starts difference) said = FirstDifference (records_folder project) u.key c w (Some difference) × (said ≡ None)
 IsCompared project w u c Kept said = IsReplay project w u c Kept said
@@ -83,34 +83,36 @@ IsCompared project w u c (Unreached index) said = ⊥
 
 -- The units of a plan.
 
--- the fate of a unit, from the fates and the directives of the units before it: if all that the
--- unit reaches is kept, it is compared with its record, for the command that a build would give it
+-- The fate of a unit, given the fates and the directives of the units before it. If all units that
+-- it reaches are kept, it is compared with its record. The command is the one that a build would
+-- give it.
 abbrev pub IsFate : Setup → Project → World → List Fate → List (Option (List Directive)) → Planned → Fate → Option (List Directive) → Type 0
 IsFate setup project w fates done u fate said =
     MatchOption (first_unkept fates u.reaches) (IsCompared project w u (command_of setup project u done) fate said) (λ index. (fate ≡ waits_for fates index) × (said ≡ None))
 
--- the fates of some first units of a plan, each from the fates before it
+-- the fates of the first units of a plan, each of which follows from the fates before it
 pub data Foresees (setup : Setup) (project : Project) (w : World) : List Planned → List Fate → List (Option (List Directive)) → Type 0 where
   nothing : Foresees setup project w [] [] []
   more : (units : List Planned) (fates : List Fate) (done : List (Option (List Directive))) (u : Planned) (fate : Fate) (said : Option (List Directive))
       (before : Foresees setup project w units fates done) (is : IsFate setup project w fates done u fate said)
       → Foresees setup project w (units ++ u ∷ []) (fates ++ fate ∷ []) (done ++ said ∷ [])
 
--- What a look does to the place.
+-- How a look changes the place.
 
--- it only looks: only counters change, no child is started, and a failed call is the last one
+-- Nothing has changed but counters, and no child was started. If a call failed, it was the last.
 pub record Looks {T : Type 0} (result : Result T BuildFault) (old new : At) : Type 0 where
   pub world : new.world ≡ old.world
   pub most : new.most ≡ old.most
   pub starts : new.counts.starts ≡ old.counts.starts
   pub cause : MatchResult result (λ x. new.counts.failures ≡ old.counts.failures) (λ e. HasCause e old.counts new.counts)
 
--- a look at the unit of this key failed: a file, a folder or a variable could not be read, or memory ran out
+-- The fault is that of a look at the unit with this key. A file, a folder or a variable could not
+-- be read, or memory ran out.
 abbrev pub LooksAt : List ℕ → BuildFault → Type 0
 LooksAt key (Device unit (device.Place fault)) = unit ≡ key
 LooksAt key OutOfMemory = Unit {0}
 LooksAt key fault = ⊥
 
--- a look at one of the units of a project failed
+-- the fault is that of a look at one of the units of a project
 abbrev pub LooksAtSome : Project → BuildFault → Type 0
 LooksAtSome project fault = (index : ℕ) × (u : Planned) × (unit_at project index ≡ Some u) × LooksAt u.key fault

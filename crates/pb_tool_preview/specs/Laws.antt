@@ -1,4 +1,4 @@
--- A unit begins for the difference that was foreseen.
+-- Law: a unit begins for the difference that was foreseen.
 use Rattle.std.specs.Prelude.{◌≡◌, Bool, List, Option, Some, None, IsTrue}
 use Rattle.pb_command.specs.Command.{command_of}
 use Rattle.pb_command_types.specs.declared.project.Project.{Project}
@@ -15,7 +15,7 @@ use Rattle.pb_tool_preview.specs.declared.fate.Fate.{Fate}
 use Rattle.pb_tool_preview.specs.declared.fate.Fate.TheVariants.{Starts, Kept, Bad, Waits, Unreached}
 use Rattle.pb_unit.specs.declared.plan.Planned.{Planned}
 
--- the difference that is foreseen
+-- the difference that a fate foresees, if it foresees one
 abbrev pub foreseen : Fate → Option Difference
 foreseen (Starts difference) = Some difference
 foreseen Kept = None
@@ -23,8 +23,8 @@ foreseen Bad = None
 foreseen (Waits index) = None
 foreseen (Unreached index) = None
 
--- if a unit begins in the world that was looked at, with the same command, it begins for the
--- difference that was foreseen
+-- If a unit begins in the world that was looked at, and with the same command, it begins for the
+-- difference that was foreseen.
 abbrev pub BeginsAsForeseen : {P : Type 0} → (P → At) → Bool → Answers → Type 0
 BeginsAsForeseen {P} at is_modelled child =
     (setup : Setup) (project : Project) (u : Planned) (done : List (Option (List Directive))) (before now : Store) (old new : P) (begun : Begun) (fate : Fate) (said : Option (List Directive))

@@ -1,4 +1,4 @@
--- What a build would do, as lines (our own choice of words).
+-- What a build would do, as lines. The words are our own choice.
 use Rattle.std.specs.Prelude.{ℕ, ◌-◌, Bool, true, false, codes, count_by, drop, length, slice_get, List, [], ◌∷◌, ◌++◌, Option, Some, None}
 use Rattle.std.specs.Fmt.{decimal}
 use Rattle.pb_tool_preview.specs.declared.fate.Fate.{Fate}
@@ -36,7 +36,7 @@ key_in (Some unit) = unit.key
 abbrev pub key_at : List Planned → ℕ → List ℕ
 key_at units index = key_in (slice_get units index)
 
--- the text about a unit of this fate; there is none for a kept unit
+-- the text about a unit with this fate; a kept unit has no text
 abbrev pub said_of : List Planned → Fate → Option (List ℕ)
 said_of units (Starts difference) = Some (codes "would be started, since " ++ reason difference ++ codes "")
 said_of units Kept = None
@@ -52,12 +52,12 @@ abbrev pub row_at : List Planned → List ℕ → Option Fate → List Row
 row_at units key None = []
 row_at units key (Some fate) = row_of key (said_of units fate)
 
--- a row for each of these units for which there is a text
+-- a row for each of these units that has a text
 abbrev pub rows_of : List Planned → List Planned → List Fate → List Row
 rows_of units [] fates = []
 rows_of units (u ∷ us) fates = row_at units u.key (slice_get fates 0) ++ rows_of units us (drop 1 fates)
 
--- how many units wait, and how many are not reached, if any
+-- how many units wait and how many are not reached, each only if there are any
 abbrev pub others_text : ℕ → ℕ → List ℕ
 others_text waiting unreached = if_some waiting (codes " may be started") ++ if_some unreached (codes " not reached") ++ codes "\n"
 
@@ -70,13 +70,13 @@ started_text started kept = decimal started ++ codes " would be started, " ++ ke
 abbrev pub counts_text : ℕ → ℕ → ℕ → ℕ → List ℕ
 counts_text started kept waiting unreached = started_text started kept ++ others_text waiting unreached
 
--- the units that would neither be started, nor wait, nor stay unreached
+-- the number of units that would neither be started, nor wait, nor stay unreached
 abbrev pub count_kept : List Fate → ℕ
 count_kept fates = length fates - count_by is_started fates - count_by is_waiting fates - count_by is_unreached fates
 
 abbrev pub counts_line : List Fate → List ℕ
 counts_line fates = counts_text (count_by is_started fates) (count_kept fates) (count_by is_waiting fates) (count_by is_unreached fates)
 
--- what a build would do with units of these fates
+-- the lines that say what a build would do with units of these fates
 abbrev pub preview_lines : List Planned → List Fate → List ℕ
 preview_lines units fates = grouped (rows_of units units fates) ++ counts_line fates

@@ -25,32 +25,32 @@ abbrev pub success_status : Bool → ℕ
 success_status true = 0
 success_status false = 101
 
--- 0 if all units are good, else 101
+-- the status: 0 if all units are good, and otherwise 101
 abbrev pub status_of : Result Summary BuildFault → ℕ
 status_of (Ok summary) = success_status summary.success
 status_of (Err fault) = 101
 
--- a line for each package without a library
+-- a line for each of these packages, which have no library
 abbrev pub notes_of : List (List ℕ) → List ℕ
 notes_of [] = []
 notes_of (name ∷ names) = codes "note: " ++ name ++ codes " has no library\n" ++ notes_of names
 
--- the line for a unit that will be built again, because a path that its child read was changed while the child was at
--- work
+-- The line for a unit that will be built again. A path that its child read was changed while the
+-- child was at work.
 abbrev pub moved_note : List ℕ → List ℕ → List ℕ
 moved_note path key = codes "note: " ++ path ++ codes " was changed while " ++ key ++ codes " was built: it will be built again\n"
 
--- a line for each such unit; a unit's key is the name of its output folder
+-- a line for each path that was changed; the key of its unit is the name of the unit's output folder
 abbrev pub moved_notes : List Moved → List ℕ
 moved_notes [] = []
 moved_notes (one ∷ others) = moved_note one.path (last_part one.out) ++ moved_notes others
 
--- why a build failed
+-- the line that says why a build failed
 abbrev pub error_of : Result Summary BuildFault → List ℕ
 error_of answer = codes "error: " ++ result_line answer ++ codes "\n"
 
--- what is written if memory runs out for the reason of a failure (below: for notes, moved files, reasons, a child's
--- output, and the detail of a fault)
+-- What is written if memory runs out for the reason of a failure. The next definitions are for
+-- notes, moved files, reasons, a child's output, and the detail of a fault.
 abbrev pub why_lost : List ℕ
 why_lost = codes "error: out of memory for why the build failed\n"
 
@@ -75,51 +75,54 @@ report_lost = codes "note: out of memory for what is known of the fault\n"
 abbrev pub look_lost : List ℕ
 look_lost = codes "note: out of memory for the notes\n"
 
--- what is written after a build: nothing if all its units are good; else why it failed, or that memory ran out for that
+-- What is written at the end of a build: nothing if all its units are good. If the build failed,
+-- the reason is written, or that memory ran out for the reason.
 abbrev pub TellsWhy : ℕ → Result Summary BuildFault → SinkState → SinkState → Type 0
 TellsWhy zero answer old new = new ≡ old
 TellsWhy (suc status) answer old new = Tells (error_of answer) old new ⊎ Tells why_lost old new
 
--- how many units a plan has, if reasons are requested and there is a plan
+-- the number of units of a plan, if reasons are requested and there is a plan
 abbrev pub units_if : Bool → Result BuildPlan BuildFault → Option ℕ
 units_if false (Ok plan) = None
 units_if true (Ok plan) = Some (length plan.project.plan.planned)
 units_if explain (Err fault) = None
 
--- what is written if a build of so many units ended without a fault and its reasons are requested: why it started what it started, or
--- that memory ran out for that; else nothing
+-- What is written about reasons. If reasons are requested and the build ended without a fault, why
+-- children were started is written, or that memory ran out for the reasons. In any other case
+-- nothing is written.
 abbrev pub TellsReasons : Option ℕ → Result Summary BuildFault → SinkState → SinkState → Type 0
 TellsReasons None answer old new = new ≡ old
 TellsReasons (Some units) (Err fault) old new = new ≡ old
 TellsReasons (Some units) (Ok summary) old new = Tells (explanation units summary) old new ⊎ Tells reasons_lost old new
 
--- what is written if a build ended without a fault: what its bad unit's child printed that no message line contains, or
--- that memory ran out for that; nothing if it printed nothing
+-- What is written if a build ended without a fault. What a bad unit's child printed is written, if
+-- no message line contains it, or that memory ran out for this output. Without such output nothing
+-- is written.
 abbrev pub TellsSaid : Result Summary BuildFault → SinkState → SinkState → Type 0
 TellsSaid (Err fault) old new = new ≡ old
 TellsSaid (Ok summary) old new = TellsOr said_lost (said_by_bad summary.bad summary.said) old new
 
--- what is written about the fault of a build: its detail, or that memory ran out for that; nothing if it has no more
--- than a name
+-- What is written about the fault of a build: the fault's detail, or that memory ran out for the
+-- detail. If the fault has no more than a name, nothing is written.
 abbrev pub TellsDetail : Result Summary BuildFault → SinkState → SinkState → Type 0
 TellsDetail answer old new = TellsOr detail_lost (detail answer) old new
 
--- what a place reports of a fault of the outside: at most ten texts without line feeds; nothing more is promised of
--- them. Without such a fault there are none.
+-- What a place reports about a fault from outside: at most ten texts without line feeds. Nothing
+-- more is promised about these texts. Without such a fault there are none.
 abbrev pub Reported : Result Summary BuildFault → List (List ℕ) → Type 0
 Reported (Err (build.Child unit fault)) texts = AreReported texts
 Reported (Err (build.Device unit fault)) texts = AreReported texts
 Reported (Err build.Toolchain) texts = AreReported texts
 Reported answer texts = texts ≡ []
 
--- what is written of a report: a line `note: TEXT` for each text, or that memory ran out for that; nothing if there are
--- none
+-- What is written about a report: a line `note: TEXT` for each text, or that memory ran out for the
+-- report. Without texts nothing is written.
 abbrev pub TellsReport : List (List ℕ) → SinkState → SinkState → Type 0
 TellsReport texts old new = TellsOr report_lost (lines_of texts) old new
 
--- how a build with this answer ends: with its status; and beside the output, why children were started if that is
--- requested, what a failing child printed, the detail of the fault, what the place reports of it, and why the build
--- failed
+-- How a build with this answer ends. The build has a status. Why children were started, if this is
+-- requested, is written beside the output, and then what a failing child printed. The fault's
+-- detail, the place's report, the notes, and the reason of a failure follow.
 pub record Concludes (explain : Option ℕ) (answer : Result Summary BuildFault) (report notes : List (List ℕ)) (status : ℕ) (old new : SinkState) : Type 0 where
   pub told : status ≡ status_of answer
   pub explained : SinkState
@@ -134,42 +137,43 @@ pub record Concludes (explain : Option ℕ) (answer : Result Summary BuildFault)
   pub again : TellsOr look_lost (lines_of notes) reported told_again
   pub reason : TellsWhy status answer told_again new
 
--- a look at the place: nothing has changed but the counters of calls and of failures, so no child was started
+-- Nothing has changed but the counters of calls and of failures. So no child was started.
 pub record Looked (old new : BuildState) : Type 0 where
   pub world : new.world ≡ old.world
   pub starts : new.counts.starts ≡ old.counts.starts
   pub most : new.most ≡ old.most
   pub heard : new.heard ≡ old.heard
 
--- A second look, for notes on a build that was refused or ended without a fault. After any other fault there is none.
+-- A second look, for notes about a build that was refused or ended without a fault. After any other
+-- fault there is no second look.
 abbrev pub LooksOver : Result Summary BuildFault → List (List ℕ) → BuildState → BuildState → Type 0
 LooksOver (Ok summary) notes old new = Looked old new
 LooksOver (Err (build.Plan refusal)) notes old new = Looked old new
 LooksOver (Err fault) notes old new = (new ≡ old) × (notes ≡ [])
 
--- what is written before a build: notes on the packages without a library in its plan, or that memory ran out for them;
--- nothing if there are no such packages, or no plan
+-- What is written before a build: notes about the packages without a library in its plan, or that
+-- memory ran out for the notes. Without such packages, or without a plan, nothing is written.
 abbrev pub NotesOf : Result BuildPlan BuildFault → SinkState → SinkState → Type 0
 NotesOf (Ok plan) old new = TellsOr notes_lost (notes_of plan.project.plan.without_library) old new
 NotesOf (Err fault) old new = new ≡ old
 
--- the target folder of a plan
+-- the target folder of a plan, if there is a plan
 abbrev pub folder_of : Result BuildPlan BuildFault → Option (List ℕ)
 folder_of (Ok plan) = Some plan.environment.target
 folder_of (Err fault) = None
 
--- A build was planned, that plan was carried out, and no further call was made but those of a second look. `moved` is
--- the list of the place after it.
+-- A build was planned, and this plan was carried out. No further call was made but those of a
+-- second look. `moved` is the list that the place then has.
 pub record BuildsTold (is_modelled : Bool) (child : Answers) (Guards : Option (List ℕ) → Counts → SinkState → SinkState → Type 0) (moved : List Moved) (options : Options) (explain : Bool) (status : ℕ) (old new : BuildState) (said_before said_after : SinkState) : Type 0 where
-  -- its plan
+  -- the plan of the build
   pub plan : Result BuildPlan BuildFault
   pub planned : BuildState
   pub plans : PlansFrom is_modelled options plan old planned
-  -- what was written beside the output first: notes on its packages without a library
+  -- notes about the plan's packages without a library were written first, beside the output
   pub noted : SinkState
   pub notes : NotesOf plan said_before noted
-  -- then its target folder was guarded: the place's counters were as the plan had left them, so no child was started
-  -- yet
+  -- Then the target folder was guarded. The place's counters were as the planning had left them, so
+  -- no child had been started yet.
   pub held : SinkState
   pub guards : Guards (folder_of plan) planned.counts noted held
   -- the plan was carried out
@@ -177,15 +181,15 @@ pub record BuildsTold (is_modelled : Bool) (child : Answers) (Guards : Option (L
   pub built : BuildState
   pub on : BuildsOnFirst is_modelled child options plan answer planned built
   pub builds : BuildsFirst is_modelled child options answer old built
-  -- a second look at it, for at most ten notes
+  -- a second look was made for at most ten notes
   pub notes_again : List (List ℕ)
   pub are_notes : AreNotes notes_again
   pub looked : LooksOver answer notes_again built new
-  -- all that has changed while a child was at work is reported. Over a modelled place nothing has.
+  -- Each path that has changed while a child was at work is reported. Over a modelled place no path has.
   pub stood : IsTrue is_modelled → moved ≡ []
   pub marked : SinkState
   pub marks : TellsOr moved_lost (moved_notes moved) held marked
-  -- what the place reports of a fault, without a further call
+  -- what the place reports about a fault, without a further call
   pub report : List (List ℕ)
   pub reports : Reported answer report
   -- what is written after the build

@@ -20,58 +20,59 @@ use Rattle.pb_tool_program.specs.Writing.{Tells}
 use Rattle.pb_unit.specs.declared.fault.PlanFault.TheVariants as plan
 use Rattle.pb_workspace_types.specs.declared.options.Options.{Options}
 
--- which things a removal wanted, as its note names them
+-- the words of the note that say what was wanted
 abbrev pub of_what : Wanted → List ℕ
 of_what wanted.All = []
 of_what wanted.OfProfile = codes " under the profile"
 of_what wanted.OfPackages = codes " of the packages"
 
--- the name of the refusal if nothing that is wanted exists
+-- the name of the refusal if nothing that was wanted exists
 abbrev pub refusal_of : Wanted → List ℕ
 refusal_of wanted.All = codes "NoTargetFolder"
 refusal_of wanted.OfProfile = codes "NoSuchProfile"
 refusal_of wanted.OfPackages = codes "NoSuchPackage"
 
--- what is written if nothing that is wanted is in a folder
+-- what is written if nothing that was wanted is in a folder
 abbrev pub nothing_told : Wanted → List ℕ → List ℕ
 nothing_told some folder = codes "note: nothing that a build made" ++ of_what some ++ codes " is in " ++ folder ++ codes "\nerror: refused " ++ refusal_of some ++ codes "\n"
 
--- a fault as the fault of a build, whose result line is written: `error: refused NoSuchProfile`,
--- `error: fault PATH Device` or `error: fault memory OutOfMemory`
+-- The fault of a build for a fault of a removal, so that its result line can be written. This is
+-- `error: refused NoSuchProfile`, `error: fault PATH Device` or `error: fault memory OutOfMemory`.
 abbrev pub build_fault_of : CleanFault → BuildFault
 build_fault_of (Call name fault) = build_fault.Device name (device.Place fault)
 build_fault_of NoSuchProfile = build_fault.Plan (refusal.Plan (plan.Profile profile.NoSuchProfile))
 build_fault_of fault = build_fault.OutOfMemory
 
--- what is written of a fault: what a build with this fault writes, with what the place reports of it
+-- what is written about a fault is what a build with this fault writes, with what the place reports about it
 pub record TellsFault (fault : BuildFault) (status : ℕ) (old new : SinkState) : Type 0 where
   pub report : List (List ℕ)
   pub reports : Reported (Err fault) report
   pub concluded : Concludes None (Err fault) report [] status old new
 
--- what is written after a removal: nothing if all is removed, with status 0; else why not, with status 101
+-- What is written after a removal. If everything chosen is removed, nothing is written, and the
+-- status is 0. If not, the reason is written, and the status is 101.
 abbrev pub TellsEnd : Result (Unit {0}) CleanFault → ℕ → SinkState → SinkState → Type 0
 TellsEnd (Ok done) status old new = (status ≡ 0) × (new ≡ old)
 TellsEnd (Err (Nothing some folder)) status old new = (status ≡ 101) × (Tells (nothing_told some folder) old new ⊎ Tells why_lost old new)
 TellsEnd (Err fault) status old new = TellsFault (build_fault_of fault) status old new
 
--- the target folder of what was chosen
+-- the target folder of the choice, if there is one
 abbrev pub target_in : Result Choice CleanFault → Option (List ℕ)
 target_in (Ok choice) = Some choice.target
 target_in (Err fault) = None
 
--- what was chosen is removed; if nothing was chosen, nothing is done, and the fault stays
+-- What was chosen is removed. If there is no choice, nothing is done, and the fault stays.
 abbrev pub CleansFound : Bool → Result Choice CleanFault → Result (Unit {0}) CleanFault → Moment → Moment → Type 0
 CleansFound is_modelled (Ok choice) answer old new = CleansNow is_modelled choice answer old new
 CleansFound is_modelled (Err fault) answer old new = (answer ≡ Err fault) × (new ≡ old)
 
--- the place at a moment of a build
+-- the part of a build's moment that a removal is about
 abbrev pub seen : BuildState → Moment
 seen s = record { world = s.world; counts = s.counts; most = s.most }
 
--- What the options choose was looked for, and nothing was changed by that. If something of it exists, the target folder
--- was guarded, and then what is chosen was removed; else nothing was done. No further call was made, and nothing was
--- written as output.
+-- What the options choose was looked for, and this changed nothing. If something of it exists, the
+-- target folder was guarded, and then what is chosen was removed. Otherwise nothing was done. No
+-- further call was made, and nothing was written as output.
 pub record CleansTold (is_modelled : Bool) (Guards : Option (List ℕ) → Counts → SinkState → SinkState → Type 0) (options : Options) (one_profile : Bool) (status : ℕ) (old new : BuildState) (said_before said_after : SinkState) : Type 0 where
   pub heard : new.heard ≡ old.heard
   pub found : Result Choice CleanFault

@@ -1,5 +1,5 @@
--- What is written about a failed build besides its result line, which contains the name of the fault: the rest of the
--- fault (our own choice of words).
+-- What is written about a failed build besides its result line. The result line has the name of the
+-- fault, and this is the rest of the fault. The words are our own choice.
 use Rattle.std.specs.Prelude.{ℕ, codes, List, [], ◌∷◌, ◌++◌, Option, Some, None, Result, Ok, Err}
 use Rattle.std.specs.Fmt.{decimal}
 use Rattle.pb_build_result.specs.declared.fault.BuildFault.{BuildFault}
@@ -23,7 +23,7 @@ use Rattle.pb_command_types.specs.declared.fault.UnitFault.TheVariants as unit
 use Rattle.pb_unit.specs.declared.fault.PlanFault.{PlanFault}
 use Rattle.pb_unit.specs.declared.fault.PlanFault.TheVariants as plan
 
--- for a line of a script's output, its number
+-- the detail of a fault in a line of a script's output: the number of the line
 abbrev pub line_note : ℕ → List ℕ
 line_note number = codes "note: line " ++ decimal number ++ codes " of its output\n"
 
@@ -34,7 +34,7 @@ line_detail (line.BadValue number) = line_note number
 line_detail (line.BadFlag number) = line_note number
 line_detail line.OutOfMemory = []
 
--- for an input in the target folder, its path
+-- the detail of a unit's fault: for an input in the target folder its path, and for a line its number
 abbrev pub unit_detail : UnitFault → List ℕ
 unit_detail (unit.Directive fault) = line_detail fault
 unit_detail (unit.ForeignInput path) = codes "note: " ++ path ++ codes " lies in the target folder\n"
@@ -47,18 +47,19 @@ bad_detail (Some bad) = unit_detail bad.1
 abbrev pub key_note : List ℕ → List ℕ → List ℕ
 key_note path key = codes "note: in " ++ path ++ codes ", key " ++ key ++ codes "\n"
 
--- for a bad manifest, its path and the key that the fault names
+-- the detail of a manifest's fault: the path of the manifest, and the key that the fault names
 abbrev pub manifest_detail : List ℕ → ManifestFault → List ℕ
 manifest_detail path (manifest.BadKind key) = key_note path (spelled key)
 manifest_detail path fault = codes "note: in " ++ path ++ codes "\n"
 
--- for a manifest that was not found, the path at which it was sought
+-- the detail of a workspace that cannot be read: for a manifest that was not found, the path at
+-- which it was looked for
 abbrev pub load_detail : LoadFault → List ℕ
 load_detail (load.NoManifest path) = codes "note: no manifest at " ++ path ++ codes "\n"
 load_detail (load.Manifest path fault) = manifest_detail path fault
 load_detail fault = []
 
--- names, each after a blank
+-- the names, with a space before each
 abbrev pub spaced : List (List ℕ) → List ℕ
 spaced [] = []
 spaced (name ∷ names) = codes " " ++ name ++ spaced names
@@ -66,7 +67,7 @@ spaced (name ∷ names) = codes " " ++ name ++ spaced names
 abbrev pub circle_note : List (List ℕ) → List ℕ
 circle_note names = codes "note: the packages are" ++ spaced names ++ codes "\n"
 
--- for packages that depend on one another, their names
+-- the detail of a plan's fault: the names of packages that depend on one another
 abbrev pub plan_detail : PlanFault → List ℕ
 plan_detail (plan.Cycle names) = circle_note names
 plan_detail fault = []
@@ -76,7 +77,7 @@ refusal_detail (refusal.Load fault) = load_detail fault
 refusal_detail (refusal.Feature fault) = []
 refusal_detail (refusal.Plan fault) = plan_detail fault
 
--- for a call that failed, which call it was
+-- the detail of a failed call: what could not be done
 abbrev pub place_detail : PlaceFault → List ℕ
 place_detail place.Read = codes "note: a file could not be read\n"
 place_detail place.List = codes "note: a folder could not be listed\n"
@@ -94,7 +95,7 @@ fault_detail (build.Plan why) = refusal_detail why
 fault_detail (build.Device unit fault) = device_detail fault
 fault_detail fault = []
 
--- for a build that failed; nothing if the fault has no more than a name
+-- the detail of a failed build, or no text if the fault has no more than a name
 abbrev pub detail : Result Summary BuildFault → List ℕ
 detail (Ok summary) = bad_detail summary.bad
 detail (Err fault) = fault_detail fault

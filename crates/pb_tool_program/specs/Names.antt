@@ -7,25 +7,25 @@ use Rattle.pb_place_types.specs.Sinks.{SinkState}
 use Rattle.pb_tool_program.specs.Building.{error_of}
 use Rattle.pb_tool_program.specs.Writing.{Writes, Tells}
 
--- a text is written as output; the status is 0, or 1 if that fails
+-- the text is written as output; the status is 0, or 1 if the write fails
 abbrev pub Prints : List ℕ → ℕ → SinkState → SinkState → Type 0
 Prints text status old new = (whole : Bool) × Writes whole text old new × (status ≡ (if whole then 0 else 1))
 
--- the most similar name, if there is one
+-- the text about the most similar name, if there is one
 abbrev pub near_told : Option (List ℕ) → List ℕ
 near_told None = []
 near_told (Some near) = codes " (near: " ++ near ++ codes ")"
 
--- what is written if no error has a name
+-- what is written if no error has this name
 abbrev pub no_such_name : Option (List ℕ) → List ℕ → List ℕ
 no_such_name near name = codes "error: no error has the name " ++ name ++ near_told near ++ codes "\n"
 
--- no error has this name: that is written, or that memory ran out for it
+-- No error has this name. Either this is written, or that memory ran out for it.
 abbrev pub Unmeant : Option (List ℕ) → List ℕ → ℕ → SinkState → SinkState → Type 0
 Unmeant near name status said_before said_after =
     (status ≡ 1) × Tells (no_such_name near name) said_before said_after ⊎ (status ≡ 101) × Tells (error_of (Err build_fault.OutOfMemory)) said_before said_after
 
--- the text of a page about a name is output; if the page has none, that is written beside the output
+-- The text that a page has about a name is output. If the page has none, this is written beside the output.
 abbrev pub MeansText : Option (List ℕ) → Option (List ℕ) → List ℕ → ℕ → SinkState → SinkState → SinkState → SinkState → Type 0
 MeansText (Some text) near name status old new said_before said_after = (said_after ≡ said_before) × Prints text status old new
 MeansText None near name status old new said_before said_after = (new ≡ old) × Unmeant near name status said_before said_after

@@ -15,26 +15,27 @@ use Rattle.pb_tool_program.specs.Writing.{Writes}
 use Rattle.pb_unit.specs.declared.plan.Plan.{Plan}
 use Rattle.pb_workspace_types.specs.declared.options.Options.{Options}
 
--- the text of a plan in a form
+-- the text of a plan in this form
 abbrev pub plan_text : PlanForm → Plan → List ℕ
 plan_text Lines plan = plan_lines plan
 plan_text Json plan = plan_json plan
 plan_text Dot plan = plan_dot plan
 
--- a text was written as output; or the output failed after a first part of it; or memory ran out, and nothing was
--- written
+-- The text was written as output. Or the sink failed after a first part of it. Or memory ran out,
+-- and nothing was written.
 abbrev pub PrintsText : List ℕ → Result (Unit {0}) BuildFault → SinkState → SinkState → Type 0
 PrintsText text (Ok done) old new = Writes true text old new
 PrintsText text (Err build_fault.Sink) old new = Writes false text old new
 PrintsText text (Err build_fault.OutOfMemory) old new = new ≡ old
 PrintsText text (Err fault) old new = ⊥
 
--- the text of a plan was printed; if there is no plan, nothing was written, and the fault is the plan's
+-- The text of the plan was written. If there is no plan, nothing was written, and the fault is that
+-- of the planning.
 abbrev pub PrintsPlan : PlanForm → Result BuildPlan BuildFault → Result (Unit {0}) BuildFault → SinkState → SinkState → Type 0
 PrintsPlan form (Ok plan) answer old new = PrintsText (plan_text form plan.project.plan) answer old new
 PrintsPlan form (Err fault) answer old new = (answer ≡ Err fault) × (new ≡ old)
 
--- a plan was made and printed; no further call was made, and nothing but the text was written
+-- A plan was made and its text was written. No further call was made, and nothing else was written.
 pub record PrintsFrom (is_modelled : Bool) (options : Options) (form : PlanForm) (answer : Result (Unit {0}) BuildFault) (old new : BuildState) : Type 0 where
   pub plan : Result BuildPlan BuildFault
   pub planned : BuildState
@@ -43,8 +44,8 @@ pub record PrintsFrom (is_modelled : Bool) (options : Options) (form : PlanForm)
   pub prints : PrintsPlan form plan answer old.heard heard
   pub rests : new ≡ record planned { heard = heard }
 
--- how a plan ends that was refused, failed or was not printed: with a second look, and what `build` writes after such a
--- fault
+-- How the command ends if its plan was refused, failed or could not be written. A second look is
+-- made, and what `build` writes after such a fault is written.
 pub record PlanFails (fault : BuildFault) (status : ℕ) (old new : BuildState) (said_before said_after : SinkState) : Type 0 where
   pub notes : List (List ℕ)
   pub are_notes : AreNotes notes
@@ -53,13 +54,14 @@ pub record PlanFails (fault : BuildFault) (status : ℕ) (old new : BuildState) 
   pub reports : Reported (Err fault) report
   pub concluded : Concludes None (Err fault) report notes status said_before said_after
 
--- how it ends: with status 0, and nothing else is done or written; or with a fault
+-- How the command ends. If the plan was written, the status is 0, and nothing else is done or
+-- written. If not, the command ends as `PlanFails` says.
 abbrev pub EndsPlan : Result (Unit {0}) BuildFault → ℕ → BuildState → BuildState → SinkState → SinkState → Type 0
 EndsPlan (Ok done) status old new said_before said_after = (status ≡ 0) × (new ≡ old) × (said_after ≡ said_before)
 EndsPlan (Err fault) status old new said_before said_after = PlanFails fault status old new said_before said_after
 
--- A plan of these options was made and printed in this form; or it was not, and why is written. No child was started,
--- and no file was changed.
+-- A plan of these options was made and written in this form, or the reason why not is written. No
+-- child was started, and no file was changed.
 pub record PlansTold (is_modelled : Bool) (options : Options) (form : PlanForm) (status : ℕ) (old new : BuildState) (said_before said_after : SinkState) : Type 0 where
   pub answer : Result (Unit {0}) BuildFault
   pub printed : BuildState

@@ -24,17 +24,18 @@ use Rattle.pb_workspace_types.specs.declared.options.Options.{Options}
 abbrev pub fates_lost : List ℕ
 fates_lost = codes "note: out of memory for what would be started\n"
 
--- what a build would do with these units, or that memory ran out for that
+-- what is written is what a build would do with these units, or that memory ran out for this
 abbrev pub TellsFates : List Planned → List Fate → SinkState → SinkState → Type 0
 TellsFates units fates old new = Tells (preview_lines units fates) old new ⊎ Tells fates_lost old new
 
--- the fates of the units were written; or the look at them ended with a fault, and nothing was
+-- The fates of the units were written. Or the look at the units ended with a fault, and nothing was written.
 abbrev pub TellsBy : List Planned → Result (List Fate) BuildFault → Result (Unit {0}) BuildFault → SinkState → SinkState → Type 0
 TellsBy units (Ok fates) answer old new = (answer ≡ Ok tt) × TellsFates units fates old new
 TellsBy units (Err fault) answer old new = (answer ≡ Err fault) × (new ≡ old)
 
--- what a build would do with the prepared units was looked at and written. The fates are those that the records of this
--- world say. Nothing changed but counters; a call that failed was the last one
+-- The prepared units were looked at, and what a build would do with them was written. The fates are
+-- those that the records in this world say. Nothing changed but counters. If a call failed, it was
+-- the last.
 pub record Foretells (is_modelled : Bool) (prepared : Prepared) (answer : Result (Unit {0}) BuildFault) (old new : BuildState) (said_before said_after : SinkState) : Type 0 where
   pub fates : Result (List Fate) BuildFault
   pub are : IsTrue is_modelled → IfOk fates (λ found. (done : List (Option (List Directive))) × Foresees prepared.setup prepared.project old.world prepared.project.plan.planned found done)
@@ -46,36 +47,36 @@ pub record Foretells (is_modelled : Bool) (prepared : Prepared) (answer : Result
   pub at : IfErr fates (LooksAtSome prepared.project)
   pub told : TellsBy prepared.project.plan.planned fates answer said_before said_after
 
--- the prepared units were looked at; or the preparation failed, and nothing more was done
+-- The prepared units were looked at. Or the preparation failed, and nothing more was done.
 abbrev pub ForetellsIf : Bool → Result Prepared BuildFault → Result (Unit {0}) BuildFault → BuildState → BuildState → SinkState → SinkState → Type 0
 ForetellsIf is_modelled (Ok prepared) answer old new said_before said_after = Foretells is_modelled prepared answer old new said_before said_after
 ForetellsIf is_modelled (Err fault) answer old new said_before said_after = (answer ≡ Err fault) × (new ≡ old) × (said_after ≡ said_before)
 
--- a plan's units were prepared as those of a build are, and then looked at
+-- the units of a plan were prepared as those of a build are, and then looked at
 pub record LooksAhead (is_modelled : Bool) (child : Answers) (options : Options) (plan : Result BuildPlan BuildFault) (answer : Result (Unit {0}) BuildFault) (old new : BuildState) (said_before said_after : SinkState) : Type 0 where
   pub prepared : Result Prepared BuildFault
   pub readied : BuildState
   pub readies : Readies is_modelled child options plan prepared old readied
   pub foretells : ForetellsIf is_modelled prepared answer readied new said_before said_after
 
--- A build was planned and prepared, and its units were looked at, but not begun. Nothing was changed, nothing was
--- output, and no child was started but the one of the compiler's query.
+-- A build was planned and prepared, and its units were looked at, but none has begun. Nothing was
+-- changed, and nothing was output. No child was started but that of the compiler's query.
 pub record PreviewsTold (is_modelled : Bool) (child : Answers) (options : Options) (status : ℕ) (old new : BuildState) (said_before said_after : SinkState) : Type 0 where
-  -- in all
+  -- what is true of the whole preview
   pub unchanged : IsTrue is_modelled → new.world ≡ old.world
   pub query : (new.counts.starts ≡ old.counts.starts) ⊎ (new.counts.starts ≡ up_starts old.counts.starts)
   pub heard : new.heard ≡ old.heard
-  -- its plan
+  -- the plan of the build
   pub plan : Result BuildPlan BuildFault
   pub planned : BuildState
   pub plans : PlansFrom is_modelled options plan old planned
-  -- notes on its packages without a library
+  -- notes about the plan's packages without a library were written
   pub noted : SinkState
   pub notes : NotesOf plan said_before noted
-  -- what it would start
+  -- what the build would start was written
   pub answer : Result (Unit {0}) BuildFault
   pub ahead : BuildState
   pub said : SinkState
   pub looks : LooksAhead is_modelled child options plan answer planned ahead noted said
-  -- the status is 0; or a fault is told as that of a build
+  -- the status is 0, or a fault is reported as `pb_tool plan` reports it
   pub ends : EndsPlan answer status ahead new said said_after

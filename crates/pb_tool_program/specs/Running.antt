@@ -1,4 +1,4 @@
--- What the whole program does: what its arguments request, and nothing else.
+-- What the whole program does: exactly what its arguments request.
 use Rattle.std.specs.Prelude.{◌≡◌, ◌⊎◌, ℕ, Bool, true, false, List, Option, Some, None, IsTrue, IfOk, Result, Ok, Err}
 use Rattle.std.specs.FinMap as map
 use Rattle.pb_place_types.specs.Counts.{Counts, counted}
@@ -29,8 +29,9 @@ use Rattle.pb_tool_program.specs.Writing.{Tells}
 
 -- Sessions.
 
--- the session of these bytes was run. With status 0 its lines were written, and nothing beside them. With status 1 it
--- is reported as bad, and only the lines from before memory ran out or the sink failed were written
+-- The session in these bytes was run. With status 0 its lines were written as output, and nothing
+-- beside them. With status 1 the session is reported as bad, and only the lines from before memory
+-- ran out or the sink failed were written.
 pub record RunsSession (bytes : List ℕ) (status : ℕ) (old new said_before said_after : SinkState) : Type 0 where
   pub ends : (status ≡ 0) ⊎ (status ≡ 1)
   pub written : status ≡ 0 → SessionWritten true bytes old new
@@ -39,18 +40,18 @@ pub record RunsSession (bytes : List ℕ) (status : ℕ) (old new said_before sa
   pub untouched : session_of bytes ≡ Err BadForm → new ≡ old
   pub told : status ≡ 1 → Refused said_before said_after
 
--- a bad session: it is reported as bad, and nothing is output
+-- the session is reported as bad, and nothing is output
 abbrev pub IsBad : ℕ → SinkState → SinkState → SinkState → SinkState → Type 0
 IsBad status old new said_before said_after = (status ≡ 1) × (new ≡ old) × Refused said_before said_after
 
--- what follows when a session's file was read with this result: a file that does not exist, or cannot be read, is a bad
--- session
+-- What follows after a session's file was read with this result. If the file does not exist or
+-- cannot be read, the session is bad.
 abbrev pub RunsFound : Result (Option (List ℕ)) PlaceFault → ℕ → SinkState → SinkState → SinkState → SinkState → Type 0
 RunsFound (Ok (Some bytes)) status old new said_before said_after = RunsSession bytes status old new said_before said_after
 RunsFound (Ok None) status old new said_before said_after = IsBad status old new said_before said_after
 RunsFound (Err fault) status old new said_before said_after = IsBad status old new said_before said_after
 
--- the session of a file was run: the file was read once, and no further call was made
+-- The session in a file was run. The file was read once, and no further call was made.
 pub record RunsFile (is_modelled : Bool) (path : List ℕ) (status : ℕ) (old new : BuildState) (said_before said_after : SinkState) : Type 0 where
   pub same : IsTrue is_modelled → new.world ≡ old.world
   pub most : new.most ≡ old.most
@@ -61,8 +62,8 @@ pub record RunsFile (is_modelled : Bool) (path : List ℕ) (status : ℕ) (old n
 
 -- Arguments that request nothing.
 
--- what is written for arguments that request nothing: help or the version, as output; what is wrong with them, or that
--- memory ran out, beside the output
+-- What is written for arguments that request nothing. Help or the version is output. What is wrong
+-- with the arguments, or that memory ran out, is written beside the output.
 abbrev pub Explains : ArgumentsError → ℕ → SinkState → SinkState → SinkState → SinkState → Type 0
 Explains (Help text) status old new said_before said_after = (said_after ≡ said_before) × Prints text status old new
 Explains (Wrong text) status old new said_before said_after = (status ≡ 1) × (new ≡ old) × Tells text said_before said_after
@@ -70,22 +71,23 @@ Explains OutOfMemory status old new said_before said_after = (status ≡ 101) ×
 
 -- The program.
 
--- what a build shows beside its lines was set before it: whether the place names its children, and whether the sink of
--- the lines shows them as text; for both, whether they erase a status line; and for the sinks of text, whether levels
--- have colours
+-- What a build shows beside its lines was set before it. The place was told if it names its
+-- children, and the sink of the lines if it shows them as text. Both were told if they erase a
+-- status line. Both sinks of text were told if levels have colours.
 abbrev pub IsTold : {P O E : Type 0} → (P → Bool → Bool → P → Type 0) → (O → Bool → Bool → Bool → O → Type 0) → (E → Bool → E → Type 0) → P → O → E → Shown → Type 0
 IsTold {P} {O} {E} Speaks Shows Colors place out err shown =
     ((told : P) × Speaks place shown.verbose shown.progress told) × ((told : O) × Shows out shown.render shown.progress shown.colors told)
     × ((told : E) × Colors err shown.colors told)
 
--- what arguments request, or why they request nothing
+-- the arguments request this, or they request nothing for this reason
 abbrev pub AsksOrNot : List (List ℕ) → Here → Result Invocation ArgumentsError → Type 0
 AsksOrNot words here (Ok asked) = Asks words here asked
 AsksOrNot words here (Err unasked) = Unasks words here.folder unasked
 
--- what follows from that: the requested build, plan, removal or session; else the place is not used. Only a build and a
--- removal ask the guard for a folder. What a build shows beside its lines changes nothing else: `BuildsTold` depends on
--- `explain` only.
+-- What the program does for its arguments: the requested build, preview, session, plan, removal or
+-- explanation. If nothing is requested, the place is not used. Only a build and a removal ask the
+-- guard for a folder. What a build shows changes nothing else: `BuildsTold` depends on `explain`
+-- only.
 abbrev pub Does : Bool → Answers → (Option (List ℕ) → Counts → SinkState → SinkState → Type 0) → (Shown → Type 0) → Page → List Moved → Result Invocation ArgumentsError → ℕ → BuildState → BuildState → SinkState → SinkState → Type 0
 Does is_modelled child Guards Told page moved (Ok (Build options shown)) status old new said_before said_after = Told shown × BuildsTold is_modelled child Guards moved options shown.explain status old new said_before said_after
 Does is_modelled child Guards Told page moved (Ok (Preview options)) status old new said_before said_after = PreviewsTold is_modelled child options status old new said_before said_after × Guards None old.counts said_before said_before
@@ -95,8 +97,8 @@ Does is_modelled child Guards Told page moved (Ok (Clean options one_profile)) s
 Does is_modelled child Guards Told page moved (Ok (Explain name)) status old new said_before said_after = (new ≡ record old { heard = new.heard }) × Means page name status old.heard new.heard said_before said_after × Guards None old.counts said_before said_before
 Does is_modelled child Guards Told page moved (Err unasked) status old new said_before said_after = (new ≡ record old { heard = new.heard }) × Explains unasked status old.heard new.heard said_before said_after × Guards None old.counts said_before said_before
 
--- the program did what these arguments request, with the folder and the processors of `here`; `moved` is the list of
--- its place afterwards
+-- The program did what these arguments request, with the folder and the processors of `here`.
+-- `moved` is the list that its place has afterwards.
 abbrev pub Runs : Bool → Answers → (Option (List ℕ) → Counts → SinkState → SinkState → Type 0) → (Shown → Type 0) → Page → List Moved → List (List ℕ) → Here → ℕ → BuildState → BuildState → SinkState → SinkState → Type 0
 Runs is_modelled child Guards Told page moved words here status old new said_before said_after =
     (meant : Result Invocation ArgumentsError) × AsksOrNot words here meant × Does is_modelled child Guards Told page moved meant status old new said_before said_after

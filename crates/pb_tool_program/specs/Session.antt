@@ -1,4 +1,4 @@
--- What the session program reports of its input, and how it ends.
+-- What the session program reports about its input, and how it ends.
 use Rattle.std.specs.Prelude.{◌≡◌, ◌⊎◌, ℕ, Bool, codes, List, [], ◌∷◌, ◌++◌, Ok}
 use Rattle.std.specs.Io.KnownBytes.{Appends}
 use Rattle.std.specs.FinMap as map
@@ -17,39 +17,40 @@ use Rattle.pb_tool_program.specs.Writing.{Writes}
 abbrev pub bad_session : List ℕ
 bad_session = codes "error: bad session\n"
 
--- the session is reported as bad; or the sink failed, and took some first bytes of that, not all
+-- The session is reported as bad. Or the sink failed, and took only some first bytes of the report.
 abbrev pub Refused : SinkState → SinkState → Type 0
 Refused old new = (Appends old.taken new.taken bad_session × (new.faults ≡ old.faults)) ⊎ (TakesPart bad_session old.taken new.taken × (new.faults ≡ up old.faults))
 
--- a result line for each answer, each followed by a line feed
+-- the result line of each answer, each with a line feed at its end
 abbrev pub lines_of : List BuildOutcome → List ℕ
 lines_of [] = []
 lines_of (answer ∷ answers) = result_line answer.result ++ codes "\n" ++ lines_of answers
 
--- the small compiler, as the child of a session
+-- the small compiler as the child of a session
 abbrev pub small_compiler : Answers
 small_compiler c w = answered c.words c.pairs w
 
--- before the first step: no file, no variable, no call of the place, no answer, and no injected failure
+-- The state before the first step. There is no file, no variable, no call of the place, no answer,
+-- and no injected failure.
 abbrev pub at_first : SinkState → Point
 at_first heard = record { moment = record { world = record { files = map.empty; variables = map.empty }; counts = no_calls; most = 0; heard = heard }; answers = []; fuse = 0; deaths = [] }
 
--- the steps were taken in turn, and each build wrote its message lines; then a result line for each build was written:
--- all these lines, or some first bytes, not all, at which the sink failed
+-- The steps were taken one by one, and each build wrote its message lines. Then a result line for
+-- each build was written. If the sink failed, it took only some first bytes of the result lines.
 abbrev pub Written : Bool → List SessionStep → SinkState → SinkState → Type 0
 Written whole steps before after = (end : Point) × Course small_compiler steps (at_first before) end × Writes whole (lines_of end.answers) end.moment.heard after
 
--- the bytes are those of a session, and its lines were written
+-- the bytes are those of a session, and the lines of this session were written
 abbrev pub SessionWritten : Bool → List ℕ → SinkState → SinkState → Type 0
 SessionWritten whole bytes before after = (steps : List SessionStep) × (session_of bytes ≡ Ok steps) × Written whole steps before after
 
--- memory ran out: at a step, after those before it were taken in turn; or after the last step, and no result line was
--- written
+-- Memory ran out in a step, and the steps before it were taken one by one. Or memory ran out after
+-- the last step, and no result line was written.
 abbrev pub Stopped : List SessionStep → SinkState → SinkState → Type 0
 Stopped steps before after =
     ((left : Point) × Breaks small_compiler steps (at_first before) left × (after ≡ left.moment.heard))
     ⊎ ((end : Point) × Course small_compiler steps (at_first before) end × (after ≡ end.moment.heard))
 
--- nothing was written; or the bytes are those of a session, which was run until memory ran out
+-- nothing was written, or the bytes are those of a session that was run until memory ran out
 abbrev pub SessionStopped : List ℕ → SinkState → SinkState → Type 0
 SessionStopped bytes before after = (after ≡ before) ⊎ ((steps : List SessionStep) × (session_of bytes ≡ Ok steps) × Stopped steps before after)

@@ -1,15 +1,15 @@
--- Lines about units, and one line for many units of which the same is said.
+-- How lines about units are written, and one line for many units about which the text is the same.
 use Rattle.std.specs.Prelude.{ℕ, Bool, nat_lt, if◌then◌else◌, codes, count_by, List, [], ◌∷◌, ◌++◌}
 use Rattle.std.specs.Fmt.{decimal}
 use Rattle.std.specs.List.{list_any}
 use Rattle.std.specs.Str.{bytes_eq}
 use Rattle.pb_tool_reasons.specs.declared.grouping.Row.{Row}
 
--- how many of these rows say this
+-- the number of these rows that have this text
 abbrev pub count_in : List Row → List ℕ → ℕ
 count_in rows said = count_by (λ (row : Row). bytes_eq row.said said) rows
 
--- one of these rows says this
+-- one of these rows has this text
 abbrev pub is_said : List Row → List ℕ → Bool
 is_said rows said = list_any (λ (row : Row). bytes_eq row.said said) rows
 
@@ -19,13 +19,13 @@ own_line row = row.key ++ codes ": " ++ row.said ++ codes "\n"
 abbrev pub group_line : ℕ → Row → List ℕ
 group_line count row = decimal count ++ codes " units: " ++ row.said ++ codes "\n"
 
--- the line at a row, after the rows before it: its own, if less than five of all rows say the same; else one line for
--- all of them, at the first
+-- The line for a row, given the rows before it. If fewer than five of all rows have its text, it is
+-- the row's own line. Otherwise the first of these rows has one line for all of them.
 abbrev pub line_in : List Row → List Row → Row → List ℕ
 line_in rows before row =
     if nat_lt (count_in rows row.said) 5 then own_line row else (if is_said before row.said then [] else group_line (count_in rows row.said) row)
 
--- the lines of the rows that are left, after those before them
+-- the lines of the rows that are left, given the rows before them
 abbrev pub lines_from : List Row → List Row → List Row → List ℕ
 lines_from rows before [] = []
 lines_from rows before (row ∷ left) = line_in rows before row ++ lines_from rows (before ++ row ∷ []) left

@@ -1,4 +1,4 @@
--- The words for a difference (our own choice).
+-- Which words are used for a difference. The words are our own choice.
 use Rattle.std.specs.Prelude.{ℕ, zero, suc, codes, List, [], ◌++◌}
 use Rattle.std.specs.Fmt.{decimal}
 use Rattle.pb_record.specs.declared.record.InputName.TheVariants.{Path, Variable}
@@ -16,7 +16,7 @@ part Target = codes "the target folder"
 part Toolchain = codes "the version of the compiler"
 part Reads = codes "the list of folders that it may read"
 
--- why a unit's child was started
+-- the reason why a unit's child was started
 abbrev pub reason : Difference → List ℕ
 reason NoRecord = codes "nothing is kept of it"
 reason (Command changed) = part changed ++ codes " has changed"
@@ -25,7 +25,7 @@ reason (Input (Path path)) = path ++ codes " has changed"
 reason (Input (Variable name)) = name ++ codes " has changed"
 reason (Dependency key) = key ++ codes " was built again"
 
--- a number with words for what it counts, after a comma; nothing for 0
+-- a comma, a number and words for what it counts, or no text for 0
 abbrev pub if_some : ℕ → List ℕ → List ℕ
 if_some zero words = []
 if_some (suc n) words = codes ", " ++ decimal (suc n) ++ words

@@ -1,4 +1,4 @@
--- Why a build started what it started (our own choice of words).
+-- Why a build started children. The words are our own choice.
 use Rattle.std.specs.Prelude.{ℕ, ◌-◌, Bool, true, false, nat_lt, if◌then◌else◌, codes, length, slice_get, drop, List, [], ◌∷◌, ◌++◌, Option, Some, None}
 use Rattle.std.specs.Fmt.{decimal}
 use Rattle.std.specs.List.{list_all}
@@ -17,7 +17,7 @@ abbrev pub row_if : List ℕ → Option Difference → List Row
 row_if key None = []
 row_if key (Some difference) = started_row key difference ∷ []
 
--- a row for each unit whose child was started
+-- a row for each unit for which a child was started
 abbrev pub rows_of : List (List ℕ) → List Difference → List Row
 rows_of [] differences = []
 rows_of (key ∷ keys) differences = row_if key (slice_get differences 0) ++ rows_of keys (drop 1 differences)
@@ -25,7 +25,7 @@ rows_of (key ∷ keys) differences = row_if key (slice_get differences 0) ++ row
 abbrev pub counts_line : ℕ → ℕ → ℕ → List ℕ
 counts_line started kept unreached = decimal started ++ codes " started, " ++ decimal kept ++ codes " kept" ++ if_some unreached (codes " not reached") ++ codes "\n"
 
--- that children are told another text as `CARGO` than before is what differed first
+-- the difference is in the variable `CARGO`: children get another text there than before
 abbrev pub is_tool : Difference → Bool
 is_tool (Pair name) = bytes_eq name (codes "CARGO")
 is_tool _ = false
@@ -34,11 +34,12 @@ abbrev pub note_if : Bool → List ℕ
 note_if false = []
 note_if true = codes "note: CARGO is how this program was called; --tool TEXT sets it\n"
 
--- a note if that is so of all units that were started, and there is one
+-- the note about `CARGO`, if some unit was started and every difference is in this variable
 abbrev pub tool_note : List Difference → List ℕ
 tool_note differences = if nat_lt 0 (length differences) then note_if (list_all is_tool differences) else []
 
--- why a build of so many units started what it started; then how many units it started, for how many of those that
--- began nothing differed, and how many did not begin; before this line, a note if only `CARGO` is known to differ
+-- Why a build with this number of units started children. The reasons come first, then a note if
+-- only `CARGO` is known to differ. The last line has the number of started units, of kept units,
+-- and of units that did not begin.
 abbrev pub explanation : ℕ → Summary → List ℕ
 explanation units s = grouped (rows_of s.started s.differences) ++ tool_note s.differences ++ counts_line (length s.started) (length s.kept) (units - length s.started - length s.kept)

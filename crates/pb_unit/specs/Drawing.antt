@@ -1,5 +1,5 @@
--- Units as the nodes of a graph: six for each package, by their numbers, and after
--- them the binaries that are roots. Only private functions need these definitions.
+-- Units as the nodes of a graph. By their numbers, six nodes for each package come first. The
+-- binaries that are roots come after all of them. Only private functions need these definitions.
 use Rattle.std.specs.Prelude.{◌≡◌, ◌↔◌, ℕ, ◌+◌, ◌*◌, Bool, true, false, not, ◌&&◌, ◌||◌, if◌then◌else◌, List, [], ◌∷◌, ◌++◌, map, Contains, Option, Some, None, slice_get}
 use Rattle.std.specs.List.{list_all}
 use Rattle.std.specs.List.Sorted.{IsStrictlySortedBy}
@@ -48,33 +48,33 @@ slot Run Target = 4
 slot Run Host = 5
 slot (Bin name) s = 0
 
--- the number of a unit that is not a binary
+-- the number of a unit that is no binary
 abbrev pub number : Unit → ℕ
 number u = u.owner * 6 + slot u.what u.side
 
--- the unit of a package that a need of this kind means, for a unit on a side
+-- the unit of package `p` that a unit on side `s` needs, if the need is of this kind
 abbrev pub needed : Need → ℕ → Side → Unit
 needed need.Lib p s = unit p s Lib
 needed need.Tool p s = unit p Host Lib
 needed need.Run p s = unit p s Run
 
--- an entry leads to a need of this kind
+-- an entry makes a need of this kind
 abbrev pub leads : Need → Workspace → Entry → Bool
 leads need.Lib ws e = is_normal e.kind && has_library (slice_get ws.packages e.to)
 leads need.Tool ws e = is_build e.kind && has_library (slice_get ws.packages e.to)
 leads need.Run ws e = is_normal e.kind && hands_on (slice_get ws.packages e.to)
 
--- the number of the unit to which an enabled entry leads by a need of this kind
+-- the number of the unit that an enabled entry makes needed by this kind of need, if there is one
 abbrev pub numbers_by : Need → Workspace → Features → ℕ → Side → ℕ → Entry → List ℕ
 numbers_by w ws features p s n e = if is_enabled features p s n && leads w ws e then number (needed w e.to s) ∷ [] else []
 
--- these numbers for all entries of a package
+-- the numbers of the units that all entries of a package make needed by this kind of need
 abbrev pub all_numbers : Need → Workspace → Features → ℕ → Side → List ℕ
 all_numbers w ws features p s = placed (numbers_by w ws features p s) 0 (entries_at ws p)
 
 -- Candidates.
 
--- the six units of a package that are not binaries, whether they exist or not
+-- the six units of a package that are no binaries, whether they exist or not
 abbrev pub six : ℕ → Package → List Unit
 six p owner = unit p Target Lib ∷ unit p Host Lib ∷ unit p Target Script ∷ unit p Host Script ∷ unit p Target Run ∷ unit p Host Run ∷ []
 
@@ -85,7 +85,7 @@ abbrev pub binaries_of : Option Package → List Binary
 binaries_of None = []
 binaries_of (Some p) = p.binaries
 
--- a binary of a selected package, if it is a root
+-- a binary of a selected package, if it is requested and all features that it requires are on
 abbrev pub named_by : Selection → List (List ℕ) → ℕ → ℕ → Binary → List Named
 named_by selection names p n b = if asks_binary selection b.name && list_all (is_mentioned names) b.required_features then record { owner = p; name = b.name } ∷ [] else []
 
@@ -101,7 +101,8 @@ named_cmp a b = ordering_then (nat_cmp a.owner b.owner) (slice_cmp nat_cmp a.nam
 abbrev pub unit_named : Named → Unit
 unit_named b = unit b.owner Target (Bin b.name)
 
--- all units that a plan may have: those of each package, and the binaries that are roots, each once
+-- All units that a plan may have: the six units of each package, and the binaries that are roots.
+-- Each occurs once.
 pub record AreCandidates (ws : Workspace) (features : Features) (selection : Selection) (units : List Unit) : Type 0 where
   pub named : List Named
   pub rises : IsStrictlySortedBy named_cmp named
@@ -114,7 +115,7 @@ abbrev pub is_target : Side → Bool
 is_target Target = true
 is_target Host = false
 
--- a candidate is a root, given the marks of the selected packages
+-- a candidate is a root, given marks for the selected packages
 abbrev pub root_of : Workspace → Bool → List Bool → ℕ → Side → What → Bool
 root_of ws asked marks p s Lib = asked && is_target s && is_on marks p && has_library (slice_get ws.packages p)
 root_of ws asked marks p s (Bin name) = true
@@ -157,11 +158,11 @@ abbrev pub owner_of : Option Unit → ℕ
 owner_of None = 0
 owner_of (Some u) = u.owner
 
--- the name of the package of the unit at an index
+-- the name of the package whose unit has this index
 abbrev pub name_behind : Workspace → List Unit → ℕ → List ℕ
 name_behind ws units n = name_at ws (owner_of (slice_get units n))
 
--- why an order is refused, as a fault of a plan
+-- the fault of a plan for this reason why there is no order
 abbrev pub IsRefusal : Workspace → List Unit → OrderFault → PlanFault → Type 0
 IsRefusal ws units order_fault.OutOfMemory e = e ≡ OutOfMemory
 IsRefusal ws units order_fault.TooMany e = e ≡ TooManyUnits
@@ -169,7 +170,7 @@ IsRefusal ws units (order_fault.Circle circle) e = (names : List (List ℕ)) × 
 
 -- Planned units.
 
--- a step of the order as a planned unit, with its folder and settings
+-- a planned unit is made from a step of the order, with its folder and its settings
 pub record IsMade (ws : Workspace) (line : List Seen) (folder : List ℕ) (units : List Unit) (step : Step) (p : Planned) : Type 0 where
   pub unit_at : slice_get units step.node ≡ Some p.unit
   pub key : p.key ≡ step.key

@@ -1,4 +1,5 @@
--- The plan of a build: the roots and all that they reach, by level and then by key; and why there is none (The Cargo Book, cargo build).
+-- The plan of a build: the roots and all units that they reach, by level and then by key. Also, why
+-- there is no plan (The Cargo Book, cargo build).
 use Rattle.std.specs.Prelude.{◌≡◌, ◌≢◌, ◌⊎◌, ◌↔◌, ℕ, ◌+◌, ◌<◌, ◌≤◌, max, false, true, if◌then◌else◌, List, [], ◌∷◌, map, All, AllPairs, Contains, length, Option, Some, None, Result, Ok, Err, slice_get}
 use Rattle.std.specs.List.Sorted.{IsStrictlyIncreasing}
 use Rattle.std.specs.Ordering.{nat_cmp}
@@ -27,15 +28,15 @@ use Rattle.pb_unit.specs.declared.fault.PlanFault.{PlanFault}
 use Rattle.pb_unit.specs.declared.fault.PlanFault.TheVariants.{Cycle, TooManyUnits, NothingToBuild, Profile}
 use Rattle.pb_unit.specs.Units.{name_at, key_of, role_of, has_library, needs, Reaches, IsPlanned}
 
--- one text comes before the other in byte order
+-- the text `a` comes before the text `b` in byte order
 abbrev pub IsBelow : List ℕ → List ℕ → Type 0
 IsBelow a b = slice_cmp nat_cmp a b ≡ Less
 
--- one unit comes before the other: by level, and then by the bytes of the key
+-- the unit `a` comes before the unit `b`, by level and then by the bytes of the key
 pub record ComesBefore (a b : Planned) : Type 0 where
   pub order : (a.level < b.level) ⊎ ((a.level ≡ b.level) × IsBelow a.key b.key)
 
--- one more than the greatest level; 0 if there is none
+-- one more than the greatest level in the list, or 0 if the list is empty
 abbrev pub above : List ℕ → ℕ
 above [] = 0
 above (level ∷ levels) = max (level + 1) (above levels)
@@ -56,23 +57,23 @@ abbrev pub reaches_in : Option Planned → List ℕ
 reaches_in None = []
 reaches_in (Some p) = p.reaches
 
--- the indices of the wanted units, in plan order, each once
+-- `places` lists the indices of the wanted units, in plan order, each once
 pub record ArePlaces (units : List Planned) (Wanted : Unit → Type 0) (places : List ℕ) : Type 0 where
   pub rises : IsStrictlyIncreasing places
   pub same : (place : ℕ) → Contains places place ↔ ((p : Planned) × (slice_get units place ≡ Some p) × Wanted p.unit)
 
 -- Profiles.
 
--- the line of the requested profile. A profile whose output folder would have no name counts as
--- missing; no manifest has such a profile.
+-- The line of the requested profile. A profile counts as missing if its output folder would have no
+-- name. No manifest has such a profile.
 abbrev pub profile_line : Workspace → List ℕ → Result (List Seen) ProfileFault
 profile_line ws profile = checked_line ws.profiles profile >>= (λ line. if is_relative (folder_of profile) then Ok line else Err NoSuchProfile)
 
--- the folder of the profile's output, in the target folder
+-- the profile's folder in the target folder, which contains the output folders of all units
 abbrev pub profile_folder : Workspace → List ℕ → List ℕ
 profile_folder ws profile = below ws.target (folder_of profile)
 
--- the unit's package has these settings along the line, in the unit's role
+-- the unit has the settings that its package has along the line, in the unit's role
 pub record HasSettings (ws : Workspace) (line : List Seen) (p : Planned) : Type 0 where
   pub owner : Package
   pub package_at : slice_get ws.packages p.unit.owner ≡ Some owner
@@ -80,12 +81,13 @@ pub record HasSettings (ws : Workspace) (line : List Seen) (p : Planned) : Type 
 
 -- The names of packages.
 
--- the names of the packages without a library to which enabled entries lead, in byte order, each once
+-- the names of those packages without a library to which enabled entries lead, in byte order, each once
 pub record AreWithoutLibrary (ws : Workspace) (features : Features) (names : List (List ℕ)) : Type 0 where
   pub order : IsAscending names
   pub same : (name : List ℕ) → Contains names name ↔ ((p : ℕ) × (s : Side) × (n : ℕ) × (e : Entry) × (is_enabled features p s n ≡ true) × HasEntry ws p n e × (has_library (slice_get ws.packages e.to) ≡ false) × (name ≡ name_at ws e.to))
 
--- the names of the packages whose units of the plan reach themselves, in byte order, each once; there is at least one
+-- The names of the packages of those units that reach themselves, in byte order, each once. There
+-- is at least one.
 pub record IsCycle (ws : Workspace) (features : Features) (selection : Selection) (names : List (List ℕ)) : Type 0 where
   pub some : 0 < length names
   pub order : IsAscending names
@@ -97,10 +99,9 @@ IsStraight ws features selection = (u : Unit) → IsPlanned ws features selectio
 
 -- The plan.
 
--- the plan contains the roots and all that they reach, each once, in order; no unit reaches itself;
--- each unit has its key, its folder, the settings of its package in
--- its role, its level, and the indices of what it needs and reaches;
--- there are at least 1 and at most 4,096 units
+-- The plan contains the roots and all units that they reach, each once and in order. No unit
+-- reaches itself. Each unit has its key, its folder, its level, its settings, and the indices of
+-- what it needs and reaches. There is at least 1 unit, and there are at most 4,096.
 pub record IsPlan (ws : Workspace) (features : Features) (selection : Selection) (profile : List ℕ) (plan : Plan) : Type 0 where
   pub line : List Seen
   pub profile_has : profile_line ws profile ≡ Ok line
@@ -119,32 +120,32 @@ pub record IsPlan (ws : Workspace) (features : Features) (selection : Selection)
 
 -- Refusals.
 
--- the plan would have more than 4,096 units, listed here by the bytes of their keys
+-- the plan would have more than 4,096 units; `units` lists more than 4,096 of them in byte order of their keys
 pub record IsCrowd (ws : Workspace) (features : Features) (selection : Selection) : Type 0 where
   pub units : List Unit
   pub planned : All (IsPlanned ws features selection) units
   pub order : AllPairs (λ u v. IsBelow (key_of ws u) (key_of ws v)) units
   pub many : max_units < length units
 
--- the profile has settings
+-- the profile has a line, so that it determines settings
 pub record IsUsable (ws : Workspace) (profile : List ℕ) : Type 0 where
   pub line : List Seen
   pub is : profile_line ws profile ≡ Ok line
 
--- why the units have no plan: there is a cycle; else there are too many units; else there are none
+-- Why the units have no plan. A cycle is the first reason, too many units the second, and no units the third.
 pub data Stops (ws : Workspace) (features : Features) (selection : Selection) : PlanFault → Type 0 where
   by_cycle : (names : List (List ℕ)) (cycle : IsCycle ws features selection names) → Stops ws features selection (Cycle names)
   by_number : (straight : IsStraight ws features selection) (crowd : IsCrowd ws features selection) → Stops ws features selection TooManyUnits
   by_nothing : (none : (u : Unit) → IsPlanned ws features selection u → ⊥) → Stops ws features selection NothingToBuild
 
--- why there is no plan: the profile has no settings; else the units have no plan
+-- Why there is no plan. The profile has no line, or otherwise the units have no plan.
 pub data Refuses (ws : Workspace) (features : Features) (selection : Selection) (profile : List ℕ) : PlanFault → Type 0 where
   by_profile : (fault : ProfileFault) (told : profile_line ws profile ≡ Err fault) → Refuses ws features selection profile (Profile fault)
   by_units : (fault : PlanFault) (usable : IsUsable ws profile) (stops : Stops ws features selection fault) → Refuses ws features selection profile fault
 
 -- Laws.
 
--- two units of a plan have different keys, and no path is at or below the folders of both
+-- two units have different keys, and no path is at or below the folders of both
 pub record LieApart (a b : Planned) : Type 0 where
   pub keys : a.key ≢ b.key
   pub folders : (path : List ℕ) → is_at_or_below a.out path ≡ true → is_at_or_below b.out path ≡ false

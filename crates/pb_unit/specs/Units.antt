@@ -1,5 +1,5 @@
--- Units: their keys, what each needs, and which ones a build
--- has (The Cargo Book, Build Scripts, Features, cargo build).
+-- Units: their keys, what each unit needs, and which units a build has (The Cargo Book, Build
+-- Scripts, Features, cargo build).
 use Rattle.std.specs.Prelude.{◌≡◌, ◌⊎◌, ℕ, Bool, true, false, not, ◌&&◌, ◌||◌, ◌==◌, if◌then◌else◌, is_some, codes, List, [], ◌∷◌, ◌++◌, All, Contains, length, Option, Some, None, slice_get}
 use Rattle.pb_data.specs.Ascii.{dot}
 use Rattle.pb_data.specs.OrderedSet.{is_mentioned}
@@ -19,7 +19,7 @@ use Rattle.pb_unit.specs.declared.unit.Unit.{Unit}
 use Rattle.pb_unit.specs.declared.unit.What.{What}
 use Rattle.pb_unit.specs.declared.unit.What.TheVariants.{Lib, Bin, Script, Run}
 
--- a unit of the package at an index, on a side
+-- the unit of this kind that belongs to the package at an index, on a side
 abbrev pub unit : ℕ → Side → What → Unit
 unit p s w = record { owner = p; side = s; what = w }
 
@@ -47,7 +47,7 @@ what_name Run = codes "run"
 abbrev pub key_of : Workspace → Unit → List ℕ
 key_of ws u = name_at ws u.owner ++ dot ∷ (side_name u.side ++ dot ∷ what_name u.what)
 
--- the role for a unit's settings: that of the host for scripts and for the host's side
+-- The role for which a unit is compiled. Scripts have the host's role. Any other unit has the role of its side.
 abbrev pub role_at : Side → What → Side
 role_at s Script = Host
 role_at s _ = s
@@ -65,7 +65,8 @@ abbrev pub has_script : Option Package → Bool
 has_script None = false
 has_script (Some p) = is_some p.script
 
--- the package has a library, and a native library that its script passes on: a package with `links` has a script
+-- The package has a library, and its script passes metadata on because of `links`. A package with
+-- `links` must have a script.
 abbrev pub hands_on : Option Package → Bool
 hands_on None = false
 hands_on (Some p) = is_some p.library && is_some p.links && is_some p.script
@@ -87,19 +88,21 @@ is_build Build = true
 
 -- Needs.
 
--- the library to which an enabled normal entry leads, on the same side
+-- the library to which an enabled normal entry leads, on the same side; no unit for any other entry
 abbrev pub library_by : Workspace → Features → ℕ → Side → ℕ → Entry → List Unit
 library_by ws features p s n e = if is_enabled features p s n && is_normal e.kind && has_library (slice_get ws.packages e.to) then unit e.to s Lib ∷ [] else []
 
--- the library to which an enabled build entry leads, on the host's side
+-- the library to which an enabled build entry leads, on the host's side; no unit for any other entry
 abbrev pub tool_by : Workspace → Features → ℕ → Side → ℕ → Entry → List Unit
 tool_by ws features p s n e = if is_enabled features p s n && is_build e.kind && has_library (slice_get ws.packages e.to) then unit e.to Host Lib ∷ [] else []
 
--- the run to which an enabled normal entry leads, if its package has a library and `links`
+-- the run of the package to which an enabled normal entry leads, if this package has a library,
+-- `links` and a script
 abbrev pub run_by : Workspace → Features → ℕ → Side → ℕ → Entry → List Unit
 run_by ws features p s n e = if is_enabled features p s n && is_normal e.kind && hands_on (slice_get ws.packages e.to) then unit e.to s Run ∷ [] else []
 
--- these units for all entries of a package
+-- The libraries of all normal entries of a package. The next two definitions are the libraries of
+-- its build entries, and the runs of its normal entries.
 abbrev pub libraries : Workspace → Features → ℕ → Side → List Unit
 libraries ws features p s = placed (library_by ws features p s) 0 (entries_at ws p)
 
@@ -109,17 +112,17 @@ tools ws features p s = placed (tool_by ws features p s) 0 (entries_at ws p)
 abbrev pub runs : Workspace → Features → ℕ → Side → List Unit
 runs ws features p s = placed (run_by ws features p s) 0 (entries_at ws p)
 
--- a package's own library, if it has one, and its own run, if it has a script
+-- A package's own library, if it has one. `own_run` is its own run, if it has a script.
 abbrev pub own_library : Workspace → ℕ → Side → List Unit
 own_library ws p s = if has_library (slice_get ws.packages p) then unit p s Lib ∷ [] else []
 
 abbrev pub own_run : Workspace → ℕ → Side → List Unit
 own_run ws p s = if has_script (slice_get ws.packages p) then unit p s Run ∷ [] else []
 
--- What a unit needs, by what it makes: a library needs the libraries of its dependencies, and its
--- own run; a binary needs its own library, and what such a library would need; a script needs the
--- host's libraries of its build dependencies; a run needs its script, and the runs of its
--- dependencies with a library and `links`.
+-- What a unit needs. A library needs the libraries of its dependencies, and its package's run. A
+-- binary needs its package's library, and what this library needs. A script needs the host's
+-- libraries of its build dependencies. A run needs its script, and the runs of dependencies that
+-- have a library and `links`.
 abbrev pub needs_of : Workspace → Features → ℕ → Side → What → List Unit
 needs_of ws features p s Lib = libraries ws features p s ++ own_run ws p s
 needs_of ws features p s (Bin name) = own_library ws p s ++ (libraries ws features p s ++ own_run ws p s)
@@ -129,32 +132,32 @@ needs_of ws features p s Run = unit p s Script ∷ runs ws features p s
 abbrev pub needs : Workspace → Features → Unit → List Unit
 needs ws features u = needs_of ws features u.owner u.side u.what
 
--- one or more needs lead from a unit to another
+-- one or more needs lead from one unit to another
 pub data Reaches (ws : Workspace) (features : Features) : Unit → Unit → Type 0 where
   direct : (u v : Unit) (need : Contains (needs ws features u) v) → Reaches ws features u v
   onward : (u v w : Unit) (need : Contains (needs ws features u) v) (more : Reaches ws features v w) → Reaches ws features u w
 
 -- Roots.
 
--- nothing restricts what is built of the selected packages
+-- the options do not restrict what is built of the selected packages
 abbrev pub asks_all : Selection → Bool
 asks_all selection = not (selection.lib || selection.bins || not (length selection.bin == 0))
 
--- libraries are built: `--lib` was given, or nothing restricts
+-- libraries are built: `--lib` was given, or no option restricts what is built
 abbrev pub asks_libraries : Selection → Bool
 asks_libraries selection = selection.lib || asks_all selection
 
--- the binaries of this name are built: `--bins` or `--bin NAME` was given, or nothing restricts
+-- binaries with this name are built: `--bins` or `--bin NAME` was given, or no option restricts what is built
 abbrev pub asks_binary : Selection → List ℕ → Bool
 asks_binary selection name = selection.bins || is_mentioned selection.bin name || asks_all selection
 
--- what a build must make: the libraries and the binaries of the selected
--- packages, for the target; a binary only if all features that it requires are on
+-- The unit is one that a build must make: the library or a binary of a selected package, for the
+-- target. A binary is made only if all features that it requires are on.
 pub data IsRoot (ws : Workspace) (features : Features) (selection : Selection) : Unit → Type 0 where
   library : (p : ℕ) (selected : Contains selection.packages p) (asked : asks_libraries selection ≡ true) (there : has_library (slice_get ws.packages p) ≡ true) → IsRoot ws features selection (unit p Target Lib)
   binary : (p : ℕ) (owner : Package) (made : Binary) (selected : Contains selection.packages p) (package_at : slice_get ws.packages p ≡ Some owner) (there : Contains owner.binaries made) (asked : asks_binary selection made.name ≡ true)
       (on : All (Contains (features_at features p Target)) made.required_features) → IsRoot ws features selection (unit p Target (Bin made.name))
 
--- a unit of the plan: a root, or what a root reaches
+-- the plan has the unit: it is a root, or a root reaches it
 abbrev pub IsPlanned : Workspace → Features → Selection → Unit → Type 0
 IsPlanned ws features selection u = IsRoot ws features selection u ⊎ ((r : Unit) × IsRoot ws features selection r × Reaches ws features r u)

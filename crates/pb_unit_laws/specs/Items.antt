@@ -1,4 +1,4 @@
--- What is wrong with the items of a package's features (The Cargo Book, Features).
+-- Which fault the items of a package's features have (The Cargo Book, Features).
 use Rattle.std.specs.Prelude.{◌≡◌, ℕ, Bool, true, false, ◌&&◌, ◌||◌, not, if◌then◌else◌, List, Option, Some, None, slice_get}
 use Rattle.std.specs.List.{filter_map, flat_map, list_any}
 use Rattle.std.specs.Str.{bytes_eq}
@@ -12,21 +12,22 @@ use Rattle.pb_workspace_types.specs.Workspace.{has_feature_named}
 use Rattle.pb_workspace_types.specs.declared.package.Entry.{Entry}
 use Rattle.pb_workspace_types.specs.declared.package.Package.{Package}
 
--- the fault of a name that must be the name of an entry, or of an optional entry: `NotOptional` if
--- only entries that are not optional have this name, `NoSuchDependency` if neither an entry nor a
--- key of `[dev-dependencies]` has it
+-- The fault of a name that must be that of an entry, or of an optional entry. If only entries that
+-- are not optional have the name, it is `NotOptional`. If no entry and no key of
+-- `[dev-dependencies]` has it, it is `NoSuchDependency`.
 abbrev pub name_fault : Package → Bool → List ℕ → Option FeatureFault
 name_fault p optional name =
     if list_any (λ (e : Entry). bytes_eq name e.key && (e.optional || not optional)) p.entries then None
     else (if list_any (λ (e : Entry). bytes_eq name e.key) p.entries then Some NotOptional else (if list_any (bytes_eq name) p.development then None else Some NoSuchDependency))
 
--- what is wrong with an item
+-- the fault of an item, if it has one
 abbrev pub fault_of : Package → FeatureItem → Option FeatureFault
 fault_of p (Own feature) = if has_feature_named p.features feature then None else Some NoSuchFeature
 fault_of p (Of name feature) = name_fault p false name
 fault_of p (Dependency name) = name_fault p true name
 fault_of p (OfEnabled name feature) = name_fault p true name
 
--- The fault of a package is the first fault of its items, in written order, feature after feature in byte order.
+-- The fault of a package is the first fault of its items. The items come feature by feature in byte
+-- order, and in written order within a feature.
 abbrev pub PackagesAreAtFault : Type 0
 PackagesAreAtFault = (p : Package) → package_fault p ≡ slice_get (filter_map (fault_of p) (flat_map (λ (feature : Feature). feature.items) p.features)) 0

@@ -1,4 +1,4 @@
--- The levels of a plan's units, and facts about packages by their index.
+-- Laws about the levels of a plan's units, and about packages by their index.
 use Rattle.std.specs.Prelude.{◌≡◌, ◌+◌, ℕ, max, false, is_some, fold, List, [], map, slice_get}
 use Rattle.std.specs.Option.{option_map_or}
 use Rattle.pb_workspace_types.specs.declared.package.Package.{Package}
@@ -7,14 +7,14 @@ use Rattle.pb_unit.specs.Plan.{above, level_at}
 use Rattle.pb_unit.specs.Units.{has_library, name_at}
 use Rattle.pb_unit.specs.declared.plan.Planned.{Planned}
 
--- The level above the units at some indices is one more than the greatest level of these units;
--- without units it is 0.
+-- `above` of the levels at some indices is one more than the greatest of these levels, or 0 if
+-- there are no indices.
 abbrev pub LevelsAreThese : Type 0
 LevelsAreThese = (units : List Planned) (places : List ℕ)
     → above (map (level_at units) places) ≡ fold max 0 (map (λ index. option_map_or (λ (p : Planned). p.level + 1) (slice_get units index) 1) places)
 
--- The name of the package at an index, and whether it has a library. If there is no package, there
--- is no name and no library.
+-- What `name_at` and `has_library` say about the package at an index. If there is no package, the
+-- name is empty and there is no library.
 abbrev pub PackagesHaveNames : Type 0
 PackagesHaveNames = (ws : Workspace) (index : ℕ)
     → (name_at ws index ≡ option_map_or (λ (p : Package). p.name) (slice_get ws.packages index) [])

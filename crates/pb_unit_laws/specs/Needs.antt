@@ -1,4 +1,5 @@
--- What a unit needs (The Cargo Book, Specifying Dependencies, Build Scripts): a rule for each kind of unit.
+-- What a unit needs (The Cargo Book, Specifying Dependencies, Build Scripts). There is a rule for
+-- each kind of unit.
 use Rattle.std.specs.Prelude.{◌≡◌, ◌↔◌, ℕ, true, is_some, List, Contains, Some, slice_get}
 use Rattle.pb_feature_types.specs.Features.{is_enabled}
 use Rattle.pb_feature_types.specs.declared.features.Features.{Features}
@@ -14,24 +15,26 @@ use Rattle.pb_unit.specs.declared.unit.Unit.{Unit}
 use Rattle.pb_unit.specs.declared.unit.What.{What}
 use Rattle.pb_unit.specs.declared.unit.What.TheVariants.{Lib, Bin, Script, Run}
 
--- a unit that is compiled with the `[dependencies]` of its package
+-- the unit is compiled with the `[dependencies]` of its package
 pub data IsLinked : What → Type 0 where
   a_library : IsLinked Lib
   a_binary : (name : List ℕ) → IsLinked (Bin name)
 
 pub data Needs (ws : Workspace) (features : Features) : Unit → Unit → Type 0 where
-  -- a library or a binary: the library of an enabled normal entry, on the same side; the run of its package's script
+  -- A library or a binary needs the library of an enabled normal entry, on the same side, and the
+  -- run of its package's script.
   dependency : (p : ℕ) (s : Side) (what : What) (n : ℕ) (e : Entry) (linked : IsLinked what) (has : HasEntry ws p n e) (enabled : is_enabled features p s n ≡ true) (normal : e.kind ≡ Normal) (made : has_library (slice_get ws.packages e.to) ≡ true) → Needs ws features (unit p s what) (unit e.to s Lib)
   own_run : (p : ℕ) (s : Side) (what : What) (owner : Package) (linked : IsLinked what) (there : slice_get ws.packages p ≡ Some owner) (script : is_some owner.script ≡ true) → Needs ws features (unit p s what) (unit p s Run)
-  -- a binary: its package's library
+  -- a binary needs its package's library
   own_library : (p : ℕ) (s : Side) (name : List ℕ) (made : has_library (slice_get ws.packages p) ≡ true) → Needs ws features (unit p s (Bin name)) (unit p s Lib)
-  -- a script: the library of an enabled build entry, for the host
+  -- a script needs the library of an enabled build entry, on the host's side
   tool : (p : ℕ) (s : Side) (n : ℕ) (e : Entry) (has : HasEntry ws p n e) (enabled : is_enabled features p s n ≡ true) (build : e.kind ≡ Build) (made : has_library (slice_get ws.packages e.to) ≡ true) → Needs ws features (unit p s Script) (unit e.to Host Lib)
-  -- a run: its script; the run of an enabled normal entry whose package has a library and a `links` key
+  -- A run needs its script. A run needs the run of an enabled normal entry, too, if that entry's
+  -- package has a library, `links` and a script.
   own_script : (p : ℕ) (s : Side) → Needs ws features (unit p s Run) (unit p s Script)
   handed_on : (p : ℕ) (s : Side) (n : ℕ) (e : Entry) (to : Package) (has : HasEntry ws p n e) (enabled : is_enabled features p s n ≡ true) (normal : e.kind ≡ Normal) (there : slice_get ws.packages e.to ≡ Some to)
       (made : is_some to.library ≡ true) (links : is_some to.links ≡ true) (script : is_some to.script ≡ true) → Needs ws features (unit p s Run) (unit e.to s Run)
 
--- a unit needs exactly these units
+-- the units that a unit needs are exactly those that these rules say
 abbrev pub NeedsAreThese : Type 0
 NeedsAreThese = (ws : Workspace) (features : Features) (u v : Unit) → Contains (needs ws features u) v ↔ Needs ws features u v

@@ -12,20 +12,21 @@ use Rattle.pb_profile.specs.Line.{Seen, checked_line, is_either, line_of, named,
 use Rattle.pb_profile.specs.declared.fault.ProfileFault.{ProfileFault}
 use Rattle.pb_profile.specs.declared.fault.ProfileFault.TheVariants.{NoSuchProfile, InheritsCycle, NotInOverride}
 
--- a profile inherits from another: `test` from `dev`, `bench` from `release`, and a custom profile
--- from the profile that its table names. `dev` and `release` inherit from none
+-- One profile inherits from another. `test` inherits from `dev`, and `bench` from `release`. A
+-- custom profile inherits from the profile that its table names. `dev` and `release` inherit from
+-- none.
 pub data Inherits (profiles : List Profile) : List ℕ → List ℕ → Type 0 where
   test : Inherits profiles (codes "test") (codes "dev")
   bench : Inherits profiles (codes "bench") (codes "release")
   custom : (name parent : List ℕ) (p : Profile) (other : is_either (codes "dev") (codes "release") name || is_either (codes "test") (codes "bench") name ≡ false) (there : named profiles name ≡ Some p) (written : p.inherits ≡ Some parent) → Inherits profiles name parent
 
--- the profile itself, or a profile from which it inherits in one or more steps
+-- the ancestor is the profile itself, or the profile inherits from it in one or more steps
 pub data IsAncestor (profiles : List Profile) : List ℕ → List ℕ → Type 0 where
   itself : (name : List ℕ) → IsAncestor profiles name name
   higher : (name parent ancestor : List ℕ) (inherits : Inherits profiles name parent) (more : IsAncestor profiles parent ancestor) → IsAncestor profiles name ancestor
 
--- the line of a profile, which ends at `dev` or `release`; or a fault, because one of its ancestors
--- inherits from nothing or, after some steps, from itself
+-- The line of a profile ends at `dev` or `release`. If an ancestor inherits from none but is
+-- neither `dev` nor `release`, or inherits from itself after some steps, the line is a fault.
 pub data IsLine (profiles : List Profile) : List ℕ → Result (List Seen) ProfileFault → Type 0 where
   last : (name : List ℕ) (built_in : is_either (codes "dev") (codes "release") name ≡ true) → IsLine profiles name (Ok (seen_at profiles name ∷ []))
   further : (name parent : List ℕ) (line : List Seen) (inherits : Inherits profiles name parent) (rest : IsLine profiles parent (Ok line)) → IsLine profiles name (Ok (seen_at profiles name ∷ line))
@@ -35,15 +36,15 @@ pub data IsLine (profiles : List Profile) : List ℕ → Result (List Seen) Prof
 abbrev pub LinesAreThese : Type 0
 LinesAreThese = (profiles : List Profile) (name : List ℕ) (answer : Result (List Seen) ProfileFault) → (line_of profiles name ≡ answer) ↔ IsLine profiles name answer
 
--- the keys that the overrides of a line set
+-- what each override in a line sets
 abbrev pub overrides_of : List Seen → List Said
 overrides_of line = flat_map (λ (p : Profile). option_to_list p.build_override ++ map (λ (o : ProfileOverride). o.keys) p.packages) (filter_map (λ (s : Seen). s.table) line)
 
--- an override sets neither `panic` nor `lto` nor `rpath`
+-- what an override sets has no value for `panic`, `lto` and `rpath`
 abbrev pub sets_no_other : Said → Bool
 sets_no_other values = is_none (says values key.Panic) && is_none (says values key.Lto) && is_none (says values key.Rpath)
 
--- A line is good if its overrides set only what they may.
+-- A line is accepted if and only if its overrides set none of `panic`, `lto` and `rpath`.
 abbrev pub LinesAreChecked : Type 0
 LinesAreChecked = (profiles : List Profile) (name : List ℕ)
     → checked_line profiles name ≡ line_of profiles name >>= (λ line. if list_all sets_no_other (overrides_of line) then Ok line else Err NotInOverride)

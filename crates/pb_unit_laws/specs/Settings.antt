@@ -1,5 +1,5 @@
--- The settings of a package: the sets that count for it, in order, and the first value of each key
--- (The Cargo Book, Profiles).
+-- The settings of a package. Several sets of values count for it, in order. Each key has the first
+-- value that they have for it (The Cargo Book, Profiles).
 use Rattle.std.specs.Prelude.{◌≡◌, ◌∷◌, ◌++◌, [], ℕ, if◌then◌else◌, codes, List, map, Option, Some, None, option_and_then, option_map, slice_get, unwrap_or}
 use Rattle.std.specs.List.{filter_map, find, flat_map}
 use Rattle.std.specs.Str.{bytes_eq}
@@ -15,11 +15,11 @@ use Rattle.pb_workspace_types.specs.declared.package.Side.TheVariants.{Target, H
 use Rattle.pb_profile.specs.Line.{Seen}
 use Rattle.pb_profile.specs.Settings.{fixed, settings_along}
 
--- what is set: the value of each key that has one
+-- a set of values: for each key a value, or none
 abbrev pub Set : Type 0
 Set = ProfileKey → Option Setting
 
--- what `package.NAME` of a profile sets
+-- the values that `package.NAME` of a profile sets, if there is such a table
 abbrev pub set_for : List ℕ → Seen → Option Set
 set_for name s = option_map says (option_and_then (λ (p : Profile). option_map (λ (o : ProfileOverride). o.keys) (find (λ (o : ProfileOverride). bytes_eq o.name name) p.packages)) s.table)
 
@@ -27,22 +27,22 @@ set_for name s = option_map says (option_and_then (λ (p : Profile). option_map 
 abbrev pub built_in_set : Seen → Option Set
 built_in_set s = if bytes_eq s.name (codes "dev") then Some (λ k. Some (defaults k).dev) else (if bytes_eq s.name (codes "release") then Some (λ k. Some (defaults k).release) else None)
 
--- what is set for host roles: `build-override`, and the built-in values for it
+-- the values for host roles: those of `build-override`, and the built-in ones that come after it
 abbrev pub set_for_role : Side → List (Seen → Option Set)
 set_for_role Target = []
 set_for_role Host = (λ (s : Seen). option_map says (option_and_then (λ (p : Profile). p.build_override) s.table)) ∷ (λ (s : Seen). Some (λ k. (defaults k).beside_override)) ∷ []
 
--- the sets that count for a package in a role, the strongest first: `package.NAME`; then
--- `package."*"`, if the package is not a member; then the sets of the role, of the profile, and the
--- built-in sets. Each of these comes from the profiles of the line in turn
+-- The sets that count for a package in a role, the strongest first. `package.NAME` is the first.
+-- `package."*"` follows, if the package is no member. The role's sets, the profile's own keys and
+-- the built-in values come after it. Each set is taken from the profiles of the line in turn.
 abbrev pub sets_for : Package → Side → List Seen → List Set
 sets_for p role line = flat_map (λ index. filter_map index line) (set_for p.name ∷ (if p.is_member then [] else set_for (codes "*") ∷ []) ++ set_for_role role ++ (λ (s : Seen). option_map says (option_map (λ (p : Profile). p.keys) s.table)) ∷ built_in_set ∷ [])
 
--- the first value of a key, or the default
+-- the first value that the sets have for a key, or the default if they have none
 abbrev pub first_value : ProfileKey → List Set → Setting → Setting
 first_value k sets default = unwrap_or (slice_get (filter_map (λ (set : Set). set k) sets) 0) default
 
--- The settings of a package in a role are these, one for each key. Each line ends in a profile with
--- built-in values, so the default here is never used.
+-- The settings of a package in a role are these first values, one for each key. Each line ends with
+-- a profile that has all built-in values, so the default is never used.
 abbrev pub SettingsAreThese : Type 0
 SettingsAreThese = (p : Package) (role : Side) (line : List Seen) → settings_along p role line ≡ map (λ k. fixed role k (first_value k (sets_for p role line) (defaults k).dev)) keys

@@ -1,4 +1,4 @@
--- What a unit compiles, and the files that it produces (The Cargo Book, Cargo Targets, Build Scripts).
+-- What a unit compiles, and which files it produces (The Cargo Book, Cargo Targets, Build Scripts).
 use Rattle.std.specs.Prelude.{◌≡◌, ℕ, codes, List, [], ◌∷◌, ◌++◌, map, None, Some, Contains, slice_get}
 use Rattle.pb_directive.specs.Metadata.{underscored}
 use Rattle.pb_manifest_types.specs.declared.target.CrateType.{CrateType}
@@ -19,14 +19,15 @@ use Rattle.pb_unit.specs.declared.unit.Unit.{Unit as OfPlan}
 use Rattle.pb_unit.specs.declared.unit.What.{What}
 use Rattle.pb_unit.specs.declared.unit.What.TheVariants.{Lib, Bin, Script, Run}
 
--- a target of a package: the name of its crate, its crate types, its source, and the name of the
--- compiled file
+-- The package has a target of this kind. The target has the name of its crate, its crate types, its
+-- source, and the name of the compiled file.
 pub data IsTarget (p : Package) : What → List ℕ → List CrateType → List ℕ → List ℕ → Type 0 where
   library : (l : Library) (has : p.library ≡ Some l) → IsTarget p Lib l.name l.crate_types l.source (codes "lib" ++ l.name ++ codes ".rlib")
   binary : (b : Binary) (has : Contains p.binaries b) → IsTarget p (Bin b.name) (underscored b.name) (crate_type.Bin ∷ []) b.source (underscored b.name)
   script : (source : List ℕ) (has : p.script ≡ Some source) → IsTarget p Script (codes "build_script_build") (crate_type.Bin ∷ []) source (codes "build_script_build")
 
--- a unit compiles this target; its output folder contains the file, and `CRATE.d`, which lists what was read
+-- The unit compiles the target with these parts. The unit's output folder contains the compiled
+-- file, and the file `CRATE.d`, which lists what was read.
 pub record Makes (project : Project) (u : Planned) (p : Package) (crate : List ℕ) (types : List CrateType) (source file : List ℕ) : Type 0 where
   pub crate_is : crate_name_of project u ≡ crate
   pub types_are : crate_types p.library u.unit.what ≡ types
@@ -34,8 +35,8 @@ pub record Makes (project : Project) (u : Planned) (p : Package) (crate : List �
   pub file_is : made_file_of project u ≡ file_in u.out file
   pub told : dep_info_of project u ≡ file_in u.out (crate ++ codes ".d")
 
--- each unit of a package compiles its target, if the package's binaries are sorted by name; in a
--- workspace that was read they are
+-- Each unit of a package compiles its target, if the package's binaries are sorted by name. In a
+-- workspace that was read they are sorted.
 abbrev pub UnitsMakeTargets : Type 0
 UnitsMakeTargets = (project : Project) (u : Planned) (p : Package) (crate : List ℕ) (types : List CrateType) (source file : List ℕ) → package_of project u ≡ Some p → IsAscending (map (λ (b : Binary). b.name) p.binaries)
     → IsTarget p u.unit.what crate types source file → Makes project u p crate types source file
@@ -44,11 +45,11 @@ UnitsMakeTargets = (project : Project) (u : Planned) (p : Package) (crate : List
 abbrev pub RunsMakeNone : Type 0
 RunsMakeNone = (project : Project) (u : Planned) → u.unit.what ≡ Run → (made_file_of project u ≡ None) × (dep_info_of project u ≡ None)
 
--- the package of a unit has the unit's target; the package of a run has the script
+-- The package of a unit has a target of the unit's kind. The package of a run has a script.
 pub data HasTarget (ws : Workspace) : OfPlan → Type 0 where
   compile : (p : ℕ) (s : Side) (what : What) (owner : Package) (there : slice_get ws.packages p ≡ Some owner) (crate : List ℕ) (types : List CrateType) (source file : List ℕ) (is : IsTarget owner what crate types source file) → HasTarget ws (unit p s what)
   run : (p : ℕ) (s : Side) (owner : Package) (there : slice_get ws.packages p ≡ Some owner) (source : List ℕ) (has : owner.script ≡ Some source) → HasTarget ws (unit p s Run)
 
--- each unit of a plan satisfies `HasTarget`
+-- the package of each unit of a plan has the unit's target, as `HasTarget` states
 abbrev pub PlansHaveTargets : Type 0
 PlansHaveTargets = (ws : Workspace) (features : Features) (selection : Selection) (u : OfPlan) → IsPlanned ws features selection u → HasTarget ws u

@@ -1,4 +1,4 @@
--- A workspace assembled from the packages that were read (The Cargo Book, Workspaces).
+-- How a workspace is assembled from the packages that were read (The Cargo Book, Workspaces).
 use Rattle.std.specs.Prelude.{ℕ, Bool, ◌&&◌, ◌||◌, if◌then◌else◌, List, map, Option, Some, None, unwrap_or}
 use Rattle.std.specs.List.{list_all, list_any}
 use Rattle.pb_manifest_types.specs.declared.profile.Profile.{Profile}
@@ -16,7 +16,7 @@ use Rattle.pb_workspace.specs.Members.{means}
 use Rattle.pb_workspace.specs.Places.{places_of}
 use Rattle.pb_workspace.specs.Selected.{places_where}
 
--- an entry with the index of its package
+-- an entry that was read, as an entry that has the index of the package to which it leads
 abbrev pub entry_at : List (List ℕ × ℕ) → Wanted → Entry
 entry_at places w = record {
   key = w.key;
@@ -28,7 +28,7 @@ entry_at places w = record {
   features = w.features;
 }
 
--- a package whose entries have the indices of the packages to which they lead
+-- a package that was read; its entries have the indices of the packages to which they lead
 abbrev pub package_at : List (List ℕ × ℕ) → UnresolvedPackage → Package
 package_at places d = record {
   name = d.name;
@@ -50,25 +50,26 @@ package_at places d = record {
 abbrev pub packages_of : List UnresolvedPackage → List Package
 packages_of drafts = map (package_at (places_of drafts)) drafts
 
--- the package is a member that this text means
+-- the package is a member, and the text means its folder
 abbrev pub is_meant_member : List ℕ → Package → List ℕ → Bool
 is_meant_member root p text = p.is_member && means root text p.folder
 
--- a written folder must be a member's; a glob picks among the members
+-- A text of `default-members` that is a folder must mean a member. A glob picks among the members,
+-- and is never unknown.
 abbrev pub is_known : List ℕ → List Package → List ℕ → Bool
 is_known root packages text = is_glob text || list_any (λ p. is_meant_member root p text) packages
 
--- the package is a member that one of the texts means
+-- the package is a member, and one of these texts means its folder
 abbrev pub is_default : List ℕ → List (List ℕ) → Package → Bool
 is_default root texts p = list_any (is_meant_member root p) texts
 
--- the default members of these packages, as `default-members` lists them
+-- the default members among these packages, as `default-members` lists them
 abbrev pub default_members_of : List ℕ → List Package → Option (List (List ℕ)) → DefaultMembers
 default_members_of root packages None = Unwritten
 default_members_of root packages (Some texts) =
     if list_all (is_known root packages) texts then Named (places_where (is_default root texts) packages) else Unknown
 
--- the workspace of these packages
+-- the workspace that consists of these packages
 unfoldable pub assembled : List ℕ → WorkspaceRoot → List Profile → List UnresolvedPackage → Workspace
 assembled target f profiles drafts = record {
   root = f.root;

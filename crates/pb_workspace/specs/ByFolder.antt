@@ -1,4 +1,4 @@
--- Values by their folders, in byte order of the folders.
+-- Tables from folders to values, in byte order of the folders.
 use Rattle.std.specs.Prelude.{ℕ, Bool, is_some, List, [], ◌∷◌, map, Option}
 use Rattle.std.specs.BTreeMap.{is_at}
 use Rattle.std.specs.Map.{lookup}
@@ -6,11 +6,11 @@ use Rattle.std.specs.Ordering.{nat_cmp}
 use Rattle.std.specs.Cmp.Lexicographic.{slice_cmp}
 use Rattle.pb_workspace_package.specs.Sorted.{with_entry}
 
--- the value of a folder, if it has one
+-- the value of a folder, if the table has one
 abbrev pub value_of : {V : Type 0} → List ℕ → List (List ℕ × V) → Option V
 value_of folder entries = lookup (is_at (slice_cmp nat_cmp folder)) entries
 
--- whether a folder has a value
+-- the table has a value for the folder
 abbrev pub has : {V : Type 0} → List ℕ → List (List ℕ × V) → Bool
 has folder entries = is_some (value_of folder entries)
 
@@ -20,7 +20,7 @@ folders_of entries = map (λ e. e.0) entries
 abbrev pub values_of : {V : Type 0} → List (List ℕ × V) → List V
 values_of entries = map (λ e. e.1) entries
 
--- the folders with more folders added, in byte order without repeats
+-- the folders after these folders are added, in byte order and without repeats
 abbrev pub with_folders : List (List ℕ × Unit {0}) → List (List ℕ) → List (List ℕ × Unit {0})
 with_folders entries [] = entries
 with_folders entries (folder ∷ folders) = with_folders (with_entry entries folder tt) folders

@@ -1,4 +1,5 @@
--- What is refused once all packages are read, in this order (the order is our own choice if The Cargo Book has none).
+-- What is refused after all packages were read. The checks come in this order. The order is our own
+-- choice if The Cargo Book has none.
 use Rattle.std.specs.Prelude.{ℕ, Bool, true, not, is_some, ◌&&◌, if◌then◌else◌, List, [], map, Option, Some, None}
 use Rattle.std.specs.List.{filter_map, list_any}
 use Rattle.std.specs.Str.{bytes_eq}
@@ -14,7 +15,7 @@ use Rattle.pb_workspace_package.specs.Settling.{comes_again}
 abbrev pub has_same_names : List UnresolvedPackage → Bool
 has_same_names drafts = comes_again [] (map (λ (d : UnresolvedPackage). d.name) drafts)
 
--- the package that was found has a different name than the entry requests
+-- the package to which an entry leads is not there, or has another name than the entry requests
 abbrev pub has_other_name : Wanted → Option UnresolvedPackage → Bool
 has_other_name w None = true
 has_other_name w (Some d) = not (bytes_eq w.name d.name)
@@ -23,12 +24,12 @@ abbrev pub matches_if : Option (List ℕ) → List ℕ → Bool
 matches_if None version = true
 matches_if (Some requirement) version = matches requirement version
 
--- the version of the package does not match what the entry requests
+-- the package to which an entry leads is not there, or has a version that the entry does not accept
 abbrev pub has_other_version : Wanted → Option UnresolvedPackage → Bool
 has_other_version w None = true
 has_other_version w (Some d) = not (matches_if w.version d.version)
 
--- an entry of some package leads to a package for which the test is true
+-- the test is true for some entry of some package and the package to which this entry leads
 abbrev pub some_leads : (Wanted → Option UnresolvedPackage → Bool) → List UnresolvedPackage → Bool
 some_leads test drafts = list_any (λ (d : UnresolvedPackage). list_any (λ (w : Wanted). test w (draft_in drafts w.folder)) d.wanted) drafts
 
@@ -40,7 +41,7 @@ links_twice drafts = comes_again [] (filter_map (λ (d : UnresolvedPackage). d.l
 abbrev pub links_without_script : UnresolvedPackage → Bool
 links_without_script d = is_some d.links && not (is_some d.script)
 
--- the first of these faults that some package has
+-- the fault of the first check that these packages do not pass
 unfoldable pub fault_of : List UnresolvedPackage → Option LoadFault
 fault_of drafts =
     if has_same_names drafts then Some SameName

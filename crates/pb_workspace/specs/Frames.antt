@@ -1,4 +1,4 @@
--- What a root manifest contains about its workspace, and which packages are its members (The Cargo Book, Workspaces).
+-- What a root manifest says about its workspace, and which packages are members (The Cargo Book, Workspaces).
 use Rattle.std.specs.Prelude.{ℕ, Bool, true, false, not, ◌&&◌, ◌||◌, if◌then◌else◌, List, [], Option, Some, None}
 use Rattle.std.specs.Str.{bytes_eq}
 use Rattle.pb_place_types.specs.Paths.{is_at_or_below}
@@ -9,11 +9,11 @@ use Rattle.pb_workspace_package.specs.declared.settling.Given.{Given}
 use Rattle.pb_workspace.specs.ByFolder.{has}
 use Rattle.pb_workspace.specs.Members.{is_excluded}
 
--- no key of `[workspace.package]`
+-- a `[workspace.package]` without keys
 abbrev pub no_keys : WorkspacePackage
 no_keys = record { authors = None; description = None; edition = None; homepage = None; license = None; license_file = None; readme = None; repository = None; rust_version = None; version = None }
 
--- nothing to inherit
+-- what a package can inherit if its workspace offers nothing
 abbrev pub nothing : Given
 nothing = record { «package» = no_keys; dependencies = [] }
 
@@ -21,16 +21,16 @@ abbrev pub keys_or_none : Option WorkspacePackage → WorkspacePackage
 keys_or_none None = no_keys
 keys_or_none (Some keys) = keys
 
--- the workspace of a root manifest; without `[workspace]` it is the root package only
+-- What a root manifest says about its workspace. Without `[workspace]`, the workspace is the root package only.
 abbrev pub frame_of : List ℕ → List ℕ → Option WorkspaceTable → WorkspaceRoot
 frame_of root manifest None = record { root = root; manifest = manifest; is_workspace = false; members = []; exclude = []; default_members = None; given = nothing }
 frame_of root manifest (Some w) = record { root = root; manifest = manifest; is_workspace = true; members = w.members; exclude = w.exclude; default_members = w.default_members; given = record { «package» = keys_or_none w.package; dependencies = w.dependencies } }
 
--- A member is the root package or, in a workspace, a folder that `members` means.
--- A folder inside the root folder is also a member of the workspace, unless `exclude` lists it.
+-- The root package is a member. In a workspace, each folder that `members` means is a member. So is
+-- each folder inside the root folder, unless `exclude` lists it.
 abbrev pub is_member : WorkspaceRoot → List (List ℕ × Unit {0}) → List ℕ → Bool
 is_member f meant folder = bytes_eq folder f.root || (f.is_workspace && (has folder meant || (is_at_or_below f.root folder && not (is_excluded f.root f.exclude folder))))
 
--- only members inherit from their workspace
+-- what a package may inherit from its workspace: nothing if it is no member
 abbrev pub given_to : WorkspaceRoot → Bool → Given
 given_to f member = if member then f.given else nothing

@@ -1,27 +1,27 @@
--- The meaning of a glob, defined independently of how it is computed. Texts are UTF-8 bytes.
--- (The Cargo Book, Workspaces; which signs of a glob are supported is our own choice.)
+-- The meaning of a glob, defined without its computation. Texts are UTF-8 bytes. Which signs of a
+-- glob we support is our own choice. (The Cargo Book, Workspaces)
 use Rattle.std.specs.Prelude.{◌≡◌, ◌↔◌, ℕ, Bool, true, false, not, ◌||◌, ◌==◌, List, [], ◌∷◌, ◌++◌}
 use Rattle.std.specs.List.{list_all}
 use Rattle.pb_data.specs.Ascii.{star, question_mark}
 use Rattle.pb_workspace.specs.Globs.{goes_on, matches}
 
--- the text does not begin inside a character
+-- the text does not begin in the middle of a character
 abbrev pub begins_whole : List ℕ → Bool
 begins_whole [] = true
 begins_whole (b ∷ rest) = not (goes_on b)
 
--- the signs `*` and `?`
+-- the byte is `*` or `?`
 abbrev pub is_sign : ℕ → Bool
 is_sign b = b == star || b == question_mark
 
--- A pattern matches a name byte by byte: `*` matches any text, `?` one character, every other byte itself.
--- The empty pattern matches only the empty text.
+-- A pattern matches a name byte by byte. `*` matches any text, `?` matches one character, and every
+-- other byte matches itself. The empty pattern matches only the empty text.
 pub data Matches : List ℕ → List ℕ → Type 0 where
   empty : Matches [] []
   any : (pattern text rest : List ℕ) (behind : Matches pattern rest) → Matches (star ∷ pattern) (text ++ rest)
   one : (pattern : List ℕ) (first : ℕ) (more rest : List ℕ) (further : list_all goes_on more ≡ true) (whole : begins_whole rest ≡ true) (behind : Matches pattern rest) → Matches (question_mark ∷ pattern) (first ∷ more ++ rest)
   itself : (pattern : List ℕ) (b : ℕ) (rest : List ℕ) (plain : is_sign b ≡ false) (behind : Matches pattern rest) → Matches (b ∷ pattern) (b ∷ rest)
 
--- a computed match is true if and only if this relation is
+-- the computed match is true if and only if the pattern matches the name by this relation
 abbrev pub DecidesGlobs : Type 0
 DecidesGlobs = (pattern name : List ℕ) → (matches pattern name ≡ true) ↔ Matches pattern name

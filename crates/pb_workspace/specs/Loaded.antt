@@ -1,4 +1,4 @@
--- The workspace of a manifest (The Cargo Book, Workspaces).
+-- The workspace that a root manifest describes (The Cargo Book, Workspaces).
 use Rattle.std.specs.Prelude.{ℕ, true, if◌then◌else◌, List, [], Option, Some, None, Result, Ok, Err}
 use Rattle.pb_data.specs.UnlessOom.{◌>>=◌}
 use Rattle.pb_place_types.specs.Paths.{folder_of}
@@ -22,7 +22,8 @@ use Rattle.pb_workspace.specs.Frames.{frame_of}
 use Rattle.pb_workspace.specs.MemberFolders.{is_manifest, member_folders}
 use Rattle.pb_workspace.specs.Rounds.{all_read, draft_at, parts_at, rounds, with_draft}
 
--- the parts of the root manifest, which is named `Cargo.toml`; no manifest is at or below the target folder
+-- The parts of the root manifest. The file must be named `Cargo.toml`. A file at or below the
+-- target folder is no manifest.
 abbrev pub root_parts : World → List ℕ → Result Parts LoadFault
 root_parts sources path = if is_manifest path then parts_at sources path else Err (NoManifest path)
 
@@ -32,12 +33,13 @@ at_root f = record { root = f.root; folder = f.root; manifest = f.manifest }
 abbrev pub nothing_read : LoadState
 nothing_read = record { found = []; ahead = [] }
 
--- the root package, which is a member, is read first if there is one
+-- What was read after the root package. The root package is a member and is read first, if there is one.
 unfoldable pub root_read : World → WorkspaceRoot → Tables → Option Package → Result LoadState LoadFault
 root_read sources f tables None = Ok nothing_read
 root_read sources f tables (Some p) = draft_of sources (at_root f) true f.given p tables >>= (λ d. Ok (with_draft nothing_read f.root d))
 
--- then the members are read, and then, round by round, the packages to which path dependencies lead
+-- What was read after all other packages. The members are read first. Then, in rounds, the packages
+-- to which path dependencies lead are read.
 unfoldable pub others_read : World → WorkspaceRoot → LoadState → Result LoadState LoadFault
 others_read sources f begun =
     all_read (draft_at sources f (member_folders sources f)) begun (folders_of (member_folders sources f)) >>= (λ read.
@@ -46,7 +48,7 @@ others_read sources f begun =
 unfoldable pub packages_read : World → WorkspaceRoot → Tables → Option Package → Result LoadState LoadFault
 packages_read sources f tables p = root_read sources f tables p >>= (λ begun. others_read sources f begun)
 
--- finally the packages are checked together
+-- The workspace, unless a check failed. All packages are checked together at the end.
 abbrev pub unless : Option LoadFault → Workspace → Result Workspace LoadFault
 unless None ws = Ok ws
 unless (Some fault) ws = Err fault
@@ -54,11 +56,12 @@ unless (Some fault) ws = Err fault
 unfoldable pub workspace_from : List ℕ → WorkspaceRoot → List Profile → List UnresolvedPackage → Result Workspace LoadFault
 workspace_from target f profiles drafts = unless (fault_of drafts) (assembled target f profiles drafts)
 
--- the workspace of a frame and its root package, if there is one
+-- the workspace, given what its root manifest says about it, and the root package if there is one
 unfoldable pub workspace_in : World → List ℕ → WorkspaceRoot → List Profile → Tables → Option Package → Result Workspace LoadFault
 workspace_in sources target f profiles tables p = packages_read sources f tables p >>= (λ read. workspace_from target f profiles (values_of read.found))
 
--- the workspace of a manifest, which depends only on the sources: files at or below the target folder are ignored
+-- The workspace that a root manifest describes. Only the sources determine it: files at or below
+-- the target folder are ignored.
 unfoldable pub workspace_of : List ℕ → List ℕ → World → Result Workspace LoadFault
 workspace_of manifest target w =
     root_parts (from_nothing target w) manifest >>= (λ parts.

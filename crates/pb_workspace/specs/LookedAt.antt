@@ -1,6 +1,6 @@
--- The calls that the reading of a workspace makes, in order, each with its path, up to the first refusal.
--- The order is our own choice if The Cargo Book has none.
--- `sources` is the world without the files at or below the target folder.
+-- Which calls are made to read a workspace, in order, up to the first refusal. Each call has its
+-- path. The order is our own choice if The Cargo Book has none. `sources` is the world without the
+-- files at or below the target folder.
 use Rattle.std.specs.Prelude.{ℕ, zero, suc, nat_le, if◌then◌else◌, codes, List, [], ◌∷◌, ◌++◌, length, Option, Some, None, Result}
 use Rattle.std.specs.List.{flat_map}
 use Rattle.std.specs.Str.{bytes_eq}
@@ -26,20 +26,20 @@ use Rattle.pb_workspace.specs.Members.{parts_meant}
 use Rattle.pb_workspace.specs.Rounds.{all_read, draft_at, one_read, parts_at, round, standing_in}
 use Rattle.pb_workspace_package.specs.Looks.{after, listings_at, looked}
 
--- the calls for a manifest's package, if it has one
+-- the calls for the folder of a manifest's package, or no calls if the manifest has no package
 abbrev pub package_looked : List ℕ → List ℕ → Option Package → List Call
 package_looked target folder None = []
 package_looked target folder (Some p) = listings_at target folder
 
--- a manifest is read, and then its folder is looked at
+-- the calls for the package at a location: its manifest is read, and then its folder is looked at
 unfoldable pub file_looked : List ℕ → World → PackageLocation → List Call
 file_looked target sources at = looked target (call.Read at.manifest) ++ after (parts_at sources at.manifest) (λ parts. package_looked target at.folder parts.found)
 
--- the same for a folder, except the root's, whose manifest has been read
+-- the calls for the package in a folder; the root's manifest is not read again
 unfoldable pub folder_looked : List ℕ → World → WorkspaceRoot → List ℕ → List Call
 folder_looked target sources f folder = if bytes_eq folder f.root then [] else file_looked target sources (standing_in f folder)
 
--- no folder is looked at twice, and no more than 256 are
+-- The calls for one folder. No folder is looked at twice, and at most 256 folders are looked at.
 abbrev pub one_looked : (List ℕ → List Call) → LoadState → List ℕ → List Call
 one_looked look r folder = if has folder r.found then [] else (if nat_le max_packages (length r.found) then [] else look folder)
 
@@ -54,46 +54,48 @@ unfoldable pub rounds_looked : ℕ → (List ℕ → Result UnresolvedPackage Lo
 rounds_looked zero read look r = []
 rounds_looked (suc n) read look r = round_looked read look r ++ after (round read r) (λ now. rounds_looked n read look now)
 
--- a fixed part makes no call; any other part lists the folders in a folder
+-- the calls for a part of a glob in one folder: none for a fixed part, else one call that lists the folders
 abbrev pub step_looked : List ℕ → Part → List ℕ → List Call
 step_looked target part folder = if is_fixed part then [] else looked target (call.ListFolders folder target)
 
--- the calls of the parts in turn, each in all folders to which the parts before it lead
+-- The calls for the parts of a glob, part by part. Each part is looked at in all folders to which
+-- the earlier parts lead.
 abbrev pub walk_looked : List ℕ → World → WorkspaceRoot → List Part → List (List ℕ) → List Call
 walk_looked target sources f [] folders = []
 walk_looked target sources f (part ∷ parts) folders = flat_map (step_looked target part) folders ++ walk_looked target sources f parts (flat_map (kept_step sources f part) folders)
 
--- the call that asks whether a folder has a manifest
+-- the call that asks if a folder has a manifest
 abbrev pub manifest_looked : List ℕ → List ℕ → List Call
 manifest_looked target folder = looked target (call.IsFile (below folder (codes "Cargo.toml")))
 
--- a glob is walked, and then the place is asked for a manifest in each folder that `exclude` does not list
+-- The calls for a glob. The glob is walked first. Then each folder to which it leads is asked for a
+-- manifest, unless `exclude` lists the folder.
 abbrev pub glob_looked : List ℕ → World → WorkspaceRoot → List Part → List Call
 glob_looked target sources f parts = walk_looked target sources f parts (codes "/" ∷ []) ++ flat_map (manifest_looked target) (folders_kept sources f parts)
 
--- no call is made for a folder that is written out
+-- the calls for a text of `members`; a folder that is written out needs none
 abbrev pub text_looked : List ℕ → World → WorkspaceRoot → List ℕ → List Call
 text_looked target sources f text = if is_glob text then glob_looked target sources f (parts_meant f.root text) else []
 
--- the calls of the texts of `members` in turn
+-- the calls for all texts of `members`, text by text
 abbrev pub members_looked : List ℕ → World → WorkspaceRoot → List Call
 members_looked target sources f = flat_map (text_looked target sources f) f.members
 
--- the calls for the members, and then for the packages to which path dependencies lead
+-- the calls for the members, and then those for the packages to which path dependencies lead
 unfoldable pub others_looked : List ℕ → World → WorkspaceRoot → LoadState → List Call
 others_looked target sources f begun =
     members_looked target sources f
     ++ (all_looked (draft_at sources f (member_folders sources f)) (folder_looked target sources f) begun (folders_of (member_folders sources f))
     ++ after (all_read (draft_at sources f (member_folders sources f)) begun (folders_of (member_folders sources f))) (λ read. rounds_looked 257 (draft_at sources f (member_folders sources f)) (folder_looked target sources f) read))
 
--- the calls for all packages, first those for the root package if there is one
+-- the calls for all packages, with those for the root package first if there is one
 unfoldable pub packages_looked : List ℕ → World → WorkspaceRoot → Tables → Option Package → List Call
 packages_looked target sources f tables p = package_looked target f.root p ++ after (root_read sources f tables p) (λ begun. others_looked target sources f begun)
 
 abbrev pub root_looked : List ℕ → List ℕ → List Call
 root_looked target manifest = if is_manifest manifest then looked target (call.Read manifest) else []
 
--- all calls that the reading of a manifest's workspace makes
+-- all calls that are made to read the workspace of a manifest
 unfoldable pub looked_at : List ℕ → List ℕ → World → List Call
 looked_at manifest target w =
     root_looked target manifest ++ after (root_parts (from_nothing target w) manifest) (λ parts.

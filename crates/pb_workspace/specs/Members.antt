@@ -8,37 +8,37 @@ use Rattle.pb_workspace_package.specs.Between.{names_in}
 use Rattle.pb_workspace.specs.Globs.{matches}
 use Rattle.pb_workspace_package.specs.Sources.{resolved}
 
--- the folder is at or below a folder that `exclude` lists, relative to the root
+-- the folder is at or below a folder that `exclude` lists; the listed paths start at the root
 abbrev pub is_excluded : List ℕ → List (List ℕ) → List ℕ → Bool
 is_excluded root exclude folder = list_any (λ text. is_at_or_below (resolved root text) folder) exclude
 
--- the names of a folder as parts that match only themselves, even if they contain `*` or `?`
+-- A folder's names as parts. Each part matches only its own name, even if that contains `*` or `?`.
 abbrev pub plain_parts : List (List ℕ) → List Part
 plain_parts names = map (λ name. record { text = name; is_pattern = false }) names
 
--- the parts after one more part: one fewer for `..`, else one more, which is a pattern
+-- The parts after one more part of a text. `..` removes the last part, and any other part is
+-- appended as a pattern.
 abbrev pub further : List Part → List ℕ → List Part
 further parts part = if stays part then parts else (if leads_up part then take (length parts - 1) parts else parts ++ record { text = part; is_pattern = true } ∷ [])
 
--- the parts that come before those of a text: those of the root folder, or none for an absolute
--- text
+-- the parts with which the parts of a text begin: the root folder's names, or no parts if the text is absolute
 abbrev pub start_of : List ℕ → List ℕ → List Part
 start_of root text = if is_absolute text then [] else plain_parts (names_in root)
 
--- the parts that a folder must match for the text to mean it
+-- the parts that a folder must match if the text is to mean it
 abbrev pub parts_meant : List ℕ → List ℕ → List Part
 parts_meant root text = fold further (start_of root text) (parts_of text)
 
 abbrev pub part_matches : Part → List ℕ → Bool
 part_matches part name = if part.is_pattern then matches part.text name else bytes_eq part.text name
 
--- the names match the parts one by one; therefore no `*` matches across a slash
+-- The names match the parts one by one. So `*` never matches across a slash.
 abbrev pub parts_match : List Part → List (List ℕ) → Bool
 parts_match [] [] = true
 parts_match [] (name ∷ names) = false
 parts_match (part ∷ parts) [] = false
 parts_match (part ∷ parts) (name ∷ names) = part_matches part name && parts_match parts names
 
--- whether a text, which is a glob or a path, means a folder
+-- the text, a glob or a path, means the folder
 abbrev pub means : List ℕ → List ℕ → List ℕ → Bool
 means root text folder = parts_match (parts_meant root text) (names_in folder)

@@ -1,8 +1,7 @@
--- That 257 rounds are enough, and which folders contain the packages of a workspace
--- (The Cargo Book, Workspaces and Specifying Dependencies).
--- The latter definitions serve proofs: `Folders` of `pb_workspace_laws` defines the same independently.
--- `sources` is the world without the files at or below the target folder,
--- and `f` what the root manifest contains about its workspace.
+-- That 257 rounds are enough, and which folders contain the packages of a workspace (The Cargo
+-- Book, Workspaces and Specifying Dependencies). The definitions of folders serve proofs. `Folders`
+-- of `pb_workspace_laws` defines these folders independently. `sources` is the world without the
+-- files at or below the target folder. `f` is what the root manifest says about its workspace.
 use Rattle.std.specs.Prelude.{◌≡◌, ℕ, ◌+◌, ◌≤◌, List, length, Option, Some, Ok, Result, Contains}
 use Rattle.pb_data.specs.Limits.{max_packages}
 use Rattle.pb_place_types.specs.Paths.{folder_of}
@@ -19,11 +18,11 @@ use Rattle.pb_workspace.specs.Frames.{frame_of, is_member}
 use Rattle.pb_workspace.specs.MemberFolders.{folders_meant, member_folders}
 use Rattle.pb_workspace.specs.Rounds.{draft_in_file, rounds, standing_in}
 
--- the package of a folder, read from the manifest in it
+-- the package of a folder, as the manifest in this folder describes it
 abbrev pub package_in : World → WorkspaceRoot → List ℕ → Result UnresolvedPackage LoadFault
 package_in sources f folder = draft_in_file sources f (is_member f (member_folders sources f) folder) (standing_in f folder)
 
--- an entry of the package in one folder leads to another folder
+-- an entry of the package in the folder `from` leads to the folder `to`
 pub record LeadsTo (sources : World) (f : WorkspaceRoot) (from to : List ℕ) : Type 0 where
   pub owner : UnresolvedPackage
   pub entry : Wanted
@@ -31,19 +30,21 @@ pub record LeadsTo (sources : World) (f : WorkspaceRoot) (from to : List ℕ) : 
   pub is_there : Contains owner.wanted entry
   pub leads : entry.folder ≡ to
 
--- a folder is the root package's, if there is one, or is meant by a text of `members`
+-- The folder is that of the root package, if there is one, or a text of `members` means it.
 pub data IsRootOrMember (sources : World) (f : WorkspaceRoot) (found : Option WrittenPackage) : List ℕ → Type 0 where
   root : (p : WrittenPackage) (is : found ≡ Some p) → IsRootOrMember sources f found f.root
   member : (text folder : List ℕ) (written : Contains f.members text) (means : Contains (folders_meant sources f text) folder) → IsRootOrMember sources f found folder
 
--- the least set that contains these folders and all to which entries lead from it
+-- The least set of folders that contains the folders of the root package and of the members. If a
+-- package's folder is in the set, so is each folder to which an entry of this package leads.
 abbrev pub IsPackageFolder : World → WorkspaceRoot → Option WrittenPackage → List ℕ → Type 0
 IsPackageFolder sources f found = Reached (IsRootOrMember sources f found) (LeadsTo sources f)
 
--- the frame of the workspace with this root manifest
+-- what this root manifest says about its workspace
 abbrev pub frame_at : List ℕ → Parts → WorkspaceRoot
 frame_at manifest parts = frame_of (folder_of manifest) manifest parts.workspace
 
--- 257 rounds are enough, since at most 256 packages are read: more rounds read nothing more and find no other fault
+-- 257 rounds are enough, because at most 256 packages are read. More rounds read no more packages
+-- and find no other fault.
 abbrev pub FuelIsEnough : Type 0
 FuelIsEnough = (read : List ℕ → Result UnresolvedPackage LoadFault) (r : LoadState) (more : ℕ) → length r.found ≤ max_packages → rounds (257 + more) read r ≡ rounds 257 read r

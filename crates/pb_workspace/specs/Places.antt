@@ -1,10 +1,10 @@
--- Packages by the indices of their folders.
+-- How the index of a package is found by its folder.
 use Rattle.std.specs.Prelude.{ℕ, ◌+◌, List, [], ◌∷◌, slice_get, Option, Some, None}
 use Rattle.pb_workspace_package.specs.declared.unresolved_package.UnresolvedPackage.{UnresolvedPackage}
 use Rattle.pb_workspace.specs.ByFolder.{value_of}
 use Rattle.pb_workspace_package.specs.Sorted.{with_entry}
 
--- each folder with its index, if the first has the given index
+-- the folders of packages, each with the package's index; the first package has the given index
 abbrev pub numbered : List (List ℕ × ℕ) → ℕ → List UnresolvedPackage → List (List ℕ × ℕ)
 numbered places n [] = places
 numbered places n (d ∷ ds) = numbered (with_entry places d.folder n) (n + 1) ds
@@ -12,7 +12,7 @@ numbered places n (d ∷ ds) = numbered (with_entry places d.folder n) (n + 1) d
 abbrev pub places_of : List UnresolvedPackage → List (List ℕ × ℕ)
 places_of drafts = numbered [] 0 drafts
 
--- the index of the package of a folder
+-- the index of the package in a folder, if a package is there
 abbrev pub place_of : List UnresolvedPackage → List ℕ → Option ℕ
 place_of drafts folder = value_of folder (places_of drafts)
 
@@ -20,6 +20,6 @@ abbrev pub at_place : List UnresolvedPackage → Option ℕ → Option Unresolve
 at_place drafts None = None
 at_place drafts (Some n) = slice_get drafts n
 
--- the package of a folder
+-- the package in a folder, if a package is there
 abbrev pub draft_in : List UnresolvedPackage → List ℕ → Option UnresolvedPackage
 draft_in drafts folder = at_place drafts (place_of drafts folder)

@@ -1,6 +1,6 @@
--- What is true of every reading of packages, whatever the files contain,
--- and what a root manifest promises about its workspace.
--- These definitions serve the promise that a workspace that was read is settled.
+-- What is true whenever packages are read, whatever the files contain, and what a root manifest
+-- promises about its workspace. The promise that each workspace that was read is settled needs
+-- these definitions.
 use Rattle.std.specs.Prelude.{◌≡◌, ℕ, ◌≤◌, true, All, IfSome, List, map, length, Option}
 use Rattle.std.specs.List.{AllByRecursion}
 use Rattle.pb_data.specs.Limits.{max_packages}
@@ -14,17 +14,17 @@ use Rattle.pb_workspace.specs.declared.rounds.LoadState.{LoadState}
 use Rattle.pb_workspace_types.specs.Settled.{IsAscending}
 use Rattle.pb_workspace_package.specs.Drafted.{ArePromised, IsDraft}
 
--- the entries of `[workspace.dependencies]` are in byte order of their keys
+-- the entries of `[workspace.dependencies]` are in byte order of their keys, without repeats
 abbrev pub HasSharedInOrder : WorkspaceTable → Type 0
 HasSharedInOrder w = IsAscending (map (λ (d : WorkspaceDependency). d.key) w.dependencies)
 
--- what a manifest that was read promises about its `[package]`, if it has one, and about the other tables
+-- what each manifest that was read promises about its `[package]`, if it has one, and about its other tables
 pub record AreRead (tables : Tables) (found : Option Package) : Type 0 where
   pub named : IfSome found (λ p. is_name p.name ≡ true)
   pub binaries : All (λ b. is_name b.name ≡ true) tables.binaries
   pub promised : ArePromised tables
 
--- a package is stored under its own folder
+-- a package is stored under its own folder, and is as `IsDraft` says
 abbrev pub IsPut : List ℕ × UnresolvedPackage → Type 0
 IsPut e = (e.1.folder ≡ e.0) × IsDraft e.1
 

@@ -1,6 +1,6 @@
--- Which packages are read, in which order, and what stops the reading
--- (The Cargo Book, Workspaces and Specifying Dependencies).
--- The order is our own choice. `sources` is the world without the files at or below the target folder.
+-- Which packages are read, in which order, and when no more are read (The Cargo Book, Workspaces
+-- and Specifying Dependencies). The order is our own choice. `sources` is the world without the
+-- files at or below the target folder.
 use Rattle.std.specs.Prelude.{ℕ, zero, suc, Bool, nat_le, if◌then◌else◌, codes, List, [], ◌∷◌, length, map, Option, Some, None, Result, Ok, Err}
 use Rattle.std.specs.FinMap as finite
 use Rattle.std.specs.Str.{bytes_eq}
@@ -27,7 +27,7 @@ use Rattle.pb_workspace_package.specs.Drafts.{draft_of}
 use Rattle.pb_workspace.specs.Frames.{given_to, is_member}
 use Rattle.pb_workspace_package.specs.Sorted.{with_entry}
 
--- the manifest in the file at a path, or why it cannot be read
+-- the manifest in the file at a path, or the fault for which it cannot be read
 abbrev pub read_found : List ℕ → Option (List ℕ) → Result ManifestRead LoadFault
 read_found path None = Err (NoManifest path)
 read_found path (Some bytes) = lifted (Manifest path) (manifest_of bytes)
@@ -44,11 +44,11 @@ parts_in m = record { found = m.package; tables = tables_in m; workspace = m.wor
 abbrev pub parts_at : World → List ℕ → Result Parts LoadFault
 parts_at sources path = manifest_at sources path >>= (λ m. Ok (parts_in m))
 
--- the fault if a package is needed and its manifest has no `[package]`
+-- the fault for a manifest without `[package]` in a folder whose package is needed
 abbrev pub no_package : List ℕ → LoadFault
 no_package manifest = Manifest manifest (BadKind key.Package)
 
--- the package of a manifest that was read, if it has one
+-- The package of a manifest that was read. Without `[package]` this is a fault.
 unfoldable pub draft_if : World → WorkspaceRoot → Bool → PackageLocation → Tables → Option Package → Result UnresolvedPackage LoadFault
 draft_if sources f member at tables None = Err (no_package at.manifest)
 draft_if sources f member at tables (Some p) = draft_of sources at member (given_to f member) p tables
@@ -56,42 +56,43 @@ draft_if sources f member at tables (Some p) = draft_of sources at member (given
 abbrev pub standing_in : WorkspaceRoot → List ℕ → PackageLocation
 standing_in f folder = record { root = f.root; folder = folder; manifest = below folder (codes "Cargo.toml") }
 
--- the package of the manifest at this location
+-- the package of the manifest at a location, or the first fault
 unfoldable pub draft_in_file : World → WorkspaceRoot → Bool → PackageLocation → Result UnresolvedPackage LoadFault
 draft_in_file sources f member at = parts_at sources at.manifest >>= (λ parts. draft_if sources f member at parts.tables parts.found)
 
--- the package of a folder; the root's manifest is not read again: if it has a package, that was
--- read first
+-- The package of a folder. The root's manifest is not read again: if it has a package, this package
+-- was read first.
 unfoldable pub draft_at : World → WorkspaceRoot → List (List ℕ × Unit {0}) → List ℕ → Result UnresolvedPackage LoadFault
 draft_at sources f meant folder =
     if bytes_eq folder f.root then Err (no_package f.manifest)
     else draft_in_file sources f (is_member f meant folder) (standing_in f folder)
 
--- the folders to which entries lead
+-- the folders to which these entries lead
 abbrev pub leads_to : List Wanted → List (List ℕ)
 leads_to wanted = map (λ (w : Wanted). w.folder) wanted
 
--- the reading with one more package; the folders to which its entries lead are read in the next round
+-- What was read, after one more package. The folders to which the package's entries lead are read
+-- in the next round.
 abbrev pub with_draft : LoadState → List ℕ → UnresolvedPackage → LoadState
 with_draft r folder d = record { found = with_entry r.found folder d; ahead = with_folders r.ahead (leads_to d.wanted) }
 
--- the reading after one folder: a folder that was read is skipped, and no more than 256 are read
+-- What was read, after one folder. A folder is read only once, and at most 256 folders are read.
 abbrev pub one_read : (List ℕ → Result UnresolvedPackage LoadFault) → LoadState → List ℕ → Result LoadState LoadFault
 one_read read r folder =
     if has folder r.found then Ok r
     else (if nat_le max_packages (length r.found) then Err TooMany else read folder >>= (λ d. Ok (with_draft r folder d)))
 
--- the reading after these folders in turn, up to the first fault
+-- what was read, after these folders one by one, or the first fault
 abbrev pub all_read : (List ℕ → Result UnresolvedPackage LoadFault) → LoadState → List (List ℕ) → Result LoadState LoadFault
 all_read read r [] = Ok r
 all_read read r (folder ∷ folders) = one_read read r folder >>= (λ now. all_read read now folders)
 
--- one round reads the folders to which the packages of the last round lead, in byte order
+-- one round, which reads the folders to which the packages of the last round lead, in byte order
 abbrev pub round : (List ℕ → Result UnresolvedPackage LoadFault) → LoadState → Result LoadState LoadFault
 round read r = all_read read (record { found = r.found; ahead = [] }) (folders_of r.ahead)
 
--- The reading after n rounds.
--- A round that reads nothing leaves nothing ahead, so 257 rounds are enough for 256 packages: see `PackageFolders`.
+-- What was read, after n rounds. A round that reads nothing leaves no folder for the next round. So
+-- 257 rounds are enough for 256 packages, as `PackageFolders` shows.
 unfoldable pub rounds : ℕ → (List ℕ → Result UnresolvedPackage LoadFault) → LoadState → Result LoadState LoadFault
 rounds zero read r = Ok r
 rounds (suc n) read r = round read r >>= (λ now. rounds n read now)

@@ -1,13 +1,13 @@
--- How a name is matched in one walk per byte of the pattern:
--- for each end of the name, whether the rest of the pattern matches it.
--- These definitions serve private functions only.
+-- How a glob is matched with one walk through the name for each byte of the pattern. A row says,
+-- for each end of the name, if the rest of the pattern matches this end. Only private functions
+-- need these definitions.
 use Rattle.std.specs.Prelude.{ℕ, Bool, false, ◌&&◌, ◌||◌, ◌==◌, if◌then◌else◌, List, [], ◌∷◌}
 use Rattle.pb_workspace.specs.Globs.{goes_on}
 use Rattle.pb_workspace.specs.declared.glob.Cell.{Cell}
 use Rattle.pb_workspace.specs.declared.glob.Row.{Row}
 
--- the cells of the ends of a name that are longer than `walked`, the shortest first;
--- `before` has the bytes before `walked`, last first
+-- The cells of those ends of a name that are longer than `walked`, the shortest first. `before` has
+-- the name's bytes before `walked`, the last byte first.
 abbrev pub cells_from : (List ℕ → Bool) → List ℕ → List ℕ → List Cell
 cells_from test walked [] = []
 cells_from test walked (b ∷ before) = record { byte = b; matched = test (b ∷ walked) } ∷ cells_from test (b ∷ walked) before
@@ -15,22 +15,22 @@ cells_from test walked (b ∷ before) = record { byte = b; matched = test (b ∷
 abbrev pub row_of : (List ℕ → Bool) → List ℕ → Row
 row_of test before = record { empty = test []; cells = cells_from test [] before }
 
--- the cells of the empty pattern, which matches none of these ends
+-- the cells of the empty pattern, which matches no end that has a byte
 abbrev pub plain_cells : List ℕ → List Cell
 plain_cells [] = []
 plain_cells (b ∷ before) = record { byte = b; matched = false } ∷ plain_cells before
 
--- the cells of the pattern that is a `*` and then the pattern of these cells
+-- the cells of the pattern that consists of `*` and the pattern of the given cells
 abbrev pub star_cells : Bool → List Cell → List Cell
 star_cells shorter [] = []
 star_cells shorter (x ∷ xs) = record { byte = x.byte; matched = x.matched || shorter } ∷ star_cells (x.matched || shorter) xs
 
--- the cells of the pattern that is a `?` and then the pattern of these cells
+-- the cells of the pattern that consists of `?` and the pattern of the given cells
 abbrev pub one_cells : Bool → List Cell → List Cell
 one_cells past [] = []
 one_cells past (x ∷ xs) = record { byte = x.byte; matched = past } ∷ one_cells (if goes_on x.byte then past else x.matched) xs
 
--- the cells of the pattern that is another byte and then the pattern of these cells
+-- the cells of the pattern that consists of the byte `c` and the pattern of the given cells
 abbrev pub byte_cells : ℕ → Bool → List Cell → List Cell
 byte_cells c shorter [] = []
 byte_cells c shorter (x ∷ xs) = record { byte = x.byte; matched = (x.byte == c) && shorter } ∷ byte_cells c x.matched xs
@@ -41,7 +41,7 @@ stepped c row =
     else (if c == 63 then record { empty = false; cells = one_cells row.empty row.cells }
     else record { empty = false; cells = byte_cells c row.empty row.cells })
 
--- whether the longest end matches
+-- the pattern matches the longest end
 abbrev pub last_matched : Bool → List Cell → Bool
 last_matched shorter [] = shorter
 last_matched shorter (x ∷ xs) = last_matched x.matched xs

@@ -1,4 +1,4 @@
--- Which packages a build is to build, and with which features (The Cargo Book, Workspaces and cargo build).
+-- Which packages a build builds, and with which features (The Cargo Book, Workspaces and cargo build).
 use Rattle.std.specs.Prelude.{ℕ, Bool, not, ◌&&◌, ◌==◌, ◌+◌, if◌then◌else◌, List, [], ◌∷◌, length, filter, Option, Some, None, Result, Ok, Err}
 use Rattle.std.specs.List.{flat_map, list_any, list_all, slice_split}
 use Rattle.std.specs.Str.{bytes_eq}
@@ -15,7 +15,7 @@ use Rattle.pb_workspace_types.specs.declared.workspace.DefaultMembers.{DefaultMe
 use Rattle.pb_workspace_types.specs.declared.workspace.DefaultMembers.TheVariants.{Unwritten, Named, Unknown}
 use Rattle.pb_workspace_types.specs.declared.workspace.Workspace.{Workspace}
 
--- the indices of the packages that pass a test, if the first package has the given index
+-- the indices of the packages that pass a test; the first package of the list has the given index
 abbrev pub places_from : (Package → Bool) → ℕ → List Package → List ℕ
 places_from test index [] = []
 places_from test index (p ∷ ps) = if test p then index ∷ places_from test (index + 1) ps else places_from test (index + 1) ps
@@ -35,38 +35,38 @@ is_member_named name p = p.is_member && bytes_eq name p.name
 abbrev pub is_named_member : List (List ℕ) → Package → Bool
 is_named_member names p = p.is_member && is_mentioned names p.name
 
--- whether each of these names is a member's
+-- each of these names is the name of a member
 abbrev pub name_members : List (List ℕ) → List Package → Bool
 name_members names packages = list_all (λ name. list_any (is_member_named name) packages) names
 
--- `-p`: the indices of the members with these names, each of which must be a member's
+-- The indices of the members that `-p` names. Each name must be that of a member.
 abbrev pub named_members : List (List ℕ) → List Package → Result (List ℕ) LoadFault
 named_members names packages = if name_members names packages then Ok (places_where (is_named_member names) packages) else Err NoSuchPackage
 
--- the index of the package in the root folder if there is one, else those of all members
+-- the index of the root package if there is one, and otherwise the indices of all members
 abbrev pub root_or_members : Option ℕ → List Package → List ℕ
 root_or_members (Some index) packages = index ∷ []
 root_or_members None packages = members_of packages
 
--- the indices that `default-members` selects; a folder in it that is no member is refused, but only
--- if `default-members` decides the selection
+-- The indices of the packages that are built if neither `--workspace` nor `-p` is there. A folder
+-- in `default-members` that is no member is refused only in this case.
 abbrev pub by_default : DefaultMembers → Option ℕ → List Package → Result (List ℕ) LoadFault
 by_default Unwritten root packages = Ok (root_or_members root packages)
 by_default (Named places) root packages = Ok places
 by_default Unknown root packages = Err NoSuchPackage
 
--- the indices of the packages to build, by the first of these that is present:
--- `--workspace` (all members), `-p`, `default-members`, the root package, all members
+-- The indices of the packages to build. The first of these that is there decides: `--workspace`
+-- (all members), `-p`, `default-members`, the root package, all members.
 abbrev pub selected_packages : Workspace → Bool → List (List ℕ) → Result (List ℕ) LoadFault
 selected_packages ws all names =
     if all then Ok (members_of ws.packages)
     else (if not (length names == 0) then named_members names ws.packages else by_default ws.default_members ws.root_package ws.packages)
 
--- the words between the spaces of a part
+-- the words of a text that spaces separate
 abbrev pub spaced_words : List ℕ → List (List ℕ)
 spaced_words part = filter is_word (slice_split (λ b. b == space) part)
 
--- the features that a text requests: the words between its commas and spaces, without empty ones
+-- The features that a text requests. Commas and spaces separate them, and empty words do not count.
 abbrev pub feature_words : List ℕ → List (List ℕ)
 feature_words text = flat_map spaced_words (slice_split (λ b. b == comma) text)
 
@@ -81,6 +81,6 @@ selection_of o places = record {
   bin = o.bin;
 }
 
--- what the options request of the workspace
+-- what the options select in the workspace, or the fault for which they are refused
 abbrev pub selected : Workspace → Options → Result Selection LoadFault
 selected ws o = selected_packages ws o.workspace o.packages >>= (λ places. Ok (selection_of o places))

@@ -1,5 +1,5 @@
--- The binaries of a package that was read (The Cargo Book, Cargo Targets).
--- `sources` is the world without the files at or below the target folder.
+-- Which binaries a package has (The Cargo Book, Cargo Targets). `sources` is the world without the
+-- files at or below the target folder.
 use Rattle.std.specs.Prelude.{◌≡◌, ◌≢◌, ◌↔◌, ℕ, true, if◌then◌else◌, codes, List, [], ◌∷◌, ◌++◌, map, Option, Some, Contains, get_or, unwrap_or}
 use Rattle.std.specs.Option.{option_map_or}
 use Rattle.std.specs.Str.{bytes_eq}
@@ -15,29 +15,30 @@ use Rattle.pb_place_types.specs.World.{World}
 use Rattle.pb_workspace_package.specs.Sources.{resolved}
 use Rattle.pb_workspace_laws.specs.Files.{first_file}
 
--- `src/bin/NAME.rs`, `src/bin/NAME/main.rs`
+-- the two paths in `src/bin` at which the source of a binary may be: `src/bin/NAME.rs` and
+-- `src/bin/NAME/main.rs`
 abbrev pub in_bin : List ℕ → List (List ℕ)
 in_bin name = (codes "src/bin/" ++ (name ++ codes ".rs")) ∷ (codes "src/bin/" ++ (name ++ codes "/main.rs")) ∷ []
 
--- the names under which the builder looks for the source of a binary, in order: `src/main.rs`, if
--- the binary has its package's name; then these two
+-- The paths at which the builder looks for a binary's source, in order. `src/main.rs` is the first
+-- if the binary has its package's name. The two paths in `src/bin` follow.
 abbrev pub places : List ℕ → List ℕ → List (List ℕ)
 places package_name name = if bytes_eq name package_name then codes "src/main.rs" ∷ in_bin name else in_bin name
 
--- the source of a `[[bin]]`:
--- its written path, else the first of these names that is a file, else the first of these names
+-- The source of a `[[bin]]`: its written path, or the first of these names that is a file. If none
+-- is a file, it is the first name.
 abbrev pub source_of : World → List ℕ → List (List ℕ) → Option (List ℕ) → List ℕ
 source_of sources folder names path = option_map_or (resolved folder) path (below folder (unwrap_or (first_file sources folder names) (get_or names 0 [])))
 
--- a binary of a `[[bin]]`; or, unless `autobins = false`, a found binary, if no `[[bin]]` has its
--- name
+-- A binary is either written as a `[[bin]]`, or it was found. A found binary counts unless
+-- `autobins = false` is written or a `[[bin]]` has its name.
 pub data IsBinary (sources : World) (folder : List ℕ) (m : Manifest) (w : Written) (b : Binary) : Type 0 where
   written : (t : WrittenBinary) (table : Contains m.binaries t) (name : b.name ≡ t.name) (source : b.source ≡ source_of sources folder (places w.name t.name) t.path) (features : b.required_features ≡ t.required_features)
       → IsBinary sources folder m w b
   found : (wanted : w.autobins ≡ true) (letters : is_name b.name ≡ true) (unwritten : (t : WrittenBinary) → Contains m.binaries t → t.name ≢ b.name) (place : List ℕ) (first : first_file sources folder (places w.name b.name) ≡ Some place)
       (source : b.source ≡ below folder place) (features : b.required_features ≡ []) → IsBinary sources folder m w b
 
--- the binaries of a package with the manifest `m` and its `[package]` table `w`
+-- the package has the binaries that its manifest `m` and its `[package]` table `w` describe
 pub record HasBinaries (sources : World) (m : Manifest) (w : Written) (p : Package) : Type 0 where
   pub order : IsAscending (map (λ (b : Binary). b.name) p.binaries)
   pub are : (b : Binary) → Contains p.binaries b ↔ IsBinary sources p.folder m w b

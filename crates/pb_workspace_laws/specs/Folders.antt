@@ -1,5 +1,5 @@
--- Which folders contain the packages of a workspace (The Cargo Book, Workspaces and Specifying Dependencies).
--- `f` is what the root manifest `r` contains about its workspace.
+-- Which folders contain the packages of a workspace (The Cargo Book, Workspaces and Specifying
+-- Dependencies). `f` is what the root manifest `r` says about its workspace.
 use Rattle.std.specs.Prelude.{◌≡◌, ℕ, Bool, codes, List, ◌++◌, Some, Contains}
 use Rattle.pb_graph.specs.Closure.{Reached}
 use Rattle.pb_manifest_types.specs.declared.dependency.Dependency.{Dependency}
@@ -13,12 +13,12 @@ use Rattle.pb_workspace.specs.declared.workspace_root.WorkspaceRoot.{WorkspaceRo
 use Rattle.pb_workspace_laws.specs.Files.{IsManifestAt}
 use Rattle.pb_workspace_laws.specs.Packages.{Asks}
 
--- the root's folder, if the root manifest describes a package, and each folder that a text of `members` means
+-- The folder is the root's, if the root manifest describes a package, or a text of `members` means it.
 pub data IsFirst (sources : World) (f : WorkspaceRoot) (r : Manifest) (folder : List ℕ) : Type 0 where
   root : (w : Written) (is_package : r.package ≡ Some w) (is : folder ≡ f.root) → IsFirst sources f r folder
   member : (text : List ℕ) (written : Contains f.members text) (means : Contains (folders_meant sources f text) folder) → IsFirst sources f r folder
 
--- a dependency in the manifest of one folder requests the package of another
+-- a dependency in the manifest of the folder `from` requests the package in the folder `to`
 pub record LeadsTo (sources : World) (f : WorkspaceRoot) (from to : List ℕ) : Type 0 where
   pub own : Manifest
   pub read : IsManifestAt sources (below from (codes "Cargo.toml")) own
@@ -29,7 +29,7 @@ pub record LeadsTo (sources : World) (f : WorkspaceRoot) (from to : List ℕ) : 
   pub features : List (List ℕ)
   pub asks : Asks f.root from f.given.dependencies d to s default features
 
--- the least set that contains the folder of the root package, the folders of the members, and the
--- folder of each path dependency of a package in the set
+-- The least set of folders that contains the folders of the root package and of the members. If a
+-- package's folder is in the set, so is the folder of each path dependency of this package.
 abbrev pub IsPackageFolder : World → WorkspaceRoot → Manifest → List ℕ → Type 0
 IsPackageFolder sources f r = Reached (IsFirst sources f r) (LeadsTo sources f)

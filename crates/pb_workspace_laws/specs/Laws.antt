@@ -1,4 +1,4 @@
--- The law of workspaces: a workspace that was read is determined by its manifests and their folders.
+-- Laws of workspaces. The manifests and the folders of a workspace determine it.
 use Rattle.std.specs.Prelude.{◌≡◌, ◌↔◌, ℕ, true, codes, List, map, Some, Ok, Contains}
 use Rattle.std.specs.List.{position}
 use Rattle.std.specs.Str.{bytes_eq}
@@ -19,8 +19,8 @@ use Rattle.pb_workspace_laws.specs.Folders.{IsPackageFolder}
 use Rattle.pb_workspace_laws.specs.Members.{IsMember}
 use Rattle.pb_workspace_laws.specs.Packages.{IsPackageOf}
 
--- A package belongs to its folder: the manifest and the files there describe it. A member inherits
--- from its workspace; `f` is what the root manifest contains about it.
+-- The package is what the manifest and the files in its folder describe. A member inherits from its
+-- workspace. `f` is what the root manifest says about that workspace.
 pub record IsOfItsFolder (sources : World) (f : WorkspaceRoot) (ws : Workspace) (p : Package) : Type 0 where
   pub manifest : p.manifest ≡ below p.folder (codes "Cargo.toml")
   pub own : Manifest
@@ -31,12 +31,12 @@ pub record IsOfItsFolder (sources : World) (f : WorkspaceRoot) (ws : Workspace) 
   pub says : IsPackageOf sources f.root (given_to f p.is_member) ws own written p
   pub binaries : FilesHavePaths sources → HasBinaries sources own written p
 
--- what a root manifest contains about its workspace
+-- what a root manifest says about its workspace
 abbrev pub frame_in : List ℕ → Manifest → WorkspaceRoot
 frame_in manifest r = frame_of (folder_of manifest) manifest r.workspace
 
--- The workspace of the root manifest `r` at this path. Its root package is the package in the
--- root's folder.
+-- `ws` is a workspace of the root manifest `r`, which is at this path. The root package is the
+-- package in the root's folder.
 pub record IsWorkspaceOf (sources : World) (manifest : List ℕ) (r : Manifest) (ws : Workspace) : Type 0 where
   pub read : IsManifestAt sources manifest r
   pub root : ws.root ≡ folder_of manifest
@@ -51,10 +51,10 @@ abbrev pub WorkspacesAreRead : Type 0
 WorkspacesAreRead = (manifest target : List ℕ) (w : World) (ws : Workspace) → is_path manifest ≡ true → workspace_of manifest target w ≡ Ok ws
     → (ws.target ≡ target) × ((r : Manifest) × IsWorkspaceOf (from_nothing target w) manifest r ws)
 
--- There is at most one such workspace, if each file of the sources has a normalised absolute path.
+-- A root manifest has at most one workspace, if each file of the sources has a normalised absolute path.
 abbrev pub WorkspacesAreOne : Type 0
 WorkspacesAreOne = (sources : World) (manifest : List ℕ) (r s : Manifest) (v w : Workspace) → FilesHavePaths sources → IsWorkspaceOf sources manifest r v → IsWorkspaceOf sources manifest s w → v.target ≡ w.target → v ≡ w
 
--- A workspace that was read is settled: its names have valid letters, and its entries lead to packages.
+-- A workspace that was read is settled. So its names have valid letters, and its entries lead to packages.
 abbrev pub AllAreSettled : Type 0
 AllAreSettled = (manifest target : List ℕ) (w : World) (ws : Workspace) → is_path manifest ≡ true → workspace_of manifest target w ≡ Ok ws → IsSettled ws

@@ -12,26 +12,27 @@ use Rattle.pb_workspace.specs.declared.workspace_root.WorkspaceRoot.{WorkspaceRo
 use Rattle.pb_workspace.specs.declared.member.Part.{Part}
 use Rattle.pb_workspace_laws.specs.Files.{is_file}
 
--- A member is the root package or, in a workspace, a folder that a text of `members` means.
--- In a workspace, a folder inside the root's folder is also a member, unless `exclude` lists it.
+-- The root package is a member. In a workspace, each folder that a text of `members` means is a
+-- member. So is each folder inside the root's folder, unless `exclude` lists it.
 pub data IsMember (sources : World) (f : WorkspaceRoot) (folder : List ℕ) : Type 0 where
   root : (is : folder ≡ f.root) → IsMember sources f folder
   meant : (written : f.is_workspace ≡ true) (text : List ℕ) (listed : Contains f.members text) (means : Contains (folders_meant sources f text) folder) → IsMember sources f folder
   inside : (written : f.is_workspace ≡ true) (below : is_at_or_below f.root folder ≡ true) (kept : is_excluded f.root f.exclude folder ≡ false) → IsMember sources f folder
 
--- A text of `members` without `*` or `?` means one folder, whether or not it exists. A text with
--- one of these means each folder that it matches, if the folder has a manifest and `exclude` does
--- not list it.
+-- A text of `members` without `*` or `?` means one folder, even if this folder does not exist. Any
+-- other text means each folder that it matches, if the folder has a manifest and `exclude` does not
+-- list it.
 pub data IsMeant (sources : World) (f : WorkspaceRoot) (text folder : List ℕ) : Type 0 where
   written : (plain : is_glob text ≡ false) (is : folder ≡ resolved f.root text) → IsMeant sources f text folder
   matched : (globs : is_glob text ≡ true) (path : is_path folder ≡ true) (file : is_file sources folder (codes "Cargo.toml") ≡ true)
       (is : means f.root text folder ≡ true) (kept : is_excluded f.root f.exclude folder ≡ false) → IsMeant sources f text folder
 
--- A text means these folders if each file of the sources has a normalised absolute path.
+-- A text of `members` means exactly the folders that `IsMeant` describes, if each file of the
+-- sources has a normalised absolute path.
 abbrev pub TextsMeanFolders : Type 0
 TextsMeanFolders = (sources : World) (f : WorkspaceRoot) (text folder : List ℕ) → FilesHavePaths sources → Contains (folders_meant sources f text) folder ↔ IsMeant sources f text folder
 
--- Parts match names if and only if each part matches the name at its place, and there are as many
--- parts as names.
+-- Parts match names if and only if there are as many parts as names, and each part matches the name
+-- at its position.
 abbrev pub PartsMatchNames : Type 0
 PartsMatchNames = (parts : List Part) (names : List (List ℕ)) → (parts_match parts names ≡ true) ↔ AllZip (λ part name. part_matches part name ≡ true) parts names

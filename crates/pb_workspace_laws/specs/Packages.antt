@@ -1,5 +1,6 @@
--- A package that was read, in the terms of The Cargo Book (Manifest Format, Cargo Targets, Build Scripts, Features,
--- Specifying Dependencies, Workspaces). `sources` is the world without the files at or below the target folder.
+-- What a package that was read contains, in the terms of The Cargo Book (Manifest Format, Cargo
+-- Targets, Build Scripts, Features, Specifying Dependencies, Workspaces). `sources` is the world
+-- without the files at or below the target folder.
 use Rattle.std.specs.Prelude.{◌≡◌, ◌≢◌, ◌↔◌, ℕ, Bool, true, not, ◌||◌, codes, List, [], ◌∷◌, ◌++◌, map, Option, Some, None, IfSome, Contains, slice_get, unwrap_or}
 use Rattle.std.specs.List.{AllZip, join_by}
 use Rattle.std.specs.Option.{option_map, option_map_or}
@@ -43,13 +44,14 @@ use Rattle.pb_workspace_laws.specs.Files.{first_file, first_path}
 
 -- Keys.
 
--- the package's own value, or its workspace's if the package has `KEY.workspace = true`
+-- The value is the one that the package writes. If the package says `KEY.workspace = true`, the
+-- value is that of its workspace.
 abbrev pub IsOwnOrTaken : {A : Type 0} → Inherited A → Option A → A → Type 0
 IsOwnOrTaken (key.Written x) given value = value ≡ x
 IsOwnOrTaken key.Workspace given value = given ≡ Some value
 
--- the text made from the package's own value or from the workspace's value, or the text for no
--- value
+-- The text is made from the value that the package writes, or from the workspace's value. If there
+-- is no value, the text is `none`.
 abbrev pub IsText : {A : Type 0} → (A → List ℕ) → (A → List ℕ) → List ℕ → Inheritable A → Option A → List ℕ → Type 0
 IsText {A} own taken none (text.Written x) given value = value ≡ own x
 IsText {A} own taken none text.Workspace given value = (x : A) × (given ≡ Some x) × (value ≡ taken x)
@@ -58,16 +60,16 @@ IsText {A} own taken none text.Absent given value = value ≡ none
 abbrev pub IsPlainText : Inheritable (List ℕ) → Option (List ℕ) → List ℕ → Type 0
 IsPlainText = IsText (λ x. x) (λ x. x) []
 
--- the authors, separated by `:`
+-- the authors as one text, separated by `:`
 abbrev pub with_colons : List (List ℕ) → List ℕ
 with_colons authors = join_by (λ author. author) (codes ":") authors
 
--- a text that is a path from the root, rewritten as a path from the member's folder; a text that is
--- no path stays as written
+-- The path of a text, rewritten so that it starts at the member's folder instead of the root. A
+-- text that is no path stays as it is written.
 abbrev pub from_member : List ℕ → List ℕ → List ℕ → List ℕ
 from_member root folder text = option_map_or (text_between folder) (result_ok (joined root text)) text
 
--- the path of the README: `true` means `README.md`, `false` means no file
+-- the path of the README; `true` means `README.md`, and `false` means that there is no README
 abbrev pub readme_path : Readme → Option (List ℕ)
 readme_path readme.Standard = Some (codes "README.md")
 readme_path readme.Never = None
@@ -75,28 +77,31 @@ readme_path (readme.At path) = Some path
 
 -- Targets.
 
--- the build script: `build.rs` if there is such a file, unless `build` is `true`, `false` or a path
+-- The build script's path. If `build` is missing, it is `build.rs`, provided that there is such a
+-- file. Otherwise `build` is `true`, `false` or a path.
 abbrev pub script : World → List ℕ → Build → Option (List ℕ)
 script sources folder build.Discovered = first_path sources folder (codes "build.rs" ∷ [])
 script sources folder build.Standard = Some (below folder (codes "build.rs"))
 script sources folder build.Never = None
 script sources folder (build.At path) = Some (resolved folder path)
 
--- a library without written crate types has the crate type `lib`
+-- the crate types that are written for a library, or `lib` if none is written
 abbrev pub kinds_or_lib : List CrateType → List CrateType
 kinds_or_lib [] = Lib ∷ []
 kinds_or_lib (kind ∷ kinds) = kind ∷ kinds
 
--- the library: with `[lib]`, the library of that table, in `src/lib.rs` unless a path is written;
--- without `[lib]`, the library in `src/lib.rs`, if there is such a file
+-- The library of a package. With `[lib]` it is the library of this table; the source is
+-- `src/lib.rs` unless a path is written. Without `[lib]` a package has a library only if
+-- `src/lib.rs` is a file.
 abbrev pub library : World → List ℕ → List ℕ → Option WrittenLibrary → Option Library
 library sources folder name (Some l) = Some record { name = unwrap_or l.name (underscored name); crate_types = kinds_or_lib l.crate_types; source = option_map_or (resolved folder) l.path (below folder (codes "src/lib.rs")) }
 library sources folder name None = option_map (λ path. record { name = underscored name; crate_types = Lib ∷ []; source = path }) (first_path sources folder (codes "src/lib.rs" ∷ []))
 
 -- Features.
 
--- A feature is written, or an optional entry makes it: it has the entry's key as its name and the one item `dep:KEY`.
--- An entry makes no feature if its item, or a feature with its name, is written.
+-- A feature is written, or an optional entry makes it. A feature that an entry makes has the
+-- entry's key as its name, and `dep:KEY` as its only item. The entry makes no feature if this item,
+-- or a feature with this name, is written.
 pub data IsFeature (m : Manifest) (f : Feature) : Type 0 where
   written : (is : Contains m.features f) → IsFeature m f
   made : (d : Dependency) (entry : Contains (m.dependencies ++ m.build_dependencies) d) (optional : d.optional ≡ true) (name : f.name ≡ d.key) (items : f.items ≡ item.Dependency d.key ∷ [])
@@ -104,16 +109,17 @@ pub data IsFeature (m : Manifest) (f : Feature) : Type 0 where
 
 -- Entries.
 
--- What a dependency requests: the package at its path, from the folder of its own package. If it
--- inherits the workspace's entry with its key, the path is from the root's folder, and it requests
--- the features of both. It then requests `default` if one of the two entries does.
+-- What a dependency requests. A dependency with its own path starts at its package's folder. If it
+-- inherits the workspace's entry with its key, the path is that of the entry and starts at the
+-- root's folder. An inherited dependency requests the features of both entries, and `default` if
+-- one of the two entries does.
 pub data Asks (root folder : List ℕ) (entries : List WorkspaceDependency) (d : Dependency) : List ℕ → PathSource → Bool → List (List ℕ) → Type 0 where
   path : (s : PathSource) (is : d.source ≡ source.Path s) → Asks root folder entries d (resolved folder s.path) s s.default_features d.features
   workspace : (default : Bool) (is : d.source ≡ source.Workspace default) (w : WorkspaceDependency) (there : Contains entries w) (same : w.key ≡ d.key) (s : PathSource) (has_path : w.source ≡ shared.Path s)
       → Asks root folder entries d (resolved root s.path) s (s.default_features || default) (w.features ++ d.features)
 
--- The entry of a dependency leads to the package in that folder.
--- That package has a matching version, and the name that `package` gives, or else the key as its name.
+-- The entry of a dependency leads to the package in the requested folder. This package has a
+-- matching version. The package's name is what `package` says, or else the key.
 pub record IsEntry (root folder : List ℕ) (entries : List WorkspaceDependency) (ws : Workspace) (kind : DependencyKind) (d : Dependency) (e : Entry) : Type 0 where
   pub key_is : e.key ≡ d.key
   pub kind_is : e.kind ≡ kind
@@ -126,9 +132,9 @@ pub record IsEntry (root folder : List ℕ) (entries : List WorkspaceDependency)
   pub renamed : e.renamed ≡ not (bytes_eq found.name e.key)
   pub version : IfSome s.version (λ requirement. matches requirement found.version ≡ true)
 
--- A package of a workspace with this root folder and these entries, with the manifest `m` and its
--- `[package]` table `w`. The package has exactly one entry for each entry of the two tables, in
--- order.
+-- The package is the one that the manifest `m` and its `[package]` table `w` describe, in a
+-- workspace with this root folder. `given` is what the package may inherit. For each entry of the
+-- two tables, in order, the package has exactly one entry.
 pub record IsPackageOf (sources : World) (root : List ℕ) (given : Given) (ws : Workspace) (m : Manifest) (w : Written) (p : Package) : Type 0 where
   pub name : p.name ≡ w.name
   pub version : IsOwnOrTaken w.version given.package.version p.version

@@ -1,11 +1,11 @@
--- The path from one folder to another path, as a text of names.
+-- The path that leads from one folder to another path, spelled as a text.
 use Rattle.std.specs.Prelude.{ℕ, Bool, not, ◌==◌, if◌then◌else◌, codes, List, [], ◌∷◌, ◌++◌, length, replicate, filter}
 use Rattle.std.specs.List.{slice_split}
 use Rattle.std.specs.Str.{bytes_eq}
 use Rattle.pb_data.specs.Ascii.{slash}
 use Rattle.pb_place_types.specs.Paths.{slashed}
 
--- a part that is not empty
+-- the part is not empty
 abbrev pub is_word : List ℕ → Bool
 is_word part = not (length part == 0)
 
@@ -13,23 +13,22 @@ is_word part = not (length part == 0)
 abbrev pub names_in : List ℕ → List (List ℕ)
 names_in path = filter is_word (slice_split (λ b. b == slash) path)
 
--- one `..` for each of these names
+-- the part `..`, once for each of these names
 abbrev pub upward : List (List ℕ) → List (List ℕ)
 upward names = replicate (length names) (codes "..")
 
--- the steps from the end of the first names to the end of the others: without their common
--- beginning, a `..` for each remaining name of the first, and then the remaining names of the
--- others
+-- The steps from the first path to the second. The common beginning of the two paths is left out.
+-- Then each name left of the first path is one `..`, and the names left of the second path follow.
 abbrev pub steps_between : List (List ℕ) → List (List ℕ) → List (List ℕ)
 steps_between [] others = others
 steps_between (name ∷ names) [] = upward (name ∷ names)
 steps_between (name ∷ names) (other ∷ others) = if bytes_eq name other then steps_between names others else upward (name ∷ names) ++ other ∷ others
 
--- names with a slash between them
+-- the names, with slashes between them
 abbrev pub spelled : List (List ℕ) → List ℕ
 spelled [] = []
 spelled (name ∷ names) = name ++ slashed names
 
--- the path from a folder to a path, as `../README.md`; empty if they are equal
+-- the path from a folder to a path, as in `../README.md`, or the empty text if the two are equal
 abbrev pub text_between : List ℕ → List ℕ → List ℕ
 text_between folder path = spelled (steps_between (names_in folder) (names_in path))

@@ -1,4 +1,5 @@
--- How a step that reads files ends: which faults come from outside the rules, and how the counters of the place move.
+-- How a step that reads files ends: which faults come from outside the rules, and how the counters
+-- of the place change.
 use Rattle.std.specs.Prelude.{◌≡◌, ℕ, List, [], Bool, true, false, Option, Some, None, Result, Ok, Err, MatchResult}
 use Rattle.pb_place_types.specs.At.{At}
 use Rattle.pb_place_types.specs.Children.{KeepsStill}
@@ -10,29 +11,29 @@ use Rattle.pb_place_types.specs.declared.place.PlaceFault.TheVariants as place
 use Rattle.pb_workspace_types.specs.declared.fault.LoadFault.{LoadFault}
 use Rattle.pb_workspace_types.specs.declared.fault.LoadFault.TheVariants.{Place, OutOfMemory}
 
--- a call of the place failed
+-- the fault is that of a failed call of the place
 abbrev pub is_failure : LoadFault → Bool
 is_failure (Place path fault) = true
 is_failure _ = false
 
--- the outside failed, or memory ran out; definitions of answers say nothing about these faults
+-- The fault is that of a failed call, or memory ran out. Definitions of answers do not have these faults.
 abbrev pub is_outside : LoadFault → Bool
 is_outside (Place path fault) = true
 is_outside OutOfMemory = true
 is_outside _ = false
 
--- a file could not be read, or a folder could not be listed
+-- the fault is that of a file that could not be read, or of a folder that could not be listed
 abbrev pub is_read_fault : PlaceFault → Bool
 is_read_fault place.Read = true
 is_read_fault place.List = true
 is_read_fault _ = false
 
--- the failed call, if there is one, is one that reads
+-- if the fault is that of a failed call, the call was to read a file or to list a folder
 abbrev pub is_read : LoadFault → Bool
 is_read (Place path fault) = is_read_fault fault
 is_read _ = true
 
--- what the place answered to the failed call
+-- the failure that the place recorded for a failed call
 abbrev pub failure_of : LoadFault → Option Failure
 failure_of (Place path fault) = Some (Called fault)
 failure_of _ = None
@@ -42,23 +43,22 @@ abbrev pub path_told : LoadFault → List ℕ
 path_told (Place path fault) = path
 path_told _ = []
 
--- the fault of a failed call on a path; out of memory stays so
+-- the fault of a failed call on a path; if memory ran out, the fault is out of memory
 abbrev pub fault_at : List ℕ → PlaceFault → LoadFault
 fault_at path place.OutOfMemory = OutOfMemory
 fault_at path fault = Place path fault
 
--- the result is the answer, unless the outside failed or memory ran out
+-- the result is exactly this answer, unless a call failed or memory ran out
 abbrev pub UnlessFailed : {A : Type 0} → Result A LoadFault → Result A LoadFault → Type 0
 UnlessFailed result answer = MatchResult result (λ x. answer ≡ Ok x) (λ e. is_outside e ≡ false → answer ≡ Err e)
 
--- no child was started;
--- a call failed if and only if the fault says so, with this very
--- fault and on this very path; then no further call was made
+-- No child was started. The fault says that a call failed if and only if a call failed. This call
+-- then had the fault and the path that are reported, and was the last call.
 abbrev pub Reads : {T : Type 0} → Result T LoadFault → Counts → Counts → Type 0
 Reads result old new = MatchResult result (λ _. (new.failures ≡ old.failures) × (new.starts ≡ old.starts))
     (λ e. (new.starts ≡ old.starts) × (is_failure e ≡ false → new.failures ≡ old.failures) × (is_failure e ≡ true → new.failures ≡ up old.failures) × (is_failure e ≡ true → new.late ≡ 0) × (is_failure e ≡ true → new.last ≡ failure_of e) × (is_failure e ≡ true → named_in new ≡ path_told e) × (is_read e ≡ true))
 
--- a step that only looks: only the counters change, and a failed call is the last one
+-- The step changes nothing but the counters. If a call failed, it was the last call.
 pub record OnlyLooks {T : Type 0} (result : Result T LoadFault) (old new : At) : Type 0 where
   pub world : new.world ≡ old.world
   pub most : new.most ≡ old.most

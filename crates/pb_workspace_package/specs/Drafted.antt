@@ -1,5 +1,5 @@
--- What is true of every package that is read, whatever the files contain. The
--- promise that a workspace which was read is settled needs these definitions.
+-- What is true of every package that was read, whatever the files contain. The promise that each
+-- workspace that was read is settled needs these definitions.
 use Rattle.std.specs.Prelude.{◌≡◌, ◌||◌, true, List, map, IfSome}
 use Rattle.std.specs.List.{AllByRecursion}
 use Rattle.pb_manifest_types.specs.Letters.{is_name, is_crate_name, is_feature_name}
@@ -14,7 +14,8 @@ use Rattle.pb_workspace_package.specs.declared.settling.Targets.{Targets}
 use Rattle.pb_workspace_package.specs.declared.wanted.Wanted.{Wanted}
 use Rattle.pb_workspace_types.specs.Settled.{IsAscending}
 
--- each name consists of the letters that its kind of name may have
+-- The name of a library has the letters of crates' names. The next definitions say this of other
+-- names, each with the letters that its kind may have.
 abbrev pub IsLibraryNamed : Library → Type 0
 IsLibraryNamed l = is_crate_name l.name ≡ true
 
@@ -36,17 +37,17 @@ IsWantedKeyed w = is_name w.key ≡ true
 abbrev pub IsWrittenLibrary : WrittenLibrary → Type 0
 IsWrittenLibrary l = IfSome l.name (λ name. is_crate_name name ≡ true)
 
--- the binaries have valid names, in ascending order
+-- the binaries have valid names, in byte order without repeats
 pub record AreBinaries (bs : List Binary) : Type 0 where
   pub named : AllByRecursion IsBinaryNamed bs
   pub order : IsAscending (map (λ (b : Binary). b.name) bs)
 
--- the features have valid names, in ascending order
+-- the features have valid names, in byte order without repeats
 pub record AreFeatures (fs : List Feature) : Type 0 where
   pub named : AllByRecursion IsFeatureNamed fs
   pub order : IsAscending (map (λ (f : Feature). f.name) fs)
 
--- what a manifest promises about its tables
+-- what each manifest that was read promises about its tables
 abbrev pub ArePromised : Tables → Type 0
 ArePromised t =
     IfSome t.library IsWrittenLibrary × AllByRecursion IsKeyed t.dependencies × AllByRecursion IsKeyed t.build_dependencies × AllByRecursion IsWrittenFeature t.features

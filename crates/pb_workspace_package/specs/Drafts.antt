@@ -1,5 +1,6 @@
--- A package as a whole: what its manifest and its folder say, with all that it takes from its workspace (The Cargo
--- Book, Manifest Format and Workspaces). `sources` is the world without what is at or below the target folder.
+-- What a package is as a whole. A package is described by its manifest and its folder, and inherits
+-- from its workspace (The Cargo Book, Manifest Format and Workspaces). `sources` is the world
+-- without the files at or below the target folder.
 use Rattle.std.specs.Prelude.{ℕ, Bool, List, Result, Ok}
 use Rattle.pb_data.specs.UnlessOom.{◌>>=◌}
 use Rattle.pb_place_types.specs.World.{World}
@@ -19,7 +20,7 @@ use Rattle.pb_workspace_package.specs.Features.{features_of}
 use Rattle.pb_workspace_package.specs.Keys.{keys_of}
 use Rattle.pb_workspace_package.specs.Settling.{has_same_binaries, targets_of, wanted_in}
 
--- the lists of a manifest, or the first fault of an entry
+-- the entries and features of a manifest, or the first fault of an entry
 abbrev pub lists_of : PackageLocation → Given → List Dependency → List Dependency → List Feature → List WrittenBinary → Result Lists LoadFault
 lists_of at given dependencies build features binaries =
     wanted_in at given dependencies build >>= (λ wanted.
@@ -45,12 +46,12 @@ draft_from at is_member keys lists development targets = record {
   has_same_binaries = lists.has_same_binaries;
 }
 
--- the package with these keys
+-- the package whose keys are settled already, or the first fault of an entry
 unfoldable pub draft_with : World → PackageLocation → Bool → Given → Tables → Keys → Result UnresolvedPackage LoadFault
 draft_with sources at is_member given t keys =
     lists_of at given t.dependencies t.build_dependencies t.features t.binaries >>= (λ lists.
     Ok (draft_from at is_member keys lists t.dev_dependencies (targets_of at.folder sources keys.name keys.autobins keys.build t.library t.binaries)))
 
--- the package of a manifest, or its first fault: first of its keys, then of its entries
+-- The package that a manifest describes, or its first fault. The keys are settled first, and then the entries.
 unfoldable pub draft_of : World → PackageLocation → Bool → Given → Package → Tables → Result UnresolvedPackage LoadFault
 draft_of sources at is_member given p t = keys_of sources at given.package p >>= (λ keys. draft_with sources at is_member given t keys)

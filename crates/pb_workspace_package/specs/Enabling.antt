@@ -1,4 +1,4 @@
--- The names that some feature lists as `dep:N`; only private functions need these definitions.
+-- Which names N occur in items `dep:N` of features. Only private functions need these definitions.
 use Rattle.std.specs.Prelude.{◌≡◌, ℕ, not, ◌&&◌, if◌then◌else◌, List, [], ◌∷◌}
 use Rattle.std.specs.List.{flat_map}
 use Rattle.pb_data.specs.OrderedSet.{is_mentioned}
@@ -9,7 +9,7 @@ use Rattle.pb_manifest_types.specs.declared.feature.FeatureItem.TheVariants as i
 use Rattle.pb_workspace_package.specs.Features.{is_enabled_by_name}
 use Rattle.pb_workspace_package.specs.Sorted.{with_entry}
 
--- the name N of an item `dep:N`
+-- the name N if the item is `dep:N`, and no name otherwise
 abbrev pub named_by : FeatureItem → List (List ℕ)
 named_by (item.Dependency dependency) = dependency ∷ []
 named_by _ = []
@@ -17,10 +17,10 @@ named_by _ = []
 abbrev pub named_in : Feature → List (List ℕ)
 named_in f = flat_map named_by f.items
 
--- the names are those that some feature lists as `dep:N`, and no others
+-- the names are exactly those names N for which some feature lists `dep:N`
 abbrev pub AreEnabledNames : List (List ℕ) → List Feature → Type 0
 AreEnabledNames names features = (name : List ℕ) → is_mentioned names name ≡ is_enabled_by_name name features
 
--- the entries with the feature that an entry of a dependency table makes
+-- the features after an entry of a dependency table has added the feature that it makes, if it makes one
 abbrev pub with_one : List (List ℕ) → List (List ℕ × List FeatureItem) → Dependency → List (List ℕ × List FeatureItem)
 with_one names entries d = if d.optional && not (is_mentioned names d.key) then with_entry entries d.key (item.Dependency d.key ∷ []) else entries

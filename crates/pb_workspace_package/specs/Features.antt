@@ -1,4 +1,5 @@
--- The features of a package, with those that its optional dependencies make (The Cargo Book, Features).
+-- The features of a package: those that are written, and those that optional dependencies make (The
+-- Cargo Book, Features).
 use Rattle.std.specs.Prelude.{ℕ, Bool, false, not, ◌&&◌, if◌then◌else◌, List, [], ◌∷◌, map}
 use Rattle.std.specs.List.{list_any}
 use Rattle.std.specs.Str.{bytes_eq}
@@ -8,25 +9,25 @@ use Rattle.pb_manifest_types.specs.declared.feature.FeatureItem.{FeatureItem}
 use Rattle.pb_manifest_types.specs.declared.feature.FeatureItem.TheVariants as item
 use Rattle.pb_workspace_package.specs.Sorted.{with_entry}
 
--- a feature's item is `dep:N` with this name
+-- the item is `dep:N`, in which N is this name
 abbrev pub enables : List ℕ → FeatureItem → Bool
 enables name (item.Dependency dependency) = bytes_eq name dependency
 enables name _ = false
 
--- some feature lists `dep:N`
+-- some feature lists the item `dep:N`, in which N is this name
 abbrev pub is_enabled_by_name : List ℕ → List Feature → Bool
 is_enabled_by_name name features = list_any (λ f. list_any (enables name) f.items) features
 
--- an optional entry N makes a feature N, unless some `dep:N` is written
+-- An optional entry with the key N makes a feature N, unless some feature lists `dep:N`.
 abbrev pub makes_feature : List Feature → Dependency → Bool
 makes_feature written d = d.optional && not (is_enabled_by_name d.key written)
 
--- the entries with the features that dependency entries make, each with the single item `dep:N`
+-- the features after these entries have added the features that they make; each has the single item `dep:KEY`
 abbrev pub with_made : List Feature → List (List ℕ × List FeatureItem) → List Dependency → List (List ℕ × List FeatureItem)
 with_made written entries [] = entries
 with_made written entries (d ∷ ds) = with_made written (if makes_feature written d then with_entry entries d.key (item.Dependency d.key ∷ []) else entries) ds
 
--- the entries with the written features, each of which replaces a made one of the same name
+-- the features after the written features are added; a written feature replaces a made one of the same name
 abbrev pub with_written : List (List ℕ × List FeatureItem) → List Feature → List (List ℕ × List FeatureItem)
 with_written entries [] = entries
 with_written entries (f ∷ fs) = with_written (with_entry entries f.name f.items) fs

@@ -1,4 +1,5 @@
--- The keys of a package, each settled. These definitions are about one package and what its workspace gives it.
+-- How the keys of a package are settled. These definitions are about one package and what its
+-- workspace offers it.
 use Rattle.std.specs.Prelude.{ℕ, List, Result, Ok}
 use Rattle.pb_data.specs.UnlessOom.{◌>>=◌}
 use Rattle.pb_place_types.specs.World.{World}
@@ -10,7 +11,7 @@ use Rattle.pb_workspace_package.specs.declared.wanted.PackageLocation.{PackageLo
 use Rattle.pb_workspace_package.specs.Settling.{readme_found}
 use Rattle.pb_workspace_package.specs.Taken.{about_of, own_or_given}
 
--- the keys of a package with the README that was looked for
+-- the settled keys of a package, given the README that was found in its folder
 abbrev pub keys_from : PackageLocation → WorkspacePackage → List ℕ → Package → Result Keys LoadFault
 keys_from at given readme p =
     own_or_given p.version given.version >>= (λ version.
@@ -18,6 +19,6 @@ keys_from at given readme p =
     about_of at.root at.folder readme p given >>= (λ about.
     Ok record { name = p.name; version = version; edition = edition; about = about; links = p.links; autobins = p.autobins; build = p.build })))
 
--- the keys of a package: what it writes, takes from its workspace or has in its folder
+-- the settled keys of a package: what its manifest writes, what it inherits, and what its folder contains
 abbrev pub keys_of : World → PackageLocation → WorkspacePackage → Package → Result Keys LoadFault
 keys_of sources at given p = keys_from at given (readme_found at.folder sources p.readme) p

@@ -1,5 +1,5 @@
--- What is seen of a package's folder, which decides all that is found there.
--- `sources` is the world without what is at or below the target folder.
+-- What is seen of a package's folder. Nothing else decides what is found there. `sources` is the
+-- world without the files at or below the target folder.
 use Rattle.std.specs.Prelude.{◌≡◌, ℕ, Bool, List, filter}
 use Rattle.pb_place_types.specs.World.{World, listed}
 use Rattle.pb_workspace_package.specs.declared.listings.Listings.{Listings}
@@ -8,11 +8,11 @@ use Rattle.pb_workspace_package.specs.FoundBinaries.{bin_folder}
 use Rattle.pb_workspace_package.specs.OwnFile.{name_of, own_files}
 use Rattle.pb_workspace_package.specs.Sources.{has_own_file}
 
--- the folder has this file
+-- the folder has this file in the sources
 abbrev pub is_there : List ℕ → World → OwnFile → Bool
 is_there folder sources file = has_own_file folder sources (name_of file)
 
--- the files at fixed paths that the folder has, and the files below its `src/bin`
+-- The listings name those files at fixed paths that the folder has, and the files below its `src/bin`.
 pub record AreListingsOf (folder : List ℕ) (sources : World) (l : Listings) : Type 0 where
   pub own : l.own ≡ filter (is_there folder sources) own_files
   pub in_bin : l.in_bin ≡ listed (bin_folder folder) sources

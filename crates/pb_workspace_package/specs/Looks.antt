@@ -1,5 +1,6 @@
--- What a step looks at: the calls of the place in order, each with the path that is passed to it, up to the first
--- refusal. Which calls these are for a package's folder is our own choice, since The Cargo Book does not define it.
+-- Which calls of the place a step makes, in order, up to the first refusal. Each call has its path.
+-- Which calls are made for a package's folder is our own choice, since The Cargo Book does not
+-- define it.
 use Rattle.std.specs.Prelude.{◌≡◌, ℕ, false, true, if◌then◌else◌, List, [], ◌∷◌, ◌++◌, Result, Ok, Err, MatchResult}
 use Rattle.std.specs.List.{flat_map}
 use Rattle.pb_place_types.specs.CallsInTurn.{FailsAt, MakesSome, past_calls}
@@ -14,35 +15,36 @@ use Rattle.pb_workspace_package.specs.Causes.{is_failure, is_outside}
 use Rattle.pb_workspace_package.specs.FoundBinaries.{bin_folder}
 use Rattle.pb_workspace_package.specs.OwnFile.{name_of, own_files}
 
--- the failed call was one of these: those before it succeeded, and it was the last
+-- One of these calls failed. All calls before it succeeded, and no call came after it.
 abbrev pub FailsOn : LoadFault → List Call → Counts → Counts → Type 0
 FailsOn (Place path fault) calls old new = FailsAt fault calls old new
 FailsOn e calls old new = ⊥
 
--- how an error ended these calls: a refusal came after all of them, out of
--- memory after the first few, and a failed call is one of them and the last
+-- How a step ended with this error. A refusal came after all of these calls. Memory may run out
+-- after the first few. A failed call is one of these calls, and the last.
 abbrev pub LooksUntil : LoadFault → List Call → Counts → Counts → Type 0
 LooksUntil e calls old new = (is_outside e ≡ false → new ≡ past_calls calls old) × (is_failure e ≡ false → MakesSome calls old new) × (is_failure e ≡ true → FailsOn e calls old new)
 
--- exactly these calls were made, or the first of them up to an error; each call is counted and the
--- failed call is recorded, so the counters also determine the order of the calls
+-- After a success, exactly these calls were made. After an error, the first of them were. Each call
+-- is counted and the failed call is recorded. So the counters also determine the order of the
+-- calls.
 abbrev pub Looks : {T : Type 0} → Result T LoadFault → List Call → Counts → Counts → Type 0
 Looks result calls old new = MatchResult result (λ _. new ≡ past_calls calls old) (λ e. LooksUntil e calls old new)
 
--- a call on a path, unless the path is at or below the target folder
+-- the call, unless its path is at or below the target folder
 abbrev pub looked : List ℕ → Call → List Call
 looked target call = if is_at_or_below target (name_given call) then [] else call ∷ []
 
--- the calls that come next, unless there was a fault
+-- the calls that follow a success, and no calls after a fault
 abbrev pub after : {A : Type 0} → Result A LoadFault → (A → List Call) → List Call
 after (Ok x) next = next x
 after (Err e) next = []
 
--- the question whether a package's folder has one of the files at fixed paths
+-- the call that asks if a package's folder has a certain file at a fixed path
 abbrev pub own_asked : List ℕ → List ℕ → OwnFile → List Call
 own_asked target folder file = looked target (call.IsFile (below folder (name_of file)))
 
--- the calls for a package's folder: a question for each file at
--- a fixed path, then a listing of the files below its `src/bin`
+-- The calls for a package's folder. One call for each file at a fixed path asks if the file is
+-- there. Then the files below `src/bin` are listed.
 abbrev pub listings_at : List ℕ → List ℕ → List Call
 listings_at target folder = flat_map (own_asked target folder) own_files ++ looked target (call.ListOutside (bin_folder folder) target)

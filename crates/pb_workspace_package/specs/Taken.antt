@@ -1,5 +1,5 @@
--- What a package says about itself, written in its manifest or taken
--- from its workspace (The Cargo Book, Manifest Format and Workspaces).
+-- What a package says about itself, either in its manifest or by inheriting from its workspace (The
+-- Cargo Book, Manifest Format and Workspaces).
 use Rattle.std.specs.Prelude.{ℕ, codes, List, [], ◌∷◌, ◌++◌, Option, Result, Ok, Err}
 use Rattle.pb_data.specs.UnlessOom.{◌>>=◌, some_or}
 use Rattle.pb_place_types.specs.Paths.{joined}
@@ -17,23 +17,23 @@ use Rattle.pb_workspace_types.specs.declared.fault.LoadFault.TheVariants.{NoInhe
 use Rattle.pb_workspace_types.specs.declared.package.About.{About}
 use Rattle.pb_workspace_package.specs.Between.{text_between}
 
--- a value that is required: the package's own, or the workspace's if it is taken from there
+-- a value that a package must have, and that is written or inherited from the workspace
 abbrev pub own_or_given : {A : Type 0} → Inherited A → Option A → Result A LoadFault
 own_or_given (inherited.Written x) given = Ok x
 own_or_given inherited.Workspace given = some_or NoInherited given
 
--- a text; empty if it is absent
+-- a text that is written or inherited, or the empty text if it is absent
 abbrev pub text_of : Inheritable (List ℕ) → Option (List ℕ) → Result (List ℕ) LoadFault
 text_of (Written text) given = Ok text
 text_of Workspace given = some_or NoInherited given
 text_of Absent given = Ok []
 
--- each author after a colon
+-- the authors, with `:` before each
 abbrev pub further_authors : List (List ℕ) → List ℕ
 further_authors [] = []
 further_authors (author ∷ authors) = codes ":" ++ author ++ further_authors authors
 
--- the authors with `:` between them
+-- the authors, with `:` between them
 abbrev pub joined_authors : List (List ℕ) → List ℕ
 joined_authors [] = []
 joined_authors (author ∷ authors) = author ++ further_authors authors
@@ -43,12 +43,12 @@ authors_of (Written authors) given = Ok (joined_authors authors)
 authors_of Workspace given = some_or NoInherited given >>= (λ authors. Ok (joined_authors authors))
 authors_of Absent given = Ok []
 
--- the path from the member's folder to a path; the text as it is written if it is no path
+-- the path from the member's folder to a path; if the text is no path, the text as it is written
 abbrev pub between_or : List ℕ → List ℕ → Result (List ℕ) PathFault → List ℕ
 between_or folder text (Ok path) = text_between folder path
 between_or folder text (Err fault) = text
 
--- a text of the workspace, which is a path from the root, as a path from the member's folder
+-- a path of the workspace, which starts at the root, rewritten so that it starts at the member's folder
 abbrev pub from_member : List ℕ → List ℕ → List ℕ → List ℕ
 from_member root folder text = between_or folder text (joined root text)
 
@@ -57,25 +57,26 @@ license_file_of root folder (Written text) given = Ok text
 license_file_of root folder Workspace given = some_or NoInherited given >>= (λ text. Ok (from_member root folder text))
 license_file_of root folder Absent given = Ok []
 
--- the README's path: `true` means `README.md`, `false` means none
+-- the path of the README: `README.md` for `true`, and the empty text for `false`
 abbrev pub readme_text : Readme → List ℕ
 readme_text readme.Standard = codes "README.md"
 readme_text readme.Never = []
 readme_text (readme.At path) = path
 
--- the workspace's README, as a path from the member's folder
+-- the path of the workspace's README, from the member's folder
 abbrev pub given_readme : List ℕ → List ℕ → Readme → List ℕ
 given_readme root folder readme.Standard = from_member root folder (codes "README.md")
 given_readme root folder readme.Never = []
 given_readme root folder (readme.At path) = from_member root folder path
 
--- the README; if nothing is written, the one that was found
+-- the path of the README that is written or inherited; if nothing is written, the README that was found
 abbrev pub readme_of : List ℕ → List ℕ → List ℕ → Inheritable Readme → Option Readme → Result (List ℕ) LoadFault
 readme_of root folder found (Written readme) given = Ok (readme_text readme)
 readme_of root folder found Workspace given = some_or NoInherited given >>= (λ readme. Ok (given_readme root folder readme))
 readme_of root folder found Absent given = Ok found
 
--- what a package says about itself to people; `given` is what its workspace gives it, `found` the README of its folder
+-- What a package tells people about itself. `given` is what its workspace offers, and `found` is
+-- the README in its folder.
 abbrev pub about_of : List ℕ → List ℕ → List ℕ → Package → WorkspacePackage → Result About LoadFault
 about_of root folder found s given =
     authors_of s.authors given.authors >>= (λ authors.

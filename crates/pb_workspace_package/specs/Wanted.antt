@@ -1,5 +1,5 @@
--- What the entries of a package request, with what they take from the
--- workspace (The Cargo Book, Specifying Dependencies and Workspaces).
+-- What the entries of a package request, and what they inherit from the workspace (The Cargo Book,
+-- Specifying Dependencies and Workspaces).
 use Rattle.std.specs.Prelude.{ℕ, Bool, false, not, ◌||◌, List, [], ◌∷◌, ◌++◌, Option, Some, None, unwrap_or, Result, Ok, Err}
 use Rattle.std.specs.List.{find}
 use Rattle.std.specs.Str.{bytes_eq}
@@ -18,12 +18,12 @@ use Rattle.pb_workspace_types.specs.declared.package.DependencyKind.{DependencyK
 use Rattle.pb_workspace_package.specs.declared.wanted.Wanted.{Wanted}
 use Rattle.pb_workspace_package.specs.Sources.{resolved}
 
--- `package` names another package than the key
+-- `package` has another name than the key
 abbrev pub is_renamed : List ℕ → Option (List ℕ) → Bool
 is_renamed key None = false
 is_renamed key (Some name) = not (bytes_eq name key)
 
--- what an entry requests; `base` is the folder from which its path starts
+-- what an entry requests; its path starts at the folder `base`
 abbrev pub wanted_at : List ℕ → DependencyKind → List ℕ → Bool → Bool → List (List ℕ) → PathSource → Wanted
 wanted_at base kind key optional default features source = record {
   key = key;
@@ -37,18 +37,18 @@ wanted_at base kind key optional default features source = record {
   features = features;
 }
 
--- the workspace's entry for this key
+-- the workspace's entry with this key, if there is one
 abbrev pub shared_at : List ℕ → List WorkspaceDependency → Option WorkspaceDependency
 shared_at key dependencies = find (λ d. bytes_eq key d.key) dependencies
 
--- what an entry requests if it takes a workspace entry: the workspace's features and then its own,
--- and `default` if one of the two requests it
+-- What an entry requests if it inherits a workspace entry. The features are those of the workspace
+-- entry, followed by its own. `default` is requested if one of the two entries requests it.
 abbrev pub taken_from : List ℕ → List ℕ → DependencyKind → Dependency → Bool → WorkspaceDependency → WorkspaceSource → Result Wanted LoadFault
 taken_from root manifest kind d default w (shared.Path source) = Ok (wanted_at root kind d.key d.optional (source.default_features || default) (w.features ++ d.features) source)
 taken_from root manifest kind d default w shared.Unsupported = Err (Manifest manifest UnsupportedSource)
 
--- what an entry of a package requests, given the package's folder and manifest;
--- `given` are the workspace's entries, none if it has none to give
+-- What an entry of a package requests, given the package's folder and manifest. `given` are the
+-- entries of the workspace that it may inherit.
 abbrev pub wanted_by : List ℕ → List ℕ → List ℕ → List WorkspaceDependency → DependencyKind → Dependency → Source → Result Wanted LoadFault
 wanted_by root folder manifest given kind d (Path source) = Ok (wanted_at folder kind d.key d.optional source.default_features d.features source)
 wanted_by root folder manifest given kind d (Workspace default) = some_or NoInherited (shared_at d.key given) >>= (λ w. taken_from root manifest kind d default w w.source)
@@ -56,7 +56,7 @@ wanted_by root folder manifest given kind d (Workspace default) = some_or NoInhe
 abbrev pub wanted_of : List ℕ → List ℕ → List ℕ → List WorkspaceDependency → DependencyKind → Dependency → Result Wanted LoadFault
 wanted_of root folder manifest given kind d = wanted_by root folder manifest given kind d d.source
 
--- what the entries of a table request, up to the first fault
+-- what these entries request, or the first fault
 abbrev pub each_wanted : (Dependency → Result Wanted LoadFault) → List Dependency → Result (List Wanted) LoadFault
 each_wanted one [] = Ok []
 each_wanted one (d ∷ ds) = one d >>= (λ w. each_wanted one ds >>= (λ ws. Ok (w ∷ ws)))

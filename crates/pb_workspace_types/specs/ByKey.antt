@@ -1,5 +1,5 @@
--- The order of a package's entries:
--- those of `[dependencies]` before those of `[build-dependencies]`, and in each table by the bytes of the keys.
+-- The order of a package's entries. Those of `[dependencies]` come before those of
+-- `[build-dependencies]`. In each table they are in byte order of their keys.
 use Rattle.std.specs.Prelude.{ℕ, List, ◌∷◌}
 use Rattle.pb_workspace_types.specs.declared.package.DependencyKind.{DependencyKind}
 use Rattle.pb_workspace_types.specs.declared.package.DependencyKind.TheVariants.{Normal, Build}
@@ -8,6 +8,6 @@ abbrev pub table_number : DependencyKind → ℕ
 table_number Normal = 0
 table_number Build = 1
 
--- a key with the number of its table in front
+-- the key, with the number of its table in front
 abbrev pub table_key : DependencyKind → List ℕ → List ℕ
 table_key kind key = table_number kind ∷ key

@@ -1,6 +1,6 @@
 -- What is true of every workspace that was read, whatever its files contain. Packages are in order
--- of their folders and have different names. Entries lead to packages and have names as keys, and
--- features and binaries are in order of their names.
+-- of their folders and have different names. Entries lead to packages and have valid keys. Features
+-- and binaries are in order of their names.
 use Rattle.std.specs.Prelude.{◌≡◌, ℕ, ◌<◌, ◌≤◌, ◌||◌, true, List, map, All, IfSome, length}
 use Rattle.std.specs.Ordering.{nat_cmp}
 use Rattle.std.specs.Cmp.Lexicographic.{slice_cmp}
@@ -22,8 +22,8 @@ use Rattle.pb_workspace_types.specs.declared.workspace.Workspace.{Workspace}
 abbrev pub IsAscending : List (List ℕ) → Type 0
 IsAscending texts = IsStrictlySortedBy (slice_cmp nat_cmp) texts
 
--- A package in a workspace of `count` packages.
--- The name of a feature has the letters of features, or those of packages if an optional dependency makes the feature.
+-- A package in a workspace of `count` packages. The name of a feature has the letters of features.
+-- If an optional dependency makes the feature, the name may have the letters of packages instead.
 pub record IsPackage (count : ℕ) (p : Package) : Type 0 where
   pub name : is_name p.name ≡ true
   pub crate_name : IfSome p.library (λ library. is_crate_name library.name ≡ true)
@@ -34,14 +34,14 @@ pub record IsPackage (count : ℕ) (p : Package) : Type 0 where
   pub leads : All (λ (entry : Entry). entry.to < count) p.entries
   pub entry_keys : All (λ (entry : Entry). is_name entry.key ≡ true) p.entries
 
--- this is true of the packages that `default-members` names, if it names members
+-- if `default-members` names only members, this is true of their indices
 abbrev pub IfNamed : DefaultMembers → (List ℕ → Type 0) → Type 0
 IfNamed Unwritten Holds = Unit {0}
 IfNamed (Named places) Holds = Holds places
 IfNamed Unknown Holds = Unit {0}
 
--- A workspace that was read: it has at most 256 packages, in byte order of their folders and with distinct names.
--- The root package and the default members are among these packages.
+-- A workspace that was read has at most 256 packages, in byte order of their folders and with
+-- different names. The root package and the default members are among these packages.
 pub record IsSettled (ws : Workspace) : Type 0 where
   pub few : length ws.packages ≤ max_packages
   pub folders : IsAscending (map (λ (p : Package). p.folder) ws.packages)
@@ -50,7 +50,7 @@ pub record IsSettled (ws : Workspace) : Type 0 where
   pub root : IfSome ws.root_package (λ place. place < length ws.packages)
   pub defaults : IfNamed ws.default_members (All (λ place. place < length ws.packages))
 
--- a workspace, and what is selected in it
+-- a workspace, with the selection in it
 pub record Selected : Type 0 where
   pub workspace : Workspace
   pub selection : Selection

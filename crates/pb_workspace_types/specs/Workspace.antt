@@ -1,4 +1,4 @@
--- The packages, entries and features of a workspace, by indices.
+-- Which package has which entry, feature or item. Packages and entries are meant by their indices.
 use Rattle.std.specs.Prelude.{◌≡◌, ℕ, Bool, true, List, Some, Contains, slice_get}
 use Rattle.std.specs.List.{list_any}
 use Rattle.std.specs.Str.{bytes_eq}
@@ -12,19 +12,19 @@ use Rattle.pb_workspace_types.specs.declared.workspace.Workspace.{Workspace}
 use Rattle.pb_manifest_types.specs.declared.feature.Feature.{Feature}
 use Rattle.pb_manifest_types.specs.declared.feature.FeatureItem.{FeatureItem}
 
--- the side on which an entry's package is built, if its own package is built on this side:
--- build entries lead to the host
+-- The side on which an entry's package is built, if the entry's own package is built on this side.
+-- Build dependencies are built for the host.
 abbrev pub side_of : DependencyKind → Side → Side
 side_of Normal side = side
 side_of Build side = Host
 
--- the package with this index has this entry with this index
+-- the package with the index `p` has this entry at the index `n`
 pub record HasEntry (ws : Workspace) (p n : ℕ) (entry : Entry) : Type 0 where
   pub owner : Package
   pub package_at : slice_get ws.packages p ≡ Some owner
   pub entry_at : slice_get owner.entries n ≡ Some entry
 
--- the package with this index has a feature with this name, which lists this item
+-- the package with the index `p` has a feature with this name, and the feature lists this item
 pub record ListsItem (ws : Workspace) (p : ℕ) (name : List ℕ) (item : FeatureItem) : Type 0 where
   pub owner : Package
   pub feature : Feature
@@ -33,11 +33,11 @@ pub record ListsItem (ws : Workspace) (p : ℕ) (name : List ℕ) (item : Featur
   pub named : feature.name ≡ name
   pub listed : Contains feature.items item
 
--- whether one of these features has this name
+-- one of these features has this name
 abbrev pub has_feature_named : List Feature → List ℕ → Bool
 has_feature_named features name = list_any (λ f. bytes_eq name f.name) features
 
--- the package with this index has a feature with this name
+-- the package with the index `p` has a feature with this name
 pub record HasFeature (ws : Workspace) (p : ℕ) (name : List ℕ) : Type 0 where
   pub owner : Package
   pub package_at : slice_get ws.packages p ≡ Some owner
