@@ -60,9 +60,9 @@ abbrev pub IsSilent : Answers → Options → World → Type 0
 IsSilent child options w =
     (project : Project) × IsProject options (environment_of options w.variables).target w project × (toolchain_of child (environment_of options w.variables) project (from_nothing (environment_of options w.variables).target w) ≡ None)
 
--- Why no unit began. The build may be refused. The compiler may not report its version, or not
--- answer. Memory may run out. Or a call on a path or a variable failed, either in the planning or
--- when the records were opened.
+-- Why no unit began. The build may be refused. The compiler may fail to report its version, or fail
+-- to answer. Memory may run out. Or a call on a path or a variable failed, either in the planning
+-- or when the records were opened.
 abbrev pub FailsBefore : Bool → Answers → Options → BuildFault → World → Counts → Counts → Type 0
 FailsBefore is_modelled child options (Plan why) w old new = (IsTrue is_modelled → IsRefused options (environment_of options w.variables).target w why) × (new.starts ≡ old.starts) × (new.failures ≡ old.failures)
 FailsBefore is_modelled child options Toolchain w old new = (IsTrue is_modelled → IsSilent child options w) × (new.starts ≡ up_starts old.starts) × (new.failures ≡ old.failures)

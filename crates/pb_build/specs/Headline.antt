@@ -76,15 +76,16 @@ RestsOn NoRecords child options w = (key : List ℕ) → records (records_of opt
 abbrev pub ByTurns : {S : Type 0} → (S → List ℕ → List ℕ → Step → S → Type 0) → S → Project → List (Event BadUnit) → Type 0
 ByTurns {S} Turns from project es = (last : S) × Flies Turns (needs_of project) Anyhow Anything from es last
 
--- the events are those of the options' number of jobs, in which this pick chooses which unit begins
+-- the events are those of a turn with the options' number of jobs, in which this pick chooses the
+-- unit that begins
 abbrev pub ByPick : {S : Type 0} → (S → List ℕ → ℕ → S → Type 0) → Options → S → Project → List (Event BadUnit) → Type 0
 ByPick {S} Picks options pick = let from : Jobs S = record { pick = pick; jobs = options.jobs } in ByTurns (TurnsOfJobs Picks) from
 
--- the events are those of jobs in which the first unit that may begin is picked, in plan order
+-- the events are those of `ByPick` if the first unit that may begin is picked, in plan order
 abbrev pub ByFirst : Options → Project → List (Event BadUnit) → Type 0
 ByFirst options = let pick : First = record {} in ByPick PicksFirstOf options pick
 
--- the events are those of jobs in which the last unit that may begin is picked, in plan order
+-- the events are those of `ByPick` if the last unit that may begin is picked, in plan order
 abbrev pub ByLast : Options → Project → List (Event BadUnit) → Type 0
 ByLast options = let pick : Last = record {} in ByPick PicksLastOf options pick
 
@@ -119,7 +120,7 @@ pub record UnitsFly (child : Answers) (Schedule : Project → List (Event BadUni
 pub record GivesAll (premise : Premise) (child : Answers) (Schedule : Project → List (Event BadUnit) → Type 0) (options : Options) (summary : Summary) (old new : BuildState) : Type 0 where
   pub flown : UnitsFly child Schedule options old new
   pub finished : is_finished (states_in flown.units.project flown.es) ≡ true
-  -- each unit that took a run number took the next one; the first is above all numbers that the
+  -- each unit that took a run number took the next number; the first number is above all that the
   -- records have or name
   pub numbers : (after : Option ℕ) × NumbersGiven (LacksNumber flown.units.project old.world) flown.es (next_in (records_of options old.world.variables) old.world) after
   pub unnoted : (index : ℕ) → slice_get (states_in flown.units.project flown.es) index ≡ Some Untouched → slice_get flown.reasons index ≡ Some None

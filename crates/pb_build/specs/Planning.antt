@@ -38,8 +38,8 @@ pub record IsProject (options : Options) (target : List ℕ) (w : World) (projec
   pub profile : project.profile ≡ options.profile
   pub planned : plan.IsPlan project.workspace project.features selection options.profile project.plan
 
--- Why a build is refused. The first of these reasons counts. The workspace cannot be read; nothing
--- can be selected; the features are refused; the plan is refused.
+-- Why a build is refused. The reasons are checked in this order: the workspace cannot be read,
+-- nothing can be selected, the features are refused, the plan is refused.
 pub data IsRefused (options : Options) (target : List ℕ) (w : World) : Refusal → Type 0 where
   by_load : (fault : LoadFault) (told : workspace_of options.manifest target w ≡ Err fault) → IsRefused options target w (Load fault)
   by_selection : (fault : LoadFault) (ws : Workspace) (read : workspace_of options.manifest target w ≡ Ok ws) (told : selected ws options ≡ Err fault) → IsRefused options target w (Load fault)

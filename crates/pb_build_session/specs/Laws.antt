@@ -9,7 +9,7 @@ use Rattle.pb_build_session.specs.declared.pick.PickBy.TheVariants.{First}
 use Rattle.pb_build_session.specs.declared.step.SessionStep.{SessionStep}
 use Rattle.pb_build_session.specs.declared.step.SessionStep.TheVariants.{Build}
 
--- the steps of the first, followed by those of the second, or the first reason why one is bad
+-- the steps of the first, followed by those of the second, or the reason why one of the two is bad
 abbrev pub both : Read (List SessionStep) → Read (List SessionStep) → Read (List SessionStep)
 both first second = first >>= (λ a. second >>= (λ b. Ok (a ++ b)))
 

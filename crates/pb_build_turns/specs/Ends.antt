@@ -43,7 +43,7 @@ pub record StaysTold (child : Answers) (project : Project) (first : World) (es :
   -- only the folders of units whose children were dropped have changed
   pub alone : (came : List (Event BadUnit)) (asked : Option ℕ) → AllByRecursion (FliesBeside project came asked) before
       → ChangesInFlight project came asked old new
-  -- a unit for which no record counted still has none
+  -- if no record counted for a unit, none counts for the unit afterwards
   pub unrecorded : (index : ℕ) (unit : Planned) → unit_at project index ≡ Some unit → HasNoRecord project unit old → HasNoRecord project unit new
   -- nothing has changed for a unit for which no child was started
   pub childless : (index : ℕ) (unit : Planned) (path : List ℕ) → unit_at project index ≡ Some unit → is_started es index ≡ false

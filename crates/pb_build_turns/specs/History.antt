@@ -348,7 +348,7 @@ pub record HistoryHolds (b : BuildContext) (done : List (Option (List Directive)
   pub begun : AllByRecursion (FliesSo b es next world flying still) running
   pub gave : (index : ℕ) (answer : Answer BadUnit) → slice_get (states_in b.project es) index ≡ Some (Answered answer) → HasGiven b es done index answer
 
--- if no record lacked a number at first, the world is unchanged as long as no child is started
+-- if every record had a number at first, the world is unchanged as long as no child is started
 abbrev pub IsQuiet : Project → List (Event BadUnit) → World → World → Type 0
 IsQuiet project es first now = started_by es ≡ [] → ((index : ℕ) → LacksNumber project first index false) → now ≡ first
 

@@ -17,8 +17,8 @@ abbrev pub words_of_saying : List ℕ → List ℕ → List (List ℕ)
 words_of_saying [] word = word ∷ []
 words_of_saying (byte ∷ option) value = (byte ∷ option) ∷ value ∷ []
 
--- Law: from what arguments say one gets the same arguments back. So no argument is skipped, not
--- even an option at the end that lacks its value.
+-- Law: what arguments say yields the same arguments again. So no argument is skipped, not even an
+-- option at the end that lacks its value.
 abbrev pub SayingsKeepWords : Type 0
 SayingsKeepWords = (words : List (List ℕ)) → flat_map (λ (saying : List ℕ × List ℕ). words_of_saying saying.0 saying.1) (said_by words) ≡ words
 

@@ -68,7 +68,7 @@ abbrev pub unless_foreign : Option (List ℕ) → List (List ℕ) → Result (Li
 unless_foreign None paths = Ok paths
 unless_foreign (Some path) paths = Err (unit_fault.ForeignInput path)
 
--- the paths outside the target folder; if some path is foreign, the first one is a fault
+-- the paths outside the target folder; the first foreign path, if there is one, is a fault
 abbrev pub sources_in : Command → List (List ℕ) → Result (List (List ℕ)) UnitFault
 sources_in command paths = unless_foreign (find (is_foreign command) paths) (filter (is_source command) paths)
 

@@ -16,7 +16,7 @@ abbrev pub mentioned_all : List (List ℕ) → List (List ℕ) → List (List �
 mentioned_all texts [] = texts
 mentioned_all texts (text ∷ more) = mentioned_all (mentioned texts text) more
 
--- the texts other than the given one
+-- the texts that differ from the given text
 abbrev pub without : List ℕ → List (List ℕ) → List (List ℕ)
 without text texts = filter (λ other. not (bytes_eq text other)) texts
 

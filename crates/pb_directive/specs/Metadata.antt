@@ -20,7 +20,7 @@ in_capitals text = underscored (str_to_uppercase text)
 abbrev pub dep_name : List ℕ → List ℕ → List ℕ
 dep_name links key = codes "DEP_" ++ in_capitals links ++ codes "_" ++ in_capitals key
 
--- the variable that a directive sets, with its value; only a directive of metadata sets one
+-- the variable that a directive sets, with its value; only a directive of metadata sets a variable
 abbrev pub dep_pair : List ℕ → Directive → Option (List ℕ × List ℕ)
 dep_pair links (Metadata key value) = Some (dep_name links key, value)
 dep_pair links _ = None

@@ -25,8 +25,7 @@ is_entry p name = list_any (λ (e : Entry). bytes_eq name e.key) p.entries
 abbrev pub is_optional_entry : Package → List ℕ → Bool
 is_optional_entry p name = list_any (λ (e : Entry). bytes_eq name e.key && e.optional) p.entries
 
--- The fault of a name that no entry has. If `[dev-dependencies]` has the name, there is no fault;
--- otherwise there is no such dependency.
+-- the fault of a name that no entry has: there is no such dependency, unless `[dev-dependencies]` has the name
 abbrev pub absent_fault : Package → List ℕ → Option FeatureFault
 absent_fault p name = if list_any (bytes_eq name) p.development then None else Some NoSuchDependency
 
@@ -83,8 +82,9 @@ pub record IsMissing (ws : Workspace) (selection : Selection) : Type 0 where
   pub holds : Holds ws selection (Has place side feature)
   pub missing : HasFeature ws place feature → ⊥
 
--- Why no features are resolved. The first of these reasons counts. An item has a fault; no selected
--- package has a requested feature; a feature that is on for a package does not exist there.
+-- Why no features are resolved. The first reason is an item with a fault. The second is a requested
+-- feature that no selected package has. The third is a feature that is on for a package and does
+-- not exist there.
 pub data Refuses (ws : Workspace) (selection : Selection) : FeatureFault → Type 0 where
   by_item : (fault : FeatureFault) (first : IsFirstFault ws fault) → Refuses ws selection fault
   by_asked : (right : ItemsAreRight ws) (text : List ℕ) (asked : Contains selection.features text) (none : IsAnswered ws selection text → ⊥) → Refuses ws selection NoSuchFeature

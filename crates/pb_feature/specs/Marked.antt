@@ -29,13 +29,13 @@ marked_part marks bs p s owner = record {
 abbrev pub marked_sides : List Bool → List ℕ → ℕ → Package → List Sides
 marked_sides marks bs p owner = (record { target = marked_part marks bs p Target owner; host = marked_part marks bs p Host owner }) ∷ []
 
--- among the first `count` packages there is a package for which a feature that it does not have is marked
+-- the number of a missing feature is marked for one of the first `count` packages
 pub record IsMarkedMissing (marks : List Bool) (bs : List ℕ) (count : ℕ) : Type 0 where
   pub place : ℕ
   pub side : Side
   pub below : place < count
   pub marked : is_on marks (has bs place side 0) ≡ true
 
--- for none of the first `count` packages a feature that it does not have is marked
+-- the number of a missing feature is marked for none of the first `count` packages
 abbrev pub NoneMarkedMissing : List Bool → List ℕ → ℕ → Type 0
 NoneMarkedMissing marks bs count = (p : ℕ) → p < count → (is_on marks (has bs p Target 0) ≡ false) × (is_on marks (has bs p Host 0) ≡ false)

@@ -149,7 +149,7 @@ pub record IsOfLowestEntry {A : Type 0} (read : Text → Data → Read A) (ms : 
   pub lower : (other : Text) (d : Data) → HasEntry other d ms → is_lt (slice_cmp nat_cmp other name) ≡ true → told (read other d) ≡ None
 
 -- For a table whose keys the user chooses, the fault of its lowest bad entry is reported. If no
--- fault is reported, no entry has one.
+-- fault is reported, all entries can be read.
 pub record TellsLowestEntry {A : Type 0} (read : Text → Data → Read A) : Type 0 where
   pub refused : (ms : Members) (fault : ManifestFault) → Ascend (keys_of ms) → told (each_entry read ms) ≡ Some fault → IsOfLowestEntry read ms fault
   pub taken : (ms : Members) → told (each_entry read ms) ≡ None → (name : Text) (d : Data) → HasEntry name d ms → told (read name d) ≡ None

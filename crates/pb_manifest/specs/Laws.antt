@@ -31,7 +31,7 @@ unfoldable pub without : Text → Members → Members
 without name no_members = no_members
 without name (member l d ms) = if same_key name l then without name ms else member l d (without name ms)
 
--- a key that no rule names never changes the result of reading a table
+-- the result of reading a table never depends on a key that no rule names
 abbrev pub PassesOver : {A : Type 0} → (Members → Read A) → Type 0
 PassesOver read = (name : Text) (ms : Members) → IsUnnamed name → read (without name ms) ≡ read ms
 

@@ -44,7 +44,7 @@ edition_of d = text_of key.Edition d >>= edition_in
 abbrev pub edition_at : Members → Read (Option Edition)
 edition_at ms = optional edition_of (value_at key.Edition ms)
 
--- the edition of a package: the written or inherited one, or 2015
+-- a package's edition, which is written or inherited, or else is 2015
 abbrev pub inherited_edition_at : Members → Read (Inherited Edition)
 inherited_edition_at ms = inheritable_at key.Edition edition_of ms >>= (λ found. Ok (or_default E2015 found))
 

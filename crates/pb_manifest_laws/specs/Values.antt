@@ -21,7 +21,7 @@ IsPath text = has_byte_0 text ≡ false
 abbrev pub Holds : {A : Type 0} → (A → Data) → Option Data → Option A → Type 0
 Holds write found value = found ≡ option_map write value
 
--- as `Holds`, and the value is valid if there is one
+-- `Holds` is true, and a value that was read is valid
 abbrev pub HoldsValid : {A : Type 0} → (A → Type 0) → (A → Data) → Option Data → Option A → Type 0
 HoldsValid Valid write found value = Holds write found value × IfSome value Valid
 

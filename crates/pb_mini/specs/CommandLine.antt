@@ -36,7 +36,7 @@ role_of option =
 abbrev pub is_setting : List ℕ → Bool
 is_setting word = starts_with nat_eq word (codes "--edition=") || starts_with nat_eq word (codes "--error-format=") || starts_with nat_eq word (codes "--emit=")
 
--- the role of an argument that is neither an option with a value nor such a value
+-- the role of an argument that is no option with a value, and no value of an option
 abbrev pub role_alone : List ℕ → Role
 role_alone word = if is_setting word then Unused else Source
 

@@ -23,6 +23,6 @@ path_from folder text = path_said (joined folder text)
 abbrev pub file_at : World → Option (List ℕ) → Option (List ℕ)
 file_at w path = option_and_then (λ p. map.get w.files p) path
 
--- the value of a variable: the one that the pairs set, or else the inherited one, if there is one
+-- the value that the pairs set for a variable, or else its inherited value, if it has one
 abbrev pub value_of : List (List ℕ × List ℕ) → World → List ℕ → Option (List ℕ)
 value_of pairs w name = option_or (value_at name pairs) (map.get w.variables name)

@@ -32,6 +32,6 @@ pub record StaysBelow (folder : List ℕ) (found : Found) : Type 0 where
 abbrev pub KeepsBelow : List ℕ → Found → Found → Type 0
 KeepsBelow here old new = (above : List ℕ) → is_at_or_below above here ≡ true → StaysBelow above old → StaysBelow above new
 
--- if no file found before was left out, no file found afterwards is left out
+-- if all files found before are outside the folder that is left out, so are the files found afterwards
 abbrev pub KeepsOutside : Option (List ℕ) → Found → Found → Type 0
 KeepsOutside left_out old new = AreOutside left_out old.files.items → AreOutside left_out new.files.items

@@ -79,7 +79,7 @@ abbrev pub is_last : List ℕ → List (List ℕ) → Bool
 is_last path [] = false
 is_last path (first ∷ paths) = bytes_eq path (last_of first paths)
 
--- the folders, with a folder appended if there is one and the last folder is another
+-- the folders, to which the given folder is appended unless it is the last already
 abbrev pub with_new : List (List ℕ) → Option (List ℕ) → List (List ℕ)
 with_new folders None = folders
 with_new folders (Some folder) = if is_last folder folders then folders else folders ++ folder ∷ []

@@ -88,11 +88,11 @@ line_within (suc n) profiles s = above profiles s >>= then_above (line_within n 
 abbrev pub line_of : List Profile → List ℕ → Result (List Seen) ProfileFault
 line_of profiles name = line_within (length profiles + 2) profiles (seen_at profiles name)
 
--- no key is set that an override may not set: `panic`, `lto` and `rpath`
+-- only keys are set that an override may set, which are all but `panic`, `lto` and `rpath`
 abbrev pub may_override : Said → Bool
 may_override values = list_all (λ k. (row k).in_override || is_none (says values k)) keys
 
--- no override in a profile's table sets a key that an override may not set
+-- each override in a profile's table sets only keys that an override may set
 abbrev pub table_allows : Profile → Bool
 table_allows table = option_all may_override table.build_override && list_all (λ (o : ProfileOverride). may_override o.keys) table.packages
 

@@ -16,7 +16,7 @@ numbered_in (needed.Numbers own needs) = Some (own, needs)
 abbrev pub numbers_of : Record → Numbers
 numbers_of r = record { key = r.key; numbered = numbered_in r.needed }
 
--- `found` has the numbers of the record that the text is, or is nothing if the text is no record
+-- `found` has the numbers of the record if the text is that of a record, and is nothing otherwise
 abbrev pub AreNumbersOf : List ℕ → Option Numbers → Type 0
 AreNumbersOf text found = (read : List ℕ → Option Record) → IsReading read → found ≡ option_map numbers_of (read text)
 

@@ -70,7 +70,7 @@ pub record Says (text : List ℕ) (r : Record) : Type 0 where
   pub is : IsRecord r
   pub same : text ≡ record_bytes r
 
--- what reading a text finds: the record that the text is, or nothing if it is no record
+-- `found` is the record whose text this is, or nothing if the text is no record
 abbrev pub Reads : List ℕ → Option Record → Type 0
 Reads text found = (r : Record) → (found ≡ Some r) ↔ Says text r
 

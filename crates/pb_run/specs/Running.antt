@@ -168,7 +168,7 @@ record_of project u c number ended w =
     kept_of (records_folder project) u.key c (map (input_in c.target w) (names_of project u c ended w.files)) number (numbered (records (records_folder project) w) (needed_keys project u)) ended
 
 -- The record of a unit after its answer. If the unit had a child, this is the record of the child's
--- answer. If not, this is the old record. An old record without a number gets the next one.
+-- answer. If not, this is the old record. An old record without a number gets the next number.
 abbrev pub record_left : Project → Planned → Command → Awaited → Ended → Option ℕ → World → Option Record
 record_left project u c (awaited.Child launched) ended next w = Some (record_of project u c launched.number ended w)
 record_left project u c (awaited.Record again) ended next w =

@@ -105,8 +105,8 @@ StopsAt e calls old new = ⊥
 abbrev pub MakesInTurn : {T : Type 0} → Result T BuildFault → List Call → Counts → Counts → Type 0
 MakesInTurn result calls old new = MatchResult result (λ x. new ≡ past_calls calls old) (λ e. StopsAt e calls old new)
 
--- The cause of a step's fault. If a call failed, it was the last one and had this fault. If no
--- number was left, or memory ran out, no call failed.
+-- The cause of a step's fault. A call that failed had this fault and was the last. If no number was
+-- left, or memory ran out, no call failed.
 abbrev pub StepCause : StepFault → Counts → Counts → Type 0
 StepCause (step.Store (store.Place fault)) old new = FailedLast (Called fault) old new
 StepCause (step.Store store.NumbersSpent) old new = new.failures ≡ old.failures

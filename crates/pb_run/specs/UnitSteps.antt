@@ -37,7 +37,7 @@ use Rattle.pb_store.specs.Differences.{IsReplayed}
 use Rattle.pb_unit.specs.declared.plan.Planned.{Planned}
 
 -- What a build assumes. With `TrustedRecords` the folder of records is sound and the child is
--- honest. With `NoRecords` no unit has a record when the build begins, so a unit that has one has
+-- honest. With `NoRecords` no unit has a record when the build begins, so a unit with a record has
 -- begun.
 pub data Premise : Type 0 where
   TrustedRecords : Premise
@@ -180,7 +180,7 @@ abbrev pub AwaitsBy : Premise → BuildContext → Planned → ℕ → Option �
 AwaitsBy TrustedRecords b u number next w = AwaitsRecord b u number next w
 AwaitsBy NoRecords b u number next w = Unit {0}
 
--- nothing differs from the unit's record; without trusted records this is never so
+-- the records are trusted, and nothing differs from the unit's record
 abbrev pub IsUnchanged : Premise → BuildContext → Planned → Command → World → Type 0
 IsUnchanged TrustedRecords b u c w = (r : Record) × IsSame reading (records_folder b.project) u.key c w r
 IsUnchanged NoRecords b u c w = ⊥

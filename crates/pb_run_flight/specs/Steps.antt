@@ -14,7 +14,7 @@ IsWithin ready flying (step.Begin i) = i < ready
 IsWithin ready flying (step.Answer i) = i < flying
 
 -- A turn has decided the steps that produced these events. Each step started from the state after
--- the last one. Each chose a unit that might begin or was in flight, while units were missing.
+-- the last step. Each chose a unit that might begin or was in flight, while units were missing.
 -- `Spawns` says if a unit has a child, and `Gives` which answer it may give.
 pub data Flies {F S : Type 0} (Turns : S → List ℕ → List ℕ → Step → S → Type 0) (needs : List (List ℕ)) (Spawns : ℕ → Bool → Type 0) (Gives : ℕ → Answer F → Type 0) (from : S) : List (Event F) → S → Type 0 where
   nothing : Flies Turns needs Spawns Gives from [] from

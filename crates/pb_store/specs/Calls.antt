@@ -39,7 +39,7 @@ HasCause NumbersSpent old new = new.failures ≡ old.failures
 HasCause OutOfMemory old new = new.failures ≡ old.failures
 
 -- How a call of the store changes the counters. The call starts no child. If the call succeeds, no
--- call of the place failed. If not, the fault is an allowed one, and has its cause.
+-- call of the place failed. If not, the fault is allowed and has its cause.
 abbrev pub CountsAs : {T : Type 0} → (StoreFault → Type 0) → Result T StoreFault → Counts → Counts → Type 0
 CountsAs May result old new = (new.starts ≡ old.starts) × MatchResult result (λ x. new.failures ≡ old.failures) (λ e. May e × HasCause e old new)
 
@@ -63,7 +63,7 @@ MayRemove NumbersSpent = ⊥
 MayRemove OutOfMemory = Unit {0}
 
 -- The faults that are allowed for a call that first takes a run number. If no number is left, only
--- `NumbersSpent` is allowed; otherwise it is not.
+-- `NumbersSpent` is allowed. Otherwise the faults of `MayRemove` are allowed.
 abbrev pub MayDrop : Option ℕ → StoreFault → Type 0
 MayDrop None NumbersSpent = Unit {0}
 MayDrop None (Place fault) = ⊥
@@ -143,7 +143,7 @@ OpensBy is_modelled folder w (open_fault.Place at fault) = ((fault ≡ place.Lis
 OpensBy is_modelled folder w open_fault.OutOfMemory = Unit {0}
 
 -- A call of the store only looks: it changes nothing but the counters. If a call of the place
--- failed, it was the last, and its fault is an allowed one.
+-- failed, it was the last, and its fault is allowed.
 pub record OnlyLooks {T : Type 0} (May : StoreFault → Type 0) (result : Result T StoreFault) (old new : At) : Type 0 where
   pub world : new.world ≡ old.world
   pub most : new.most ≡ old.most
@@ -158,7 +158,7 @@ pub record OnlyOpens {T : Type 0} (result : Result T OpenFault) (old new : At) :
   pub takes : CountsAsOpen result old.counts new.counts
 
 -- A call of the store changes files only at these paths, and starts no child. If a call of the
--- place failed, it was the last, and its fault is an allowed one.
+-- place failed, it was the last, and its fault is allowed.
 pub record ChangesOnlyAt {T : Type 0} (inside : List ℕ → Bool) (May : StoreFault → Type 0) (result : Result T StoreFault) (old new : At) : Type 0 where
   pub only : ChangesOnly inside old.world new.world
   pub most : new.most ≡ old.most

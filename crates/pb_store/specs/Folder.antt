@@ -72,8 +72,8 @@ pub record IsEarned (judge : Judge) (child : Answers) (folder key : List ℕ) (c
 abbrev pub kept_of : List ℕ → List ℕ → Command → List Input → ℕ → List (List ℕ × ℕ) → Ended → Record
 kept_of folder key c inputs number pairs ended = record { key = key; asked = of_parts c (out_of folder key); inputs = inputs; needed = Numbers number pairs; stdout = ended.stdout; stderr = ended.stderr }
 
--- The record of a unit after a call that was to put a record there. No record counts, or it is the
--- old record, or it is the one that was to be put.
+-- The record of a unit after a call that was to put a record there. No record counts for the unit,
+-- or the old record does, or the record that was to be put does.
 abbrev pub Leaves : Option Record → Option Record → Option Record → Type 0
 Leaves put old new = (new ≡ None) ⊎ ((new ≡ old) ⊎ (new ≡ put))
 
@@ -187,8 +187,8 @@ IsGiven number old new = (old ≡ Some number) × (new ≡ after number)
 abbrev pub Stands : {T : Type 0} → Result T StoreFault → Option Record → Option Record → Option Record → Type 0
 Stands result put old new = MatchResult result (λ x. new ≡ put) (λ e. Leaves put old new)
 
--- What removing a record guarantees. The folder stays sound, no record counts for the key after a
--- success, and a number that was above all others stays so.
+-- What removing a record guarantees. The folder stays sound, and no record counts for the key after
+-- a success. A number above all others stays above them.
 pub record RemovesRecord (child : Answers) (folder key : List ℕ) (result : Result Unit StoreFault) (old new : World) : Type 0 where
   pub sound : (judge : Judge) → Sound reading judge child folder old.files → Sound reading judge child folder new.files
   pub stands : Stands result None (records folder old key) (records folder new key)
@@ -205,8 +205,8 @@ pub record DropsRecord (child : Answers) (key : List ℕ) (result : Result ℕ S
   pub spent : old.next ≡ None → now ≡ before
 
 -- What putting a record guarantees. If `MayPut` is true, the folder stays sound. After a success
--- the record counts for its key. A number that was above all others stays so, if the record has and
--- names only lower ones.
+-- the record counts for its key. A number above all others stays above them, if the record has and
+-- names only lower numbers.
 pub record PutsRecord (child : Answers) (folder key : List ℕ) (r : Record) (result : Result Unit StoreFault) (old new : World) : Type 0 where
   pub sound : (judge : Judge) (number : ℕ) → MayPut reading judge child folder key old r number → Sound reading judge child folder old.files → Sound reading judge child folder new.files
   pub stands : Stands result (Some r) (records folder old key) (records folder new key)

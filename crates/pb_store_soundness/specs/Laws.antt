@@ -14,8 +14,8 @@ use Rattle.pb_store_soundness.specs.Sound.{Sound, IsTrueRecord}
 abbrev pub Unnamed : RecordMap → List ℕ → ℕ → Type 0
 Unnamed at key number = (other : List ℕ) (r : Record) → at other ≡ Some r → Contains (needs_of r) (key, number) → ⊥
 
--- What became of a unit. No record counts for it; or its record and its files are unchanged; or it
--- has a new record, of which `Said` is true. No record named the unit with the new record's number.
+-- What became of a unit. No record counts for it. Or its record and its files are unchanged. Or it
+-- has a new record, of which `Said` is true, and with whose number no record named the unit.
 pub data Became (read : RecordParser) (folder : List ℕ) (old new : Map) (Said : List ℕ → Record → Type 0) (key : List ℕ) : Type 0 where
   gone : record_at read folder new key ≡ None → Became read folder old new Said key
   stays : record_at read folder new key ≡ record_at read folder old key → files_in (out_of folder key) new ≡ files_in (out_of folder key) old → Became read folder old new Said key

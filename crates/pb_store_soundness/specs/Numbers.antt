@@ -19,7 +19,7 @@ NumberWaitsLaw = (old new : RecordMap) (key : List ℕ) (number : ℕ) → ((l :
 abbrev pub after : ℕ → Option ℕ
 after n = if n == 0xffff_ffff_ffff_ffff then None else Some (n + 1)
 
--- the number is below the next one; if no number is left, every number is
+-- the number is below the next number; if no number is left, this is true of every number
 abbrev pub IsBefore : Option ℕ → ℕ → Type 0
 IsBefore None n = Unit {0}
 IsBefore (Some next) n = n < next

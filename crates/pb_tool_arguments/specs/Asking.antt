@@ -153,8 +153,8 @@ Asks words here asked = (choices : Choices) × AreChoices choices × IsTaken cho
 
 -- Why words request nothing.
 
--- The texts that are reported for wrong words. There is one for byte 0 in a path, for two profiles,
--- for wrong jobs, for two forms of a plan, and for an unknown command.
+-- The texts that are reported for wrong words. They are about byte 0 in a path, two profiles, wrong
+-- jobs, two forms of a plan, and an unknown command.
 abbrev pub path_told : Text
 path_told = codes "error: a path has byte 0\n"
 
@@ -170,23 +170,22 @@ forms_told = codes "error: the argument '--json' cannot be used with '--dot'\n"
 abbrev pub command_told : Text
 command_told = codes "error: neither `build`, `session`, `explain`, `plan` nor `clean`\n"
 
--- Why a build with these values requests nothing, and the text that is reported. The first of these
--- reasons counts. The path of its manifest has byte 0; two profiles are given; the jobs are no
--- number.
+-- Why a build with these values requests nothing, and the text that is reported. These are checked
+-- in order: byte 0 in the manifest's path, two profiles, jobs that are no number.
 pub data BuildsWrongly (folder : Text) (rows : List Row) (text : Text) : Type 0 where
   bad_manifest : (fault : PathFault) (bad : joined folder (manifest_of rows) ≡ Err fault) (told : text ≡ path_told) → BuildsWrongly folder rows text
   two_profiles : (path : Text) (good : joined folder (manifest_of rows) ≡ Ok path) (both : HasTwoProfiles rows) (told : text ≡ profiles_told) → BuildsWrongly folder rows text
   bad_jobs : (path profile : Text) (good : joined folder (manifest_of rows) ≡ Ok path) (one : IsProfile rows profile) (bad : HasBadJobs rows) (told : text ≡ jobs_told) → BuildsWrongly folder rows text
 
--- Why a plan with these values requests nothing, and the text that is reported. The first of these
--- reasons counts. Two forms are given; or its options are wrong as those of a build.
+-- Why a plan with these values requests nothing, and the text that is reported. Two forms are the
+-- first reason, and options that are wrong for a build are the second.
 pub data PlansWrongly (folder : Text) (rows : List Row) (text : Text) : Type 0 where
   two_forms : (both : HasTwoForms rows) (told : text ≡ forms_told) → PlansWrongly folder rows text
   bad_options : (form : PlanForm) (one : IsForm rows form) (wrong : BuildsWrongly folder rows text) → PlansWrongly folder rows text
 
--- Why a subcommand with these values requests nothing, and the text that is reported. A build, plan
--- or removal has wrong values; or a session's path has byte 0; or the subcommand is none of the
--- five.
+-- Why a subcommand with these values requests nothing, and the text that is reported. The values of
+-- a build, plan or removal may be wrong. A session's path may have byte 0. The subcommand may be
+-- none of the five.
 pub data AsksWrongly (folder : Text) (given : Option (Text × List Row)) (text : Text) : Type 0 where
   bad_build : (rows : List Row) (build : given ≡ Some (codes "build", rows)) (wrong : BuildsWrongly folder rows text) → AsksWrongly folder given text
   bad_plan : (rows : List Row) (plan : given ≡ Some (codes "plan", rows)) (wrong : PlansWrongly folder rows text) → AsksWrongly folder given text

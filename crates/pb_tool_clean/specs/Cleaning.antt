@@ -178,8 +178,8 @@ pub record Chooses (is_modelled : Bool) (options : Options) (one_profile : Bool)
   pub profile : IsProfile choice.target options.profile one_profile choice.profile
   pub target : IsTrue is_modelled → choice.target ≡ target_of options w.variables
 
--- Why nothing is removed. Nothing that the options choose exists; or the folder of the profile
--- would have no name; or a call failed.
+-- Why nothing is removed. Nothing that the options choose exists, or the folder of the profile
+-- would have no name, or a call failed.
 abbrev pub Refuses : Bool → Options → Bool → World → Counts → Counts → CleanFault → Type 0
 Refuses is_modelled options one_profile w old new (Nothing some folder) =
     (choice : Choice) × Chooses is_modelled options one_profile w choice × (folder ≡ folder_for some choice)

@@ -27,7 +27,7 @@ set_for name s = option_map says (option_and_then (λ (p : Profile). option_map 
 abbrev pub built_in_set : Seen → Option Set
 built_in_set s = if bytes_eq s.name (codes "dev") then Some (λ k. Some (defaults k).dev) else (if bytes_eq s.name (codes "release") then Some (λ k. Some (defaults k).release) else None)
 
--- the values for host roles: those of `build-override`, and the built-in ones that come after it
+-- the values for host roles: first those of `build-override`, and then the built-in values
 abbrev pub set_for_role : Side → List (Seen → Option Set)
 set_for_role Target = []
 set_for_role Host = (λ (s : Seen). option_map says (option_and_then (λ (p : Profile). p.build_override) s.table)) ∷ (λ (s : Seen). Some (λ k. (defaults k).beside_override)) ∷ []
