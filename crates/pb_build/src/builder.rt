@@ -178,9 +178,9 @@ pub struct BuildPlan {
     pub project: OrderedProject,
 }
 
-/// Plans a build: reads the variables `RUSTC`, `RUSTFLAGS` and `CARGO_TARGET_DIR`,
-/// then the workspace, then finds its selected packages, their features and the
-/// plan, in this order. It starts no child, writes no line and changes no file.
+/// Plans a build. The variables `RUSTC`, `RUSTFLAGS` and `CARGO_TARGET_DIR` are read first, and
+/// then the workspace. Then its selected packages, their features and the plan are found, in this
+/// order. No child is started, no line is written, and no file is changed.
 ///
 /// Errors: `Plan`, with the first refusal; `Device`, with the
 /// variable's name or the path of the failed call; `OutOfMemory`.
@@ -336,13 +336,16 @@ fn close<O: Out>(out: &mut O, inner: Result<Summary, BuildFault>) -> Result<Summ
     }
 }
 
-/// Builds what was planned, by the steps that a turn chooses. It does what `build_turns` does after
-/// the plan. If the plan failed, it ends as `build_turns` ends after a failed plan.
+/// Builds what was planned, by the steps that a turn chooses, as `build_turns` does after its plan.
+/// If the plan failed, the build ends as `build_turns` ends after a failed plan.
 ///
-/// If only the planning came between, with no other call of the place and nothing written, the
-/// build ends as `build_turns` promises (`builds`), from the moment before planning. It also builds
-/// a plan of another moment or of other options: it runs the units of the plan's own project in the
-/// plan's own environment, with these options, over the records of the plan's own profile folder.
+/// Suppose that only the planning came between, with no other call of the place and nothing
+/// written. Then the build ends as `build_turns` promises (`builds`), from the moment before the
+/// planning.
+///
+/// A plan of another moment or of other options can also be built. The units of the plan's own
+/// project are run in the plan's own environment, with these options. Their records are those of
+/// the plan's own profile folder.
 pub fn build_plan_turns<P: Place, O: Out, T: Turn>(
     alloc: Global,
     place: &mut P,
@@ -370,8 +373,7 @@ pub fn build_plan_turns<P: Place, O: Out, T: Turn>(
     close(out, inner)
 }
 
-/// Builds what was planned, and begins the units in plan order. It does what `build` does after the
-/// plan.
+/// Builds what was planned, and begins the units in plan order, as `build` does after its plan.
 pub fn build_plan<P: Place, O: Out>(
     alloc: Global,
     place: &mut P,

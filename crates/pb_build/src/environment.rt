@@ -106,8 +106,8 @@ fn standard_target(alloc: Global, root: &PathText) -> Result<PathText, AllocErro
     root.below(alloc, &name)
 }
 
-/// Returns the path that a text names, starting at the root if it is relative; or the other path,
-/// if there is no text or the text contains byte 0.
+/// Returns the path that a text names; a relative text starts at the root. If there is no text, or
+/// it contains byte 0, this is the other path.
 fn told_or(
     alloc: Global,
     root: &PathText,
@@ -162,8 +162,8 @@ fn environment_with(
     })
 }
 
-/// Returns what the variables and the options say. It reads
-/// `RUSTC`, then `RUSTFLAGS`, then `CARGO_TARGET_DIR`.
+/// Returns what the variables and the options say. `RUSTC` is read first, then `RUSTFLAGS`, then
+/// `CARGO_TARGET_DIR`.
 ///
 /// Errors: `Device`, with the variable's name; `OutOfMemory`.
 pub(crate) fn environment_of<P: Place>(

@@ -15,14 +15,14 @@ pub fn builds_look_at_sources()
     ensures nothing { GivesFromNothing }
 {}
 
-/// Whatever builds of a session came before into the same target folder, however
-/// they ended, a build produces exactly what it would produce after the edits alone.
+/// Builds of a session came before into the same target folder, however they ended. Then a build
+/// produces exactly what it would produce after the edits alone.
 pub fn earlier_builds_change_nothing()
     ensures { Unaffected }
 {}
 
 /// A world has only one result. Either the build is refused for one reason, or the compiler does
-/// not report its version, or the same units of the same plan have ended with the same outcomes.
+/// not report its version. Or the same units of the same plan have ended with the same outcomes.
 pub fn worlds_have_one_result()
     ensures { HasOneResult }
 {}
@@ -32,8 +32,8 @@ pub fn units_are_of_the_result()
     ensures { UnitsAreOfResult }
 {}
 
-/// If the records of a folder were true at first, or there were none, they are true after any edits
-/// and builds of a session, however the builds ended. Each edit must stay out of the folder or
+/// Edits and builds of a session leave the records of a folder true, however the builds ended. At
+/// first the records must be true, or there must be none. Each edit must stay out of the folder or
 /// remove it as a whole. Each build must keep its records in the folder, with an honest child, or
 /// apart from it.
 pub fn records_stay_true()
@@ -41,8 +41,8 @@ pub fn records_stay_true()
     ensures stay { RecordsStayTrue }
 {}
 
-/// After any edits and builds, a build of a session produces what a clean build
-/// of the present workspace produces, or a fault with the first of its lines.
+/// After any edits and builds, a build of a session produces what a clean build of the present
+/// workspace produces. If a fault ends it, the first of these lines were written.
 pub fn any_build_gives()
     ensures { AnyBuildGives }
 {}
@@ -53,8 +53,8 @@ pub fn same_build_starts_none<T: Turn, U: Turn>()
     ensures { SameBuildStartsNone T.turns U.turns }
 {}
 
-/// If a caller knows of a build only how its work ended and what was written after
-/// it, as the caller of the program does, the headline is true for that caller too.
+/// A caller may know of a build only how its work ended and what was written after that, as the
+/// caller of the program does. The headline is true for this caller, too.
 pub fn builds_keep_the_headline<T: Turn>()
     ensures turns { BuildsKeepHeadline T.turns }
     ensures first { FirstBuildsKeepHeadline }

@@ -24,8 +24,8 @@ fn without_library(plan: BuildPlan) -> Items<Text>
 }
 
 /// Returns the names of the packages without a library to which enabled dependencies lead, in byte
-/// order, each once. It stops after the plan: it starts no child, writes no line and changes no
-/// file.
+/// order, each once. Nothing is done after the plan: no child is started, no line is written, and
+/// no file is changed.
 ///
 /// Errors: those of `plan_build`.
 pub fn missing_libraries<P: Place>(

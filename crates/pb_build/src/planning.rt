@@ -195,7 +195,7 @@ fn project_of(
     }))
 }
 
-/// Reads the workspace and plans the build. It starts no child and changes no file.
+/// Reads the workspace and plans the build. No child is started, and no file is changed.
 ///
 /// Errors: `Plan`, with the first refusal; `Device`, with the
 /// path of the failed call; `OutOfMemory`.

@@ -13,14 +13,15 @@ ghost use Rattle.pb_build_laws.specs.States.{EndsAreThese, RowsAreThese, StatesA
 ghost use Rattle.pb_build_laws.specs.Summaries.{SummariesSay};
 ghost use Rattle.pb_build_laws.specs.Telling.{BadUnitsTell, GoodUnitsTell, LinesAreTold};
 
-/// A law: a command is the recorded one if and only if each part of it is equal to the recorded
-/// part, and its variables are equal too.
+/// A law: a command is the recorded one if and only if each part is equal to the recorded part, and
+/// so are the variables.
 pub fn asked_part_for_part()
     ensures { AskedPartForPart }
 {}
 
-/// A law: the first variable that is reported to differ between a record that was read and a unit's
-/// command. It is the least name, in byte order, that has another text, is missing, or is new.
+/// A law: which variable is the first that is reported to differ between a record that was read and
+/// a unit's command. It is the least name, in byte order, that has another text, is missing, or is
+/// new.
 pub fn first_name_is_least()
     ensures { FirstNameIsLeast }
 {}
@@ -30,28 +31,27 @@ pub fn summaries_say()
     ensures { SummariesSay }
 {}
 
-/// A law: the events of a build. While fewer units are in flight than there are jobs, the first
-/// unit in plan order that may begin begins; else the unit that began first answers.
+/// A law: the events of a build. If fewer units are in flight than there are jobs, the first unit
+/// in plan order that may begin begins. Otherwise the unit that began first answers.
 pub fn builds_go_in_turn()
     ensures { BuildsGoInTurn }
 {}
 
-/// A law: what a unit reports. This is its lines, by its package and target; the messages of a good
-/// unit; and the messages of a bad unit, with what else its child printed.
+/// A law: what a unit reports. Its lines follow from its package and its target. The law also says
+/// which messages a good unit has, and which a bad unit has, with what else its child printed.
 pub fn units_tell()
     ensures lines { LinesAreTold }
     ensures good { GoodUnitsTell }
     ensures bad { BadUnitsTell }
 {}
 
-/// A law: outcomes are the outcomes of a build if and only if there is one for each unit, and each
-/// follows from the units before it.
+/// A law: a list has the outcomes of a build if and only if each unit has one, which follows from
+/// the units before it.
 pub fn outcomes_are_these()
     ensures { OutcomesAreThese }
 {}
 
-/// A law: the inputs that are found in a reply to the command of a planned unit are the inputs of a
-/// good answer in this reply.
+/// A law: a reply to the command of a planned unit has the inputs of the good answer in this reply.
 pub fn inputs_are_judged()
     ensures { InputsAreJudged }
 {}
@@ -64,8 +64,8 @@ pub fn environments_are_these()
     ensures hosts { HostsComeFirst }
 {}
 
-/// A law: which units are untouched, bad and good; how many units have their lines due, and when
-/// the build is finished; the units' keys; which outcomes are bad.
+/// A law: which units are untouched, bad and good, how many units have their lines due, and when
+/// the build is finished. The law also says what the units' keys are, and which outcomes are bad.
 pub fn states_are_these()
     ensures states { StatesAreThese }
     ensures ends { EndsAreThese }
@@ -77,8 +77,8 @@ pub fn calls_are_told()
     ensures { CallsAreTold }
 {}
 
-/// A law: which record counts; the numbers of records; the next run number is the one after the
-/// greatest that the records of a folder have or name.
+/// A law: which record counts, and which numbers records have. The next run number is the one after
+/// the greatest that the records of a folder have or name.
 pub fn next_is_above()
     ensures records { RecordsAreNumbered }
     ensures counts { RecordsCount }

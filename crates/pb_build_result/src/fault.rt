@@ -43,9 +43,9 @@ pub enum BuildFault {
     /// The build is refused. No child was started, no line was written and no file was changed.
     #[error("{0}")]
     Plan(Refusal),
-    /// The compiler does not report its version: the query `-vV` ends with
-    /// a status other than 0, writes more than 4,194,304 bytes to a stream,
-    /// or its standard output is not UTF-8 or has no line `host: TRIPLE`.
+    /// The compiler does not report its version. The query `-vV` ended with a status other than 0,
+    /// or wrote more than 4,194,304 bytes to a stream. Or its standard output is not UTF-8, or has
+    /// no line `host: TRIPLE`.
     #[error("the compiler does not say its host")]
     Toolchain,
     /// A child gave no answer. The name is `-vV` for the query, else the unit's key.

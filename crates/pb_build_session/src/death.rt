@@ -14,15 +14,15 @@ use pb_place_types::StartFault;
 pub enum Death {
     /// The program could not be started. It leaves no file.
     CannotStart,
-    /// The child ended without a status. It leaves the first half, rounded down, of its reply's
-    /// files, in byte order.
+    /// The child ended without a status. The first half of its reply's files remains, in byte
+    /// order; the half's length is rounded down.
     Died,
     /// The child's output could not be captured. It leaves the same half.
     Capture,
 }
 
 impl Death {
-    /// Returns the answer of such a start: the fault with the same name.
+    /// Returns the fault of a start that is set to fail in this way. The fault has the same name.
     pub fn fault(&self) -> StartFault
         ensures fault { result ≡ fault_of self.now }
         ensures real { result ≢ start.OutOfMemory }

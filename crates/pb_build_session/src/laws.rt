@@ -3,16 +3,15 @@
 ghost use Rattle.pb_build_session.specs.Laws.{StepsJoin, OptionsHaveDefaults};
 ghost use Rattle.pb_build_session.specs.Numbers.{DigitsAreTaken, MinusIsBad, PointIsBad, ExponentIsBad};
 
-/// A law: the steps are in the list's order. The steps of two lists of values, one after the other,
-/// are those of the first and then those of the second, and the first bad value makes the session
-/// bad.
+/// A law: the steps are in the list's order. If two lists of values are joined, the steps of the
+/// first come before those of the second. The first bad value makes the session bad.
 pub fn steps_stand_in_order()
     ensures { StepsJoin }
 {}
 
-/// A law: a build without options has the manifest `/w/Cargo.toml` and the profile `dev`, is made
-/// by `cargo`, selects and narrows nothing, has at most one unit in flight, and begins the first of
-/// the units that may begin.
+/// A law: a build without options has the manifest `/w/Cargo.toml` and the profile `dev`, and is
+/// made by `cargo`. It selects and narrows nothing. At most one unit is in flight, and the first of
+/// the units that may begin begins.
 pub fn options_have_defaults()
     ensures { OptionsHaveDefaults }
 {}

@@ -121,8 +121,8 @@ fn document_in(alloc: Global, bytes: &[u8]) -> Result<Value, BadSession>
     }
 }
 
-/// Returns the steps of a session file. Its form is our own: a JSON list of steps, each an object
-/// with one key.
+/// Returns the steps of a session file. The file's form is our own: a JSON list of steps, each an
+/// object with one key.
 ///
 /// - `{"write":[PATH,TEXT]}` writes a file; `{"remove":PATH}` removes a file and all below it.
 /// - `{"set":[NAME,VALUE]}` sets a variable; `{"unset":NAME}` removes it.

@@ -22,7 +22,7 @@ fn drop_first<P: Place>(alloc: Global, crew: &mut UnitExecutor, place: &mut P)
     requires some { 0 < length crew.old.running.items }
     ensures consistent { IsConsistent crew.new (P.at place.new).counts }
 
-    // The first unit is no longer in flight; nothing else of the crew has changed.
+    // The first unit is no longer in flight; nothing else of the executor has changed.
     ensures less { length crew.new.running.items < length crew.old.running.items }
     ensures running { crew.new.running.items ≡ remove crew.old.running.items 0 }
     ensures same { crew.new ≡ record crew.old { running = crew.new.running } }
@@ -52,7 +52,7 @@ fn drop_first<P: Place>(alloc: Global, crew: &mut UnitExecutor, place: &mut P)
 }
 
 /// Drops all units in flight, in the order in which they began. Afterwards no child is in flight.
-/// It makes no other call of the place.
+/// No other call of the place is made.
 pub(crate) fn drain<P: Place>(alloc: Global, crew: &mut UnitExecutor, place: &mut P)
     requires consistent { IsConsistent crew.old (P.at place.old).counts }
 

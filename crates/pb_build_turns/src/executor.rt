@@ -1,4 +1,4 @@
-//! The crew of a build's units: it begins them, takes their answers, and writes their lines.
+//! The executor of a build's units, which begins them, takes their answers, and writes their lines.
 
 ghost use Rattle.std.specs.Prelude.{◌≡◌, ◌<◌, ◌++◌, ◌∷◌, [], ℕ, Bool, is_some, vec_len, vec_capacity, List, Option, length, IfOk, OnOk, MatchResult, Some, Contains, slice_get, slice_set, take};
 ghost use Rattle.std.specs.Io.KnownBytes.{Appends};
@@ -28,7 +28,7 @@ use std::alloc::{AllocError, Global};
 pub struct RunningUnit {
     /// Its index in plan order.
     pub unit: usize,
-    /// How it has begun. Here its difference is none, because the crew's reasons contain it.
+    /// How the unit has begun. Here no difference is noted, because the executor's reasons contain it.
     pub begun: Begun,
 }
 
@@ -53,7 +53,7 @@ pub struct UnitExecutor {
     pub reasons: Vec<Option<Option<Difference>>>,
 }
 
-/// Adds an item to a list that has room for it.
+/// Adds an item to a list that has space for it.
 fn put<T: Drop>(items: &mut Vec<T>, item: T)
     requires { vec_len items.old < vec_capacity items.old }
     ensures { items.new.items ≡ items.old.items ++ item ∷ [] }
@@ -64,7 +64,7 @@ fn put<T: Drop>(items: &mut Vec<T>, item: T)
     }
 }
 
-/// Makes room for one more unit in flight, and for one more that was started.
+/// Makes space for one more unit in flight, and for one more that was started.
 fn make_room(running: &mut Vec<RunningUnit>, started: &mut Vec<usize>) -> Result<(), AllocError>
     ensures running { running.new.items ≡ running.old.items }
     ensures started { started.new.items ≡ started.old.items }
@@ -102,8 +102,7 @@ fn note_begun(
     reasons[unit] = Some(difference);
 }
 
-/// Begins a unit of the crew's project that is not in flight. After a fault the unit is not in
-/// flight.
+/// Begins a unit of the executor's project that is not in flight. After a fault the unit is not in flight.
 fn begin_at<P: Place>(
     alloc: Global,
     crew: &mut UnitExecutor,

@@ -4,10 +4,10 @@ ghost use Rattle.pb_build_turns.specs.Ends.{SaysFirstRows, StartsNothing, Leaves
 
 use pb_run_flight::Turn;
 
-/// If each unit that has answered has its outcome of a clean build, the lines that are due are
-/// those of the first rows of a clean build. Once all units have answered, up to and including the
-/// first bad one, they are the lines of all rows. This is true in whatever order the units begin
-/// and answer, and whoever decides the order.
+/// If each unit that has answered has its outcome of a clean build, the lines due are those of the
+/// first rows of a clean build. Once all units up to and including the first bad one have answered,
+/// all lines of all rows are due. The order in which units begin and answer does not matter, nor
+/// who decides it.
 pub fn answers_say_rows()
     ensures { SaysFirstRows }
 {}
@@ -25,8 +25,8 @@ pub fn success_leaves_records<T: Turn>()
 {}
 
 /// If each unit has its record at first, units that ended without a fault started no child, and
-/// none is reported as started. This is the case for the same build right after a build that
-/// succeeded.
+/// none is reported as started. A successful build is followed by such a build, if the same build
+/// is made again.
 pub fn same_build_starts_none<T: Turn>()
     ensures { StartsNoneAgain T.turns }
 {}

@@ -220,9 +220,9 @@ fn count_told(units: usize, bad: Option<usize>) -> usize
     }
 }
 
-/// Returns the summary of units that have ended. It takes the units' states, the directives of
-/// their runs, the indices of the units whose child was started, the differences, and the index of
-/// the first bad unit.
+/// Returns the summary of units that have ended. `states` and `done` have the states of the units
+/// and the directives of their runs. `started` and `first_bad` are indices of units, and `reasons`
+/// has the differences.
 ///
 /// Errors: only out of memory.
 pub(crate) fn summary_of(

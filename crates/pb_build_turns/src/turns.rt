@@ -64,7 +64,7 @@ fn flight_of(alloc: Global, project: &OrderedProject) -> Result<Flight<BadUnit>,
     Flight::new(alloc, needs)
 }
 
-/// Returns the summary of a crew's units after they have ended, from the flight.
+/// Returns the summary of an executor's units after they have ended, from the flight.
 ///
 /// Errors: only out of memory.
 fn sum_up(
@@ -94,10 +94,10 @@ fn sum_up(
     )
 }
 
-/// Runs the units of a project that is in order, by the steps that a turn decides, until all have
-/// answered, or all up to and including the first bad one. Then it awaits the ends of the children
-/// in flight, in the order in which they began, and drops their answers. After a fault it also does
-/// this, and makes no other call of the place.
+/// Runs the units of a project that is in order, by the steps that a turn decides. The run ends
+/// when all units have answered, or all up to and including the first bad one. Then the ends of the
+/// children in flight are awaited, in the order in which they began, and their answers are dropped.
+/// After a fault the children are awaited, too, and no other call of the place is made.
 ///
 /// Errors:
 ///

@@ -18,8 +18,8 @@ use pb_unit::{Planned, What};
 use pb_workspace_types::{Package, Workspace};
 use std::alloc::{AllocError, Global};
 
-/// Returns the query of a compiler's version, `-vV`. It starts in the workspace's
-/// root, sets no variables, and reads and writes nothing in the target folder.
+/// Returns the query of a compiler's version, `-vV`. The query starts in the workspace's root, sets
+/// no variables, and reads and writes nothing in the target folder.
 ///
 /// Errors: out of memory.
 pub fn query(alloc: Global, rustc: &Text, workspace: &Workspace) -> Result<Command, AllocError>
@@ -331,8 +331,8 @@ fn nothing_of(alloc: Global, setup: &Setup, project: &Project) -> Result<Command
 }
 
 /// Returns the command of a unit of the plan. `done` contains the directives of earlier runs. At
-/// the index of a run in the plan it has the directives of the run's lines; at the index of a
-/// compile it has none. An index past its end counts as none.
+/// the index of a run in the plan it has the directives of the run's lines, and at the index of a
+/// compile none. An index past the end of `done` counts as none.
 ///
 /// A compile starts the compiler in the workspace's root. Its arguments are, in this order: the
 /// crate's name, edition and source; its types, and where it is written; its settings; the features

@@ -13,8 +13,8 @@ pub fn last_values_count()
     ensures { LastValuesCount }
 {}
 
-/// The order in which the libraries of a compile are sorted is by their
-/// names and then by their paths, in byte order, if names have no byte 0.
+/// The libraries of a compile are sorted by their names and then by their paths, in byte order.
+/// This is so if names have no byte 0.
 pub fn libraries_in_order()
     ensures { LibrariesInOrder }
 {}

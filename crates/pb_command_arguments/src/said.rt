@@ -241,7 +241,7 @@ fn push_all_searched(
     Ok(())
 }
 
-/// Adds the conditions that are on, and the expected ones.
+/// Adds the conditions that are on, and then the expected conditions.
 fn push_all_conditions(
     alloc: Global,
     words: &mut Items<Text>,

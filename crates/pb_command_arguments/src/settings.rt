@@ -36,7 +36,7 @@ fn is_binary(what: &What) -> bool
     }
 }
 
-/// Returns whether a value is this one, if there is one.
+/// Returns whether there is another value, and it is equal to this value.
 fn is_value(other: Option<Setting>, value: Setting) -> bool
     ensures { result ≡ is_value other value }
 {

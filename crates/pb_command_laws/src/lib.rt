@@ -11,8 +11,8 @@ ghost use Rattle.pb_command_laws.specs.Starts.{CompilesStart, RunsStart};
 ghost use Rattle.pb_command_laws.specs.Texts.{InfosAreRead, LinesAreTrimmed, OutputsAreRead};
 ghost use Rattle.pb_command_laws.specs.Variables.{CompilesHave, RunsHave};
 
-/// A law: the arguments of a compile, read back by the compiler's own option grammar, say its
-/// crate, settings, conditions, folders and libraries, and then what the user's flags say.
+/// A law: the arguments of a compile are read back by the compiler's own option grammar. They say
+/// its crate, settings, conditions, folders and libraries, and then what the user's flags say.
 pub fn compiles_say()
     ensures { CompilesSay }
 {}
@@ -23,7 +23,7 @@ pub fn sayings_keep_words()
 {}
 
 /// A law: a compile has these variables, each with this value unless the run of its own package has
-/// set the variable. It has no other variables but those that this run has set.
+/// set the variable. Apart from these, it has only the variables that this run has set.
 pub fn compiles_have()
     ensures { CompilesHave }
 {}
@@ -33,9 +33,9 @@ pub fn runs_have()
     ensures { RunsHave }
 {}
 
-/// A law: a compile starts the compiler in the workspace's root; a run starts its
-/// script in its package's folder, after the runner if there is one. Each writes into
-/// its unit's folder, and in the target folder it may read what its unit reaches.
+/// A law: a compile starts the compiler in the workspace's root. A run starts its script in its
+/// package's folder, after the runner if there is one. Each writes into its unit's folder. In the
+/// target folder, each may read what its unit reaches.
 pub fn commands_start()
     ensures compiles { CompilesStart }
     ensures runs { RunsStart }
@@ -50,9 +50,8 @@ pub fn commands_follow_plans()
     ensures scripts { RunsStartScripts }
 {}
 
-/// A law: all that the other laws say about the command of a unit in
-/// a plan, in one: what it starts, which variables it has, what its
-/// arguments say, which libraries it gets, and which run it hears.
+/// A law: what all other laws say about the command of a unit in a plan. The command starts
+/// something, has variables, arguments and libraries, and may hear a run.
 pub fn commands_of_plans()
     ensures compiles { CompilesOfPlans }
     ensures runs { RunsOfPlans }
@@ -63,9 +62,9 @@ pub fn answers_say()
     ensures { AnswersSay }
 {}
 
-/// A law: reading a whole text, the output of a script or dep-info, yields what its lines say, one
-/// after another; or the problem of the first line that does not read, with its number. The law
-/// also says what a line without its blanks is.
+/// A law: a whole text, the output of a script or dep-info, is read line by line. The result is
+/// what its lines say, in order, or the problem of the first line that cannot be read, with its
+/// number. The law also says what a line without its blanks is.
 pub fn texts_are_read()
     ensures outputs { OutputsAreRead }
     ensures infos { InfosAreRead }

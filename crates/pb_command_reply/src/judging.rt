@@ -25,8 +25,8 @@ fn is_too_long(bytes: &Bytes) -> bool
     bytes.as_slice().len() > MAX_STREAM_BYTES
 }
 
-/// Returns the first fault of how a child ended, or none: `OutputTooLong`, if a stream has more
-/// than 4,194,304 bytes; else `Status`, if its status is not 0. It takes no memory.
+/// Returns the first fault of how a child ended, or none. `OutputTooLong` comes first, if a stream
+/// has more than 4,194,304 bytes, and then `Status`, if the status is not 0. No memory is used.
 pub fn ended_fault(ended: &Ended) -> Option<UnitFault>
     ensures { result ≡ ended_fault ended.now }
 {

@@ -21,7 +21,7 @@ pub enum UnitFault {
     /// The compiler left no dep-info, one that cannot be read, or one over 4,194,304 bytes.
     #[error("no dep-info that can be read")]
     NoDepInfo,
-    /// A path at or below the target folder is named as an input, and it is not in the folder of a
+    /// A path at or below the target folder is named as an input. The path is in no folder of a
     /// unit that this unit reaches.
     #[error("`{}` lies in the target folder", .0.as_str())]
     ForeignInput(PathText),

@@ -54,9 +54,10 @@ fn dep_name(alloc: Global, links: &str, key: &str) -> Result<Text, AllocError>
     Ok(Text::new(name))
 }
 
-/// Adds the variables that the metadata of one more build script sets, in printed order: a later
-/// value replaces an earlier one, and a new name goes last. Their names are those of `dep_pairs`.
-/// The function takes the table and returns it, so that nobody sees a table with only a part added.
+/// Adds the variables that the metadata of one more build script sets, in printed order. A later
+/// value replaces an earlier one, and a new name goes last. The variables' names are those of
+/// `dep_pairs`. The function takes the table and returns it, so that nobody sees a table with only
+/// a part added.
 ///
 /// Errors: out of memory.
 pub fn add_dep_pairs(

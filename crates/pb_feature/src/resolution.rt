@@ -107,8 +107,8 @@ fn resolved(alloc: Global, selected: &SelectedWorkspace<'_>) -> Result<Features,
     Ok(features)
 }
 
-/// Returns which packages, features and entries are on, on each of two sides: the least
-/// set of what is chosen and what the rules yield (The Cargo Book, Features, resolver 2).
+/// Returns which packages, features and entries are on, on each of two sides. This is the least set
+/// of what is chosen and what the rules yield (The Cargo Book, Features, resolver 2).
 ///
 /// Errors, in this order: the first wrong item of the first package in byte order of
 /// names; a requested feature that no selected package has; a feature that is requested

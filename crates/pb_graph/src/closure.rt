@@ -21,8 +21,8 @@ pub trait Rules {
     fn count_things(&self) -> usize
         ensures { result ≡ count self.now };
 
-    /// Replaces the contents of a buffer by what a known thing yields together
-    /// with the known things. It may add more that follows from known things.
+    /// Replaces the contents of a buffer by what a known thing yields together with the known
+    /// things. Other things that follow from known things may be added, too.
     fn put_given(
         &self,
         known: &[bool],

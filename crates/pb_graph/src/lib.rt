@@ -1,7 +1,8 @@
 //! Closures and orders of graphs.
 //!
-//! `least` computes the least set that has its seeds and is closed under rules. `order` sorts what some nodes reach, each
-//! node after all that it needs, by level and then by key. It returns the circle if there is one.
+//! `least` computes the least set that has its seeds and is closed under rules. `order` sorts what
+//! some nodes reach, each node after all that it needs, by level and then by key. If there is a
+//! circle, `order` returns it.
 #![tactic(auto)]
 
 mod closure;

@@ -16,8 +16,8 @@ ghost use Rattle.pb_manifest_types.specs.Values.{Text};
 ghost use Rattle.pb_manifest.specs.Workspace.{workspace_of, workspace_package_of};
 ghost use Rattle.pb_manifest_types.specs.declared.key.Key.{Key};
 
-/// In each table with fixed keys, a key that no rule names never changes the result (The Cargo
-/// Book, Manifest Format: unused keys cause at most a warning).
+/// In each table with fixed keys, the result never depends on a key that no rule names. The Cargo
+/// Book (Manifest Format) says that unused keys cause at most a warning.
 pub fn unnamed_keys_change_nothing()
     ensures package { PassesOver package_of }
     ensures library { PassesOver library_of }
@@ -31,8 +31,8 @@ pub fn unnamed_keys_change_nothing()
     ensures document { PassesOver document_of }
 {}
 
-/// The reading of each table looks only at the table's own keys: it returns the same for two tables
-/// with the same values at these keys.
+/// Reading a table looks only at the table's own keys. So two tables with the same values at these
+/// keys are read with the same result.
 pub fn tables_look_at_their_own_keys()
     ensures package { LooksAt of_package package_of }
     ensures library { LooksAt of_library library_of }
@@ -52,8 +52,8 @@ pub fn large_manifests_are_refused()
     ensures { RefusesLarge }
 {}
 
-/// The keys of each table of a document that `toml` reads are in byte order without repeats. This
-/// is so for the document itself, and for the table at a key of a table.
+/// The keys of each table of a document that `toml` reads are in byte order without repeats. The
+/// law is about the document itself, and about the table at a key of a table.
 pub fn documents_are_in_order()
     ensures document { OrdersTables }
     ensures tables { OrdersInnerTables }
@@ -100,7 +100,7 @@ pub fn binaries_keep_their_order()
 {}
 
 /// If a table with fixed keys has several faults, that of the lowest key in byte order is reported.
-/// These tables are `[package]`, `[lib]`, a `[[bin]]`, an entry of dependencies, one of
+/// Tables with fixed keys are `[package]`, `[lib]`, a `[[bin]]`, an entry of dependencies, one of
 /// `[workspace.dependencies]`, `[workspace.package]` and `[workspace]`. In `[profile]` all faults
 /// are the same.
 ///

@@ -20,7 +20,7 @@ pub struct Profile {
     pub name: Text,
     /// The keys that it sets.
     pub keys: ProfileKeys,
-    /// Present in each custom profile. It has no effect in a built-in one: our own choice.
+    /// Present in each custom profile. In a built-in profile it has no effect: our own choice.
     pub inherits: Option<Text>,
     /// In byte order of their names.
     pub packages: Items<ProfileOverride>,

@@ -57,8 +57,8 @@ fn add_diagnostic(alloc: Global, found: &mut Items<Text>, line: &[u8]) -> Result
 }
 
 /// Returns the diagnostics of a compiler: the lines of its standard error that are JSON objects
-/// (The Cargo Book, External Tools). They are unchanged, except that spaces, tabs and carriage
-/// returns at both ends are removed. Other lines are ignored.
+/// (The Cargo Book, External Tools). Spaces, tabs and carriage returns at both ends of a diagnostic
+/// are removed, and nothing else is changed. Other lines are ignored.
 ///
 /// Errors: out of memory only.
 pub fn diagnostics(alloc: Global, stderr: &[u8]) -> Result<Items<Text>, AllocError>

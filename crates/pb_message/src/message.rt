@@ -1,4 +1,4 @@
-//! Messages as values. They do not contain whether a child was started for their unit.
+//! Messages as values. A message does not contain whether a child was started for its unit.
 
 use pb_data::{Items, Text};
 use pb_place_types::PathText;

@@ -13,8 +13,8 @@ pub struct SinkFault;
 
 /// Writes lines into a sink: all of their bytes, or the first n but not all.
 ///
-/// Errors: `SinkFault`, if the sink fails or takes none of some bytes. Its failures have risen
-/// then, and nothing is written after that.
+/// Errors: `SinkFault`, if the sink fails or takes none of some bytes. The sink's failures have
+/// risen then, and nothing is written after that.
 pub fn write_lines<O: Out>(out: &mut O, lines: &str) -> Result<(), SinkFault>
     ensures all { OnOk result (Appends (O.heard out.old).taken (O.heard out.new).taken lines.now) }
     ensures whole { OnOk result ((O.heard out.new).faults ≡ (O.heard out.old).faults) }

@@ -77,7 +77,7 @@ pub struct Arguments {
     pub crate_types: Items<Text>,
     /// The values of `--out-dir`.
     pub out_dirs: Items<Text>,
-    /// The arguments that are neither an option nor an option's value.
+    /// The arguments that are neither options nor values of options.
     pub sources: Items<Text>,
     /// The values of `--extern`.
     pub externs: Items<Text>,
@@ -148,7 +148,7 @@ fn is_for_library(word: &str) -> bool
     word == "--extern" || word == "-L" || word == "-l"
 }
 
-/// Returns whether the next argument is the value of this one.
+/// Returns whether an argument is an option whose value is the next argument.
 fn takes_value(word: &str) -> bool
     ensures { result ≡ takes_value word.now }
 {
@@ -177,7 +177,7 @@ fn role_of(option: &str) -> Role
     Role::Unused
 }
 
-/// Returns the role of an argument that is no option with a value, and no such value.
+/// Returns the role of an argument that is no option with a value, and no value of an option.
 fn role_alone(word: &str) -> Role
     ensures { result ≡ role_alone word.now }
 {

@@ -295,10 +295,10 @@ fn replied(alloc: Global, line: &CommandLine, effects: Effects) -> Result<Reply,
     })
 }
 
-/// Returns the reply to a compile. If there is an error, the status is 1 and there is no image;
-/// else the status is 0. In both cases standard error has the diagnostics, and there is dep-info. A
-/// source that is missing, that is not UTF-8 or, by our own choice, that is no absolute path, is
-/// the error `no source` at line 0.
+/// Returns the reply to a compile. If there is an error, the status is 1 and there is no image. If
+/// not, the status is 0. In both cases standard error has the diagnostics, and there is dep-info. A
+/// source may be missing, may not be UTF-8 or, by our own choice, may be no absolute path. It is
+/// then the error `no source` at line 0.
 pub(crate) fn compile<V: View>(
     alloc: Global,
     line: &CommandLine,

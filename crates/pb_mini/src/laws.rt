@@ -14,8 +14,8 @@ pub fn is_honest()
     ensures { (c : Command) (v w : World) → AnswersHonestly c v w }
 {}
 
-/// The dep-info reports what was read: the reply to any compile, good or bad, has this file. It
-/// lists exactly the names that the compile read, without repeats.
+/// The dep-info reports what was read: the reply to any compile, good or bad, has this file.
+/// Exactly the names that the compile read are listed there, without repeats.
 pub fn tells_names()
     ensures { (words : List (List ℕ)) (pairs : List (List ℕ
         × List ℕ)) (w : World) (line : CommandLine) → TellsNames words pairs w line }

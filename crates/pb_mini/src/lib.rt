@@ -1,6 +1,6 @@
 //! The small compiler: a compiler of one file that replaces a real one in every session and test.
-//! It is a child like any other, so its contract shows that a child can be honest. Its language is
-//! our own.
+//! It is a child like any other, so its contract shows that a child can be honest. The language
+//! that it compiles is our own.
 #![tactic(auto)]
 
 mod buffer;

@@ -114,8 +114,8 @@ fn reply_to<V: View>(
 /// `pairs` are names and values that override the variables of the view; the last of several with
 /// the same name counts.
 ///
-/// Errors: `Failed`, only if the view fails; `OutOfMemory`. About a view that does not report what
-/// it shows, such as one of real files, no clause promises what the reply is.
+/// Errors: `Failed`, only if the view fails; `OutOfMemory`. If a view does not report what it
+/// shows, as one of real files, no clause promises what the reply is.
 ///
 /// The arguments are those that Cargo passes to a compiler; the language of the source is our own
 /// choice.
@@ -147,8 +147,7 @@ pub fn answer<V: View>(
     }
 }
 
-/// The small compiler as a child. Its reply depends only on the arguments, the pairs and what the
-/// view shows.
+/// The small compiler as a child. A reply depends only on the arguments, the pairs and what the view shows.
 #[derive(Clone, Copy, Debug)]
 pub struct Mini;
 

@@ -94,7 +94,7 @@ fn condition_of(line: &str) -> Option<(&str, &str)>
 }
 
 /// Returns the line that remains of a line under these conditions: each leading `when COND` is
-/// removed. It is empty if one of the conditions is not given.
+/// removed. The remaining line is empty if one of the conditions is not given.
 fn line_meant<'a>(alloc: Global, given: &OrderedSet, line: &'a str) -> Result<&'a str, AllocError>
     ensures { IfOk result (λ meant. meant.now ≡ line_meant given.now line.now) }
 {

@@ -1,5 +1,5 @@
-//! Laws on the small compiler. It is an honest child on the commands of units, so a build with the
-//! small compiler as its child has the headline with no premise on the child.
+//! Laws on the small compiler. As a child it is honest on the commands of units. So a build with
+//! this child has the headline, and nothing is assumed about the child.
 #![tactic(auto)]
 
 ghost use Rattle.pb_directive.specs.declared.dep_info.DepInfo.{DepInfo};
@@ -11,10 +11,10 @@ ghost use Rattle.std.specs.Prelude.{ℕ, List};
 
 use pb_run_flight::Turn;
 
-/// A law: if dep-info of the small compiler is read without a fault, each path and
-/// each variable that was written is among the names that are read. The output is
-/// an absolute path of one line; a path or a variable's name is one line and does
-/// not end with `\` or a carriage return, and a variable's name has no `=`.
+/// A law: if dep-info of the small compiler is read without a fault, the names that are read
+/// include all paths and variables that were written. The output is an absolute path of one line. A
+/// path or a variable's name is one line and does not end with `\` or a carriage return. A
+/// variable's name has no `=`.
 pub fn names_are_read_back()
     ensures { (output : List ℕ) (names : Names) (info : DepInfo) → ReadsBack output names info }
 {}
@@ -40,9 +40,9 @@ pub fn small_builds_are_honest()
     ensures { SmallBuildsAreHonest }
 {}
 
-/// A law: with the small compiler as the child, such a build over true records, whichever turn it
-/// uses, produces what a clean build of the present workspace produces, however it ends. It leaves
-/// true records.
+/// A law: the small compiler is the child of a build over true records, which satisfies the
+/// conditions of `small_builds_are_honest`. Whichever turn the build uses, and however it ends, it
+/// produces what a clean build of the present workspace produces. It leaves true records.
 pub fn small_builds_give<T: Turn>()
     ensures { SmallBuildsGive T.turns }
 {}

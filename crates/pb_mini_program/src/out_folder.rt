@@ -21,7 +21,7 @@ pub(crate) enum Waiting {
     Other,
 }
 
-/// Returns whether the next argument is the value of this one.
+/// Returns whether an argument is an option whose value is the next argument.
 fn takes_value(word: &str) -> bool
     ensures { result ≡ takes_value word.now }
 {

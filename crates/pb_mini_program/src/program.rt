@@ -83,9 +83,9 @@ fn leave_files<P: Place, V: View>(
     Ok(())
 }
 
-/// Replies to arguments as the small compiler does, and returns the status of the reply. It leaves
-/// the files of the reply in its output folder, and then writes its two streams. It writes nothing
-/// after a failure; earlier writes stay.
+/// Replies to arguments as the small compiler does, and returns the status of the reply. The files
+/// of the reply are written into its output folder, and then its two streams are written. Nothing
+/// is written after a failure; earlier writes stay.
 ///
 /// Errors:
 /// - `Read`: the view failed. Nothing was written then.

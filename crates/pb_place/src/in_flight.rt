@@ -44,9 +44,9 @@ pub fn flies<K>(flying: &[Flying<K>], ticket: u64) -> bool
     has_ticket(flying, ticket)
 }
 
-/// Returns the lowest number that no child in flight has. One such number is at most the number of
-/// children, so it is never none. The contract promises only that it is none if all these numbers
-/// are taken.
+/// Returns the lowest number that no child in flight has. That number is at most the number of
+/// children, so the result is never none. The contract promises only that it is none if all numbers
+/// up to there are taken.
 #[tactic(auto, using(crate::proofs::InFlight::flying_laws))]
 pub fn free_ticket<K>(flying: &[Flying<K>]) -> Option<u64>
     ensures free { IfSome result (λ ticket. is_flying ticket (children_in flying.now) ≡ false) }

@@ -126,16 +126,17 @@ impl<C> Memory<C> {
         file_in(alloc, &self.files, path)
     }
 
-    /// Returns whether a child with this ticket is in flight. It is no call of the place and takes
-    /// no memory.
+    /// Returns whether a child with this ticket is in flight. This is no call of the place and
+    /// takes no memory.
     pub fn flies(&self, ticket: u64) -> bool
         ensures { result ≡ is_flying ticket (children_in self.now.flying) }
     {
         flies(self.flying.as_slice(), ticket)
     }
 
-    /// Returns whether no call has failed, and none can fail unless memory runs out: the fuse is 0,
-    /// no death waits, and no child is in flight. It is no call of the place and takes no memory.
+    /// Returns whether no call has failed, and none can fail unless memory runs out. This is so if
+    /// the fuse is 0, no death waits, and no child is in flight. The question is no call of the
+    /// place and takes no memory.
     pub fn is_unfailing(&self) -> bool
         ensures quiet { IsTrue result → (may_fail self.now ≡ false)
             × ((counts_in self.now).failures ≡ 0) }
@@ -170,7 +171,8 @@ impl<C> Memory<C> {
     /// or runs out of memory, leaves the setting for the next start.
     ///
     /// `CannotStart` occurs at the spawn, which changes nothing. Any other fault occurs at the end.
-    /// It leaves only the first half of the reply's files, rounded down and in byte order.
+    /// Then only the first half of the reply's files remains, in byte order; the half's length is
+    /// rounded down.
     ///
     /// Requires: the fault is one of the outside, and not `OutOfMemory`.
     ///

@@ -16,8 +16,8 @@ use pb_place_types::{Command, Ended, Moved, PathFault, PathText, Place, PlaceFau
 use std::alloc::{AllocError, Global};
 
 /// A place that passes every call on to another, and counts the calls after the first one that
-/// failed. It does not count `finish`, because children in flight must be waited for after a
-/// failure. Out of memory is no failure.
+/// failed. `finish` is not counted, because children in flight must be waited for after a failure.
+/// Out of memory is no failure.
 #[derive(Drop)]
 pub struct Seen<P> {
     /// The place to which the calls are passed.

@@ -25,7 +25,7 @@ fn shows(command: &Command, path: &PathText) -> bool
     !path.starts_with(&command.target) || is_below_any(command.reads.as_slice(), path)
 }
 
-/// What a child sees of a place in memory. It fails only if memory runs out.
+/// What a child sees of a place in memory. Looking fails only if memory runs out.
 #[derive(Drop)]
 pub(crate) struct Sight<'a> {
     pub(crate) files: &'a FileMap,

@@ -68,7 +68,7 @@ pub(crate) fn parts_of<K: Drop>(flying: Flying<K>) -> (Command, K) {
     (command_of(child), kept)
 }
 
-/// Returns what the place tells about a child in flight: its ticket and its command.
+/// Returns what the place reports about a child in flight: its ticket and its command.
 #[tactic(auto, using(crate::proofs::Silence::silence_laws))]
 pub(crate) fn child_in_flight(
     alloc: Global,

@@ -85,8 +85,8 @@ impl<'a, R: Files + Env + Processes + AllocGlobal> HostPlace<'a, R> {
         }
     }
 
-    /// Returns whether a child of this ticket is in flight. It is
-    /// no call of the place and uses no memory.
+    /// Returns whether a child of this ticket is in flight. This is no call of the place and uses
+    /// no memory.
     pub fn flies(&self, ticket: u64) -> bool
         ensures { result ≡ is_flying ticket
             (⟦<HostPlace<'a, R> as Place>⟧.at self.now).counts.starts.flying }
@@ -94,8 +94,8 @@ impl<'a, R: Files + Env + Processes + AllocGlobal> HostPlace<'a, R> {
         flies(self.flying.as_slice(), ticket)
     }
 
-    /// Begins the child of a command, and returns its ticket. It first reserves space among
-    /// the children in flight, so no child that was begun is lost if memory runs out.
+    /// Begins the child of a command, and returns its ticket. Space among the children in flight is
+    /// reserved first, so no child that was begun is lost if memory runs out.
     fn begin(&mut self, alloc: Global, command: &Command) -> Result<u64, StartFault>
         ensures fresh { IfOk result
             (λ ticket. is_flying ticket (children_in self.old.flying.items) ≡ false) }

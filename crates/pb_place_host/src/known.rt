@@ -326,7 +326,7 @@ fn capture_text(alloc: Global, command: &Command, error: &io::Error) -> Result<S
     )
 }
 
-/// Returns what the end of a child answered. It remembers how the child ended, if the child did not
+/// Returns what the end of a child answered. How the child ended is remembered if the child did not
 /// answer or has no output folder.
 pub(crate) fn finished(
     alloc: Global,

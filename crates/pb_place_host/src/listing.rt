@@ -119,8 +119,8 @@ fn take_entry<R: Files + AllocGlobal>(
     }
 }
 
-/// Returns whether an error says that there is no such folder,
-/// and the folder is the one that is listed: it need not exist.
+/// Returns whether an error says that there is no such folder, and the folder is the one that is
+/// listed. That folder need not exist.
 fn may_be_absent(here: &Waiting, error: &io::Error) -> bool {
     here.depth == 0 && says_absent(error)
 }
@@ -185,7 +185,7 @@ fn take_told<R: Files + AllocGlobal>(
     }
 }
 
-/// Adds the entries of a folder. If it is the one that is listed and does not exist, it has none.
+/// Adds the entries of a folder. If the listed folder itself does not exist, there are none.
 fn take_entries<R: Files + AllocGlobal>(
     runtime: &R,
     alloc: Global,
@@ -224,8 +224,8 @@ fn take_folder<R: Files + AllocGlobal>(
     }
 }
 
-/// Returns all files below a folder that are not left out, as they
-/// come. It takes one folder after another, the one found last first.
+/// Returns all files below a folder that are not left out, as they come. Folders are listed one
+/// after another, the one found last first.
 fn files_found<R: Files + AllocGlobal>(
     runtime: &R,
     alloc: Global,
@@ -282,8 +282,8 @@ fn take_named<R: Files + AllocGlobal>(
     Ok(())
 }
 
-/// Returns what is directly in a folder and is not left out, as
-/// it comes. It does not look into the folders there.
+/// Returns what is directly in a folder and is not left out, as it comes. The folders there are not
+/// looked into.
 pub(crate) fn found_here<R: Files + AllocGlobal>(
     runtime: &R,
     alloc: Global,
@@ -325,9 +325,9 @@ fn files_listed<R: Files + AllocGlobal>(
 /// if no folder is at the path. Links are followed. A link that leads
 /// nowhere is skipped, and so is what is neither a file nor a folder.
 ///
-/// Errors: `List`, if a folder cannot be read, if a name is not UTF-8, or if
-/// a folder is more than 128 levels below the one that is listed. A link to
-/// a folder above it is such a case, since it is followed again and again.
+/// Errors: `List`, if a folder cannot be read, if a name is not UTF-8, or if a folder is more than
+/// 128 levels below the one that is listed. A link to a folder above it is followed again and
+/// again, until it is too deep.
 pub(crate) fn files_below<R: Files + AllocGlobal>(
     runtime: &R,
     alloc: Global,
@@ -357,9 +357,9 @@ pub(crate) fn files_outside<R: Files + AllocGlobal>(
     files_listed(runtime, alloc, Some(left_out), folder)
 }
 
-/// Returns the paths of the files directly in a folder, in byte order; none if no
-/// folder is at the path. It does not look into the folders there, so nothing in them
-/// is a failure. It skips a name that is not UTF-8, since nothing requests such a name.
+/// Returns the paths of the files directly in a folder, in byte order; none if no folder is at the
+/// path. The folders there are not looked into, so nothing in them is a failure. A name that is not
+/// UTF-8 is skipped, since nothing requests such a name.
 pub(crate) fn files_directly<R: Files + AllocGlobal>(
     runtime: &R,
     alloc: Global,
@@ -385,9 +385,9 @@ fn folders_of(alloc: Global, waiting: Vec<Waiting>) -> Result<Vec<PathText>, Fai
     Ok(folders)
 }
 
-/// Returns the paths of the folders directly in a folder that are not left
-/// out, in byte order; none if no folder is at the path. It does not look into
-/// them, so nothing in them is a failure. It skips a name that is not UTF-8.
+/// Returns the paths of the folders directly in a folder that are not left out, in byte order. If
+/// no folder is at the path, there are none. These folders are not looked into, so nothing in them
+/// is a failure. A name that is not UTF-8 is skipped.
 pub(crate) fn folders_directly<R: Files + AllocGlobal>(
     runtime: &R,
     alloc: Global,

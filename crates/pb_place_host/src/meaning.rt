@@ -64,8 +64,8 @@ fn leads_up(text: &str) -> bool {
     text.split('/').any(|part| part == "..")
 }
 
-/// Returns the path that a text means from a folder. It is the normalised one
-/// (`PathText::join`), unless a `..` comes after a link: then it leads to the folder that
+/// Returns the path that a text means from a folder. The path is the normalised one
+/// (`PathText::join`), unless a `..` comes after a link. Such a `..` leads to the folder that
 /// contains the link's goal, as in the system. A link that leads nowhere is treated as a folder.
 ///
 /// Errors: those of `PathText::join`.

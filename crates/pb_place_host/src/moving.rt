@@ -82,8 +82,8 @@ fn look<R: Files>(runtime: &R, since: Moment, path: &str) -> Sight {
     }
 }
 
-/// Returns whether there may have been something at a path that is absent now. That is so if the
-/// nearest existing folder above the path has changed since.
+/// Returns whether there may have been something at a path that is absent now. The answer is yes if
+/// the nearest existing folder above the path has changed since.
 fn is_gone<R: Files>(
     runtime: &R,
     alloc: Global,
@@ -124,8 +124,7 @@ fn add_entries<R: Files + AllocGlobal>(
     Ok(true)
 }
 
-/// Returns whether a path itself has moved. If it is a folder,
-/// its contents are added to what waits.
+/// Returns whether a path itself has moved. The contents of a folder are added to what waits.
 fn has_moved<R: Files + AllocGlobal>(
     runtime: &R,
     alloc: Global,
@@ -155,9 +154,9 @@ fn is_passed_over<R: Files + AllocGlobal>(
     is_tagged(runtime, alloc, path)
 }
 
-/// Returns the first path found at or below a path that has changed after a moment,
-/// or `None` if nothing moved. It does not look at or below the path that is left
-/// out, nor below other target folders. If it cannot be found out, a path has moved.
+/// Returns the first path found at or below a path that has changed after a moment, or `None` if
+/// nothing moved. Paths at or below the one that is left out are not looked at, nor those below
+/// other target folders. A path counts as moved if its change cannot be found out.
 ///
 /// Errors: out of memory.
 pub(crate) fn first_moved<R: Files + AllocGlobal>(

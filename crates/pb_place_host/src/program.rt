@@ -72,9 +72,9 @@ fn found_in<R: Files + Env + AllocGlobal>(
     }
 }
 
-/// Returns the path of a program. A name with a slash is a path. Any other name
-/// is looked for in the folders of this program's own `PATH`, so a `PATH` that
-/// a command sets for its child does not choose which program the child is.
+/// Returns the path of a program. A name with a slash is a path. Any other name is looked for in
+/// the folders of this program's own `PATH`. So a `PATH` that a command sets for its child does not
+/// choose which program the child is.
 ///
 /// Errors: `CannotStart`, if no folder has it; `OutOfMemory`.
 pub(crate) fn program_of<R: Files + Env + AllocGlobal>(
@@ -89,7 +89,7 @@ pub(crate) fn program_of<R: Files + Env + AllocGlobal>(
         Ok(folders) => found_in(runtime, alloc, folders.as_str(), name),
         Err(VarError::NotPresent) => found_in(runtime, alloc, WITHOUT_PATH, name),
         Err(VarError::OutOfMemory) => Err(io::Error::from(ErrorKind::OutOfMemory)),
-        // It contains no path of ours.
+        // This error contains no path of ours.
         Err(VarError::NotUnicode) => Err(not_found()),
     }
 }

@@ -38,8 +38,8 @@ pub(crate) fn fault_of(failed: Failed) -> ViewFault
     ViewFault::Failed
 }
 
-/// Returns whether an error says that nothing is at a path: there is no such
-/// name, a file is in the position of a folder, or the links lead in a circle.
+/// Returns whether an error says that nothing is at a path. There is no such name, or a file is in
+/// the position of a folder, or the links lead in a circle.
 pub(crate) fn says_absent(error: &io::Error) -> bool
     ensures { IsTrue result
         ↔ ((error_kind error.now ≡ ErrorKind.NotFound)
@@ -94,8 +94,8 @@ fn read_first<F: Read>(file: &mut F, bytes: &mut [u8]) -> io::Result<usize> {
 }
 
 /// Returns the bytes of a file that had this length a moment ago. One call requests that many bytes
-/// and one more. If it returns exactly that many, the file ends there. Otherwise the rest is read
-/// until a call returns nothing.
+/// and one more. If the call returns exactly that many, the file ends there. Otherwise the rest is
+/// read until a call returns nothing.
 pub(crate) fn bytes_at<R: Files + AllocGlobal>(
     runtime: &R,
     path: &str,

@@ -14,13 +14,13 @@ pub const TAG_NAME: &str = "CACHEDIR.TAG";
 /// The line by which that file marks a target folder of this builder.
 pub const TAG_LINE: &str = "# This is a target folder of pb_tool.";
 
-/// The file that this builder writes. Its first line is that of the specification.
+/// The content of the file that this builder writes. The first line is that of the specification.
 pub const TAG_TEXT: &str = "Signature: 8a477f597d28d172789f06886806bc55
 # This is a target folder of pb_tool.
 # For information about cache directory tags see https://bford.info/cachedir/
 ";
 
-/// The most bytes that such a file may have. A longer one does not count.
+/// The greatest number of bytes that a tag may have. A longer file does not count as a tag.
 const MOST_BYTES: u64 = 4096;
 
 /// Returns whether one of the lines of a text is that of this builder.

@@ -14,8 +14,8 @@ use std::{fs, io};
 /// The mode of a folder that its owner may read, write and go through.
 const OWNED: u32 = 0o700;
 
-/// Returns an empty file for n bytes, and makes the folders above it. It does
-/// nothing if these are more bytes than a file may have.
+/// Returns an empty file for n bytes, and makes the folders above it. If n is more than a file may
+/// have, nothing is done.
 fn created<R: Files>(
     runtime: &R,
     alloc: Global,
@@ -30,8 +30,8 @@ fn created<R: Files>(
     Ok(fs::create(runtime, path.as_str())?)
 }
 
-/// Writes a file, and makes the folders above it. It does
-/// nothing if there are more bytes than a file may have.
+/// Writes a file, and makes the folders above it. If there are more bytes than a file may have,
+/// nothing is done.
 pub(crate) fn write_file<R: Files>(
     runtime: &R,
     alloc: Global,
@@ -43,7 +43,7 @@ pub(crate) fn write_file<R: Files>(
     Ok(())
 }
 
-/// Writes a file whose bytes come in pieces, as `write_file` does. It takes no memory for them.
+/// Writes a file whose bytes come in pieces, as `write_file` does. No memory is used for the pieces.
 pub(crate) fn write_file_pieces<R: Files>(
     runtime: &R,
     alloc: Global,
@@ -136,8 +136,8 @@ fn remove_entry<R: Files>(runtime: &R, path: &str) -> io::Result<bool> {
     Ok(false)
 }
 
-/// Removes the files of a folder, and adds its folders to those that wait. It leaves out names that
-/// are not UTF-8.
+/// Removes the files of a folder, and adds its folders to those that wait. Names that are not UTF-8
+/// are left out.
 ///
 /// Errors: the first file that cannot be removed; the folder, if it cannot be listed; out of
 /// memory.

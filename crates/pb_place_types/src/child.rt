@@ -84,8 +84,8 @@ pub trait View {
         ensures failed { IfErr result (λ e. e ≡ ViewFault.Failed → fails self.now) };
 }
 
-/// A child: a function from a command and what it sees to a reply. It has no state, so no call can
-/// change the function.
+/// A child: a function from a command and what it sees to a reply. A child has no state, so no call
+/// can change the function.
 pub trait Child {
     /// The function.
     ghost answers: { Answers };

@@ -285,8 +285,8 @@ fn names_between(
     Ok(names)
 }
 
-/// Returns the keys below a folder, in byte order. They lie between the folder's stem with a slash
-/// and its stem with a `0`, since `0` is the next character after the slash.
+/// Returns the keys below a folder, in byte order. These keys lie between the folder's stem with a
+/// slash and its stem with a `0`, since `0` is the next character after the slash.
 fn names_below(
     alloc: Global,
     files: &BTreeMap<Text, Bytes>,

@@ -44,9 +44,9 @@ pub fn paths_join_again()
 {}
 
 /// Two folders with different names in one folder lie apart. Changes at or below one folder leave
-/// each folder that lies apart from it as it was. If the folder is in the target folder, they leave
-/// the sources as they were. Two such changes are together one such change. A change in a folder is
-/// also a change in each folder above it.
+/// each folder that lies apart from it unchanged. Changes in a folder of the target folder leave
+/// the sources unchanged. Two changes in one folder are together one change in this folder. A
+/// change in a folder is also a change in each folder above it.
 pub fn changes_stay_in_folders()
     ensures named { NamedFoldersLieApart }
     ensures folders { FolderStays }
@@ -93,16 +93,16 @@ pub fn failing_calls_spare()
     ensures started_variables { StartSparesVariables }
 {}
 
-/// After writes and removals in turn, a path has what the last of them that touches it leaves: the
-/// written bytes, or nothing if it was removed. None of them changes a variable.
+/// After writes and removals in turn, the last of them that touches a path decides what is there:
+/// the written bytes, or nothing. No write and no removal changes a variable.
 pub fn last_word_stands()
     ensures files { LastWordStands }
     ensures variables { VariablesStand }
 {}
 
 /// A call that failed, other than by running out of memory, is counted, and its fault is recorded
-/// as the last one. If it was a call on files or variables, the call itself is recorded too. For a
-/// sequence of calls, the counters therefore determine which one failed and at which position.
+/// as the last one. A failed call on files or variables is itself recorded, too. For a sequence of
+/// calls, the counters therefore determine which one failed and at which position.
 pub fn failing_calls_are_told()
     ensures calls { CallTellsFault }
     ensures starts { StartTellsFault }

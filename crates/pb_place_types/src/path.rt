@@ -153,7 +153,7 @@ pub(crate) fn stem(folder: &str) -> &str
 }
 
 impl PathText {
-    /// Returns the path that an absolute text spells. It removes `.`, empty parts and `..`, each
+    /// Returns the path that an absolute text spells. Empty parts, `.` and `..` are removed, each
     /// `..` together with the name before it if there is one.
     ///
     /// Errors: `NotAbsolute`, if the text does not begin with `/`; else `BadByte`, if it contains

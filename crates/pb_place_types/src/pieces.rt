@@ -17,7 +17,7 @@ pub fn length_of(pieces: &[Bytes]) -> u64
     length
 }
 
-/// Returns the bytes of some pieces, joined in order. It takes memory for them once.
+/// Returns the bytes of some pieces, joined in order. Memory for the result is taken once.
 ///
 /// Errors: out of memory only.
 pub fn joined(alloc: Global, pieces: &[Bytes]) -> Result<Bytes, AllocError>

@@ -123,8 +123,8 @@ pub trait Place {
     /// machine is not, so clauses with this premise do not apply to it.
     ghost is_modelled: { Bool };
 
-    /// All that clauses can see of the place at one moment. If it is not modelled, its maps are
-    /// constant.
+    /// All that clauses can see of the place at one moment. The maps of a place that is not
+    /// modelled are constant.
     ghost at: { Self → At };
 
     /// The child: a member of the type, so no call can change it.
@@ -142,7 +142,7 @@ pub trait Place {
         ensures looks { LooksOnce (call.Read path.now) result (at self.old) (at self.new) }
         ensures fails { IfErr result (λ e. e ≢ PlaceFault.OutOfMemory → fails self.old) };
 
-    /// Returns the first bytes of a file, at most `most`, or none if no file is there. It is
+    /// Returns the first bytes of a file, at most `most`, or none if no file is there. The call is
     /// counted as `read` is.
     ///
     /// Errors: `Read`; `OutOfMemory`.
@@ -184,7 +184,7 @@ pub trait Place {
         ensures fails { IfErr result (λ e. e ≢ PlaceFault.OutOfMemory → fails self.old) };
 
     /// Returns the paths of all files below a folder, except those at or below another path, in
-    /// byte order. It does not look at or below that path.
+    /// byte order. Nothing at or below that other path is looked at.
     ///
     /// Errors: `List`; `OutOfMemory`.
     fn list_outside(
@@ -199,8 +199,8 @@ pub trait Place {
             (at self.old) (at self.new) }
         ensures fails { IfErr result (λ e. e ≢ PlaceFault.OutOfMemory → fails self.old) };
 
-    /// Returns the paths of the files directly in a folder, in byte order. It does not look into
-    /// the folders there.
+    /// Returns the paths of the files directly in a folder, in byte order. The folders there are
+    /// not looked into.
     ///
     /// Errors: `List`; `OutOfMemory`.
     fn list_directly(
@@ -214,8 +214,8 @@ pub trait Place {
             (at self.old) (at self.new) }
         ensures fails { IfErr result (λ e. e ≢ PlaceFault.OutOfMemory → fails self.old) };
 
-    /// Returns the paths of the folders directly in a folder, without repeats. It does not look
-    /// into them.
+    /// Returns the paths of the folders directly in a folder, without repeats. These folders are
+    /// not looked into.
     ///
     /// In the maps these are the folders with a file below them, not counting files at or below
     /// another path. A machine also has folders without files: it may return them too, but not that
@@ -289,8 +289,8 @@ pub trait Place {
         ensures fails { IfErr result (λ e. e ≢ PlaceFault.OutOfMemory → fails self.old) };
 
     /// Spawns a child process, and returns its ticket, by which `finish` waits for it. No other
-    /// child in flight has this ticket. It creates `command.out`; until the child has ended, that
-    /// folder may contain anything.
+    /// child in flight has this ticket. The folder `command.out` is created; until the child has
+    /// ended, that folder may contain anything.
     ///
     /// Errors: `CannotStart`, and then no child is in flight; `OutOfMemory`.
     fn spawn(&mut self, alloc: Global, command: &Command) -> Result<u64, StartFault>
@@ -356,8 +356,8 @@ pub trait Place {
     }
 
     /// Returns true if nothing that the child of this command read has moved, as far as `watch` has
-    /// looked. The same must be true of the children in whose output folders this child reads. It
-    /// takes no memory, and is not counted.
+    /// looked. The same must be true of the children in whose output folders this child reads. The
+    /// call takes no memory, and is not counted.
     fn stood_still(&self, _command: &Command) -> bool
         ensures { IsTrue is_modelled → result ≡ true }
     {
@@ -371,7 +371,7 @@ pub trait Place {
         ensures none { IsTrue is_modelled → result.now ≡ [] };
 
     /// Does nothing; its contract states that each file in the maps has a normalised absolute path.
-    /// It takes no memory, and is not counted.
+    /// The call takes no memory, and is not counted.
     fn files_have_paths(&self)
         ensures { IsTrue is_modelled → FilesHavePaths (at self.now).world };
 

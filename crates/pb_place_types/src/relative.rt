@@ -62,7 +62,7 @@ impl RelativePath {
         })
     }
 
-    /// Returns a text as a relative path, or none if it is no such path. It takes no memory.
+    /// Returns a text as a relative path, or none if the text is no relative path. No memory is used.
     pub fn of(text: Text) -> Option<RelativePath>
         ensures { result ≡ (if is_relative text then Some text else None) }
     {
@@ -72,8 +72,8 @@ impl RelativePath {
         Some(RelativePath { inside: text })
     }
 
-    /// Returns the same as `of`, for callers that have an allocator. It takes no memory and returns
-    /// no error.
+    /// Returns the same as `of`, for callers that have an allocator. No memory is used, and no
+    /// error is returned.
     pub fn new(_alloc: Global, text: Text) -> Result<Option<RelativePath>, AllocError>
         ensures { IfOk result (λ found. found ≡ (if is_relative text then Some text else None)) }
     {

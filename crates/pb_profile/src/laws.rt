@@ -2,10 +2,10 @@
 
 ghost use Rattle.pb_profile.specs.Laws.{GivesLines, TellsMissing, TellsCycles, FindsValues};
 
-/// A line that is returned for a profile is one: each profile inherits from the next, and the last
-/// from none. A missing profile is reported only if the requested profile, or one that it inherits
-/// from, is missing. A cycle is reported only if such a profile inherits from itself in one or more
-/// steps.
+/// A line that is returned for a profile is a line: each profile inherits from the next, and the
+/// last from none. A missing profile is reported only if the requested profile, or one from which
+/// it inherits, is missing. A cycle is reported only if the requested profile, or one from which it
+/// inherits, inherits from itself in one or more steps.
 pub fn lines_follow_inherits()
     ensures lines { GivesLines }
     ensures missing { TellsMissing }

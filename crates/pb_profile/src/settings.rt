@@ -130,7 +130,7 @@ fn setting_of(owner: &Package, role: Side, line: &[Ancestor], key: ProfileKey) -
     fixed(role, key, found.unwrap_or(key.row().dev))
 }
 
-/// Returns the settings of a package in a role along a line. It takes no memory, so a caller that
+/// Returns the settings of a package in a role along a line. No memory is used, so a caller that
 /// needs many packages under one profile can make the line once.
 pub fn settings_along(owner: &Package, role: Side, line: &[Ancestor]) -> Settings
     ensures { result ≡ settings_along owner.now role (map seen line.now) }

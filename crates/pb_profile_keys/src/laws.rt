@@ -7,7 +7,7 @@ pub fn keys_are_at_their_index()
     ensures { KeysAreAtTheirIndex }
 {}
 
-/// The compiler is told of each key exactly once.
+/// The compiler gets the option of each key exactly once.
 pub fn keys_are_told_once()
     ensures { KeysAreToldOnce }
 {}

@@ -43,8 +43,8 @@ fn has_out(out: &PathText, other: &Option<PathText>) -> bool
 }
 
 impl RecordedCommand {
-    /// Returns the request of a command, or none if the command has no output folder, or its
-    /// variables are not sorted by name, each name once. It takes no memory.
+    /// Returns the request of a command. The result is none if the command has no output folder, or
+    /// its variables are not sorted by name, each name once. No memory is used.
     pub fn of_command(command: Command) -> Option<RecordedCommand>
         ensures { result ≡ asked_in command }
     {
@@ -99,9 +99,9 @@ impl RecordedCommand {
         }
     }
 
-    /// Returns whether a command is equal to the request, apart from its variables: the program,
+    /// Returns whether a command is equal to the request, apart from its variables. The program,
     /// the arguments, the folder, the output and target folders, the compiler, and the folders that
-    /// it reads. It takes no memory.
+    /// it reads are compared. No memory is used.
     pub fn asks_as(&self, command: &Command) -> bool
         ensures { Decides result (AsksAs self.now command.now) }
     {

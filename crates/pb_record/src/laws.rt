@@ -13,9 +13,9 @@ pub fn records_lie_apart()
     ensures longer { MoreBytesSayNothing }
 {}
 
-/// What is read is a record. A value is no record if a text is not UTF-8, a path is not normalised,
-/// a number is above the largest, or the variables are not sorted by name, each name once; then its
-/// bytes are those of no record. A path has no byte 0.
+/// What is read is a record. Its texts are UTF-8, its paths are normalised, no number is above the
+/// largest, and the variables are sorted by name, each name once. The bytes of any other value are
+/// those of no record. A path has no byte 0.
 pub fn only_records_are_read()
     ensures said { OnlyRecordsAreSaid }
     ensures paths { PathsHaveNoByte0 }
@@ -36,8 +36,8 @@ pub fn texts_have_one_reading()
     ensures { HasOneReading }
 {}
 
-/// There is a function that returns the reading of each text. So a statement about every such
-/// function is not empty.
+/// There is a function that returns the reading of each text. So a statement about every function
+/// of this kind is not empty.
 pub fn texts_have_a_reading()
     ensures { HasReading }
 {}

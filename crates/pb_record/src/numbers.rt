@@ -45,8 +45,8 @@ fn is_end(alloc: Global, text: &[u8]) -> Result<bool, AllocError>
     }
 }
 
-/// Returns the needed units of a record of format 2, from its text after the key, or none if it is
-/// no such text.
+/// Returns the needed units of a record of format 2, from its text after the key. The result is
+/// none if the text is not of this form.
 fn needs_at(alloc: Global, text: &[u8]) -> Result<Option<Items<(Text, u64)>>, AllocError>
     ensures { IfOk result (λ found. MatchOption found
         ((p : RestParts) → IsRest text.now p → ⊥) (λ needs. HasNeeds text.now needs)) }
@@ -128,8 +128,8 @@ fn numbers_by_format(alloc: Global, text: &[u8]) -> Result<Option<Numbers>, Allo
     Ok(None)
 }
 
-/// Returns the run numbers of the record of a text, or none if the text is no record. It returns
-/// some if and only if `read_record` does.
+/// Returns the run numbers of the record of a text, or none if the text is no record. The result is
+/// some if and only if that of `read_record` is.
 ///
 /// Errors: only out of memory.
 pub fn read_numbers(alloc: Global, text: &[u8]) -> Result<Option<Numbers>, AllocError>

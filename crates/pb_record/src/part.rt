@@ -7,14 +7,14 @@ use std::alloc::{AllocError, Global};
 
 /// A part of a record.
 pub trait Part: Drop {
-    /// What such a part is, apart from its bytes.
+    /// What a part of this kind is, apart from its bytes.
     ghost is_part: { Self → Type 0 };
 
     /// Its bytes.
     ghost spelled: { Self → List ℕ };
 
     /// Returns the part with which a text begins, and what follows it, or none if the text begins
-    /// with no such part.
+    /// with no part of this kind.
     ///
     /// Errors: only out of memory.
     fn read(alloc: Global, text: &[u8]) -> Result<Option<(Self, &[u8])>, AllocError>
@@ -23,7 +23,7 @@ pub trait Part: Drop {
             Stands is_part spelled text.now p.0 p.1.now)) };
 
     /// Returns what follows the part with which a text begins, or none if the text begins with no
-    /// such part. It returns as `read` does, but need not make the part.
+    /// part of this kind. The result is that of `read`, but the part need not be made.
     ///
     /// Errors: only out of memory.
     fn skip(alloc: Global, text: &[u8]) -> Result<Option<&[u8]>, AllocError>

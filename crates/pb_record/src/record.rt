@@ -15,8 +15,8 @@ pub enum InputName {
     Variable(Text),
 }
 
-/// Something on which a unit's answer depends besides its command and the units that it reaches,
-/// with its value.
+/// Something on which a unit's answer depends besides the unit's command and the units that it
+/// reaches, with its value.
 #[derive(Drop)]
 pub enum Input {
     /// A file, and its bytes.

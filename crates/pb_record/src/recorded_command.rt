@@ -22,7 +22,7 @@ pub struct RecordedCommand {
     pub words: Items<Text>,
     /// The folder in which the child starts.
     pub folder: PathText,
-    /// The variables that are set over the inherited ones.
+    /// The variables that are set in addition to the inherited variables.
     pub pairs: Pairs,
     /// The folder into which the child writes.
     pub out: PathText,

@@ -6,10 +6,10 @@ use crate::recorded_command::RecordedCommand;
 use pb_data::{Bytes, Items, Text};
 use pb_place_types::{PathText, RelativePath};
 
-/// The room for a number and the line feeds around it: at most 20 digits.
+/// The space for a number and the line feeds around it: at most 20 digits.
 const LINE: usize = 22;
 
-/// Returns the room for a block with n bytes.
+/// Returns the space for a block with n bytes.
 fn block(length: usize) -> usize {
     length.saturating_add(LINE)
 }
@@ -32,7 +32,7 @@ fn paths(paths: &[PathText]) -> usize {
     room
 }
 
-/// Returns the room for names with their values.
+/// Returns the space for names with their values.
 fn pairs(pairs: &[(Text, Text)]) -> usize {
     let mut room = LINE;
     for pair in pairs {
@@ -52,7 +52,7 @@ fn files(files: &[(RelativePath, Bytes)]) -> usize {
     room
 }
 
-/// Returns the room for an input's value.
+/// Returns the space for an input's value.
 fn value(input: &Input) -> usize {
     match input {
         Input::File(path, bytes) => {
@@ -68,8 +68,7 @@ fn value(input: &Input) -> usize {
     }
 }
 
-/// Returns the room for inputs, each with a line for its kind and one for whether its text is
-/// there.
+/// Returns the space for inputs. Each has a line for its kind, and one that says if its text is there.
 fn inputs(inputs: &[Input]) -> usize {
     let mut room = LINE;
     for input in inputs {
@@ -78,7 +77,7 @@ fn inputs(inputs: &[Input]) -> usize {
     room
 }
 
-/// Returns the room for needed units with their files.
+/// Returns the space for needed units with their files.
 fn copies(copies: &[(Text, Items<(RelativePath, Bytes)>)]) -> usize {
     let mut room = LINE;
     for copy in copies {
@@ -88,7 +87,7 @@ fn copies(copies: &[(Text, Items<(RelativePath, Bytes)>)]) -> usize {
     room
 }
 
-/// Returns the room for needed units with their numbers, and for the record's own number.
+/// Returns the space for needed units with their numbers, and for the record's own number.
 fn numbers(needs: &[(Text, u64)]) -> usize {
     let mut room = LINE + LINE;
     for need in needs {
@@ -99,7 +98,7 @@ fn numbers(needs: &[(Text, u64)]) -> usize {
     room
 }
 
-/// Returns the room for a request.
+/// Returns the space for a request.
 fn asked(asked: &RecordedCommand) -> usize {
     block(asked.program.as_bytes().len())
         .saturating_add(texts(asked.words.as_slice()))
@@ -111,7 +110,7 @@ fn asked(asked: &RecordedCommand) -> usize {
         .saturating_add(paths(asked.reads.as_slice()))
 }
 
-/// Returns the room for the needed units.
+/// Returns the space for the needed units.
 fn needed(needed: &Needed) -> usize {
     match needed {
         Needed::Copies(those) => copies(those.as_slice()),
@@ -119,7 +118,7 @@ fn needed(needed: &Needed) -> usize {
     }
 }
 
-/// Returns the room for a record, with its first and its last line.
+/// Returns the space for a record, with its first and its last line.
 pub(crate) fn room_for(kept: &Record) -> usize {
     block(kept.key.as_bytes().len())
         .saturating_add(asked(&kept.asked))

@@ -44,7 +44,7 @@ fn finish<P: Place>(
 ) -> Result<Ended, StepFault>
     requires flies { is_flying launched.now.ticket (P.at place.old).counts.starts.flying ≡ true }
 
-    // This states how the child ended and what it left.
+    // This clause states how the child ended and what it left.
     ensures ended { IsTrue P.is_modelled → MatchResult result
         (λ ended. HasEnded launched.now.ticket (Ok ended) (IsOk result)
         ((P.at place.old).still launched.now.ticket) (P.at place.old).world (P.at place.new).world
@@ -229,8 +229,8 @@ fn land<P: Place>(
     }
 }
 
-/// Answers a unit without a child, from whose record nothing differs. It judges what the record
-/// replays, and gives the record a run number if it has none. A record with a number is not read.
+/// Answers a unit without a child, from whose record nothing differs. What the record replays is
+/// judged, and the record gets a run number if it has none. A record with a number is not read.
 /// Only the unit's record changes.
 fn reuse<P: Place>(
     alloc: Global,

@@ -1,5 +1,5 @@
-//! One unit of a build: how it begins, how its child's answer is judged, and what it leaves. It
-//! also exports the flight table, which determines when each unit begins and answers.
+//! One unit of a build: how it begins, how its child's answer is judged, and what it leaves. The
+//! flight table, which determines when each unit begins and answers, is also exported.
 #![tactic(auto)]
 
 pub mod begun;

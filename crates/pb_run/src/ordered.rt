@@ -5,8 +5,8 @@ use pb_data::Text;
 use pb_unit::Planned;
 use std::marker::Model;
 
-/// A project that is in order: its workspace is settled, its plan is a plan of that workspace, and
-/// the units' folders are apart by their keys. Contracts see the project.
+/// A project that is in order. Its workspace is settled, and its plan is a plan of that workspace.
+/// The units' folders are apart by their keys. Contracts see the project.
 #[derive(Drop)]
 pub struct OrderedProject {
     inside: Project,

@@ -63,11 +63,11 @@ fn command(
 
 /// Begins the unit at an index of the plan.
 ///
-/// It first compares the unit with its record. If nothing differs, it changes nothing. If something
-/// differs and a run number is left, it takes the number and makes three calls, in this order: it
-/// removes the record, empties the output folder, and spawns the unit's child. It does not read the
-/// records of needed units, because the store has their numbers. `done` contains, for each unit of
-/// the plan, the directives of its build script's run, if it has answered.
+/// The unit is first compared with its record. If nothing differs, nothing is changed. If something
+/// differs and a run number is left, the number is taken and three calls are made. They remove the
+/// record, empty the output folder, and spawn the unit's child, in this order. The records of
+/// needed units are not read, because the store has their numbers. `done` contains, for each unit
+/// of the plan, the directives of its build script's run, if it has answered.
 ///
 /// Errors: each but `OutOfMemory` has the unit's key. If a call of the place failed, it was the
 /// last. After any error no new child is in flight, and the store may lack the numbers of its
@@ -79,12 +79,12 @@ fn command(
 /// - `OutOfMemory`.
 ///
 /// Clauses and fields with the premise `P.is_modelled` are about a place whose files and variables
-/// contracts know. They say nothing about a real machine. The world that contracts see there is
+/// contracts know, and say nothing about a real machine. The world that contracts see there is
 /// constant, so what `changes` says about files is empty. What the contract says about calls,
-/// starts, children in flight, errors and run numbers is true there too.
+/// starts, children in flight, errors and run numbers is true there, too.
 ///
-/// `build` is about a build that satisfies `BuildInvariant` and one of its units that satisfies
-/// `CanBegin`: this unit has not begun, and all that it reaches has answered and is good.
+/// `build` is about a build that satisfies `BuildInvariant`, and about one of its units that
+/// satisfies `CanBegin`. This unit has not begun, and all that it reaches has answered and is good.
 #[tactic(auto, using(crate::proofs::Naming::naming_laws))]
 pub fn begin_unit<P: Place>(
     alloc: Global,
@@ -101,14 +101,14 @@ pub fn begin_unit<P: Place>(
     requires numbers { IsTrue P.is_modelled →
         HasNumbers (records store.old.folder (P.at place.old).world) store.old.numbers }
 
-    // The unit has a child if `begin_unit` reports a difference, which is the first one. Else it
-    // carries what its record replays.
+    // The unit has a child if `begin_unit` reports a difference, which is the first one. Otherwise
+    // the unit has what its record replays.
     ensures begins { IfOk result (BeginsUnit P.is_modelled P.child project.now unit.now
         (command_of setup.now project.now unit.now done.now) store.old store.new
         (P.at place.old) (P.at place.new)) }
 
-    // The error is this unit's or out of memory. It comes from the comparison or, if something
-    // differs, the launch.
+    // The error is this unit's, or out of memory. Its cause is a call of the comparison or, if
+    // something differs, of the launch.
     ensures named { IfErr result (IsOfUnit unit.now.key) }
     ensures fails { IfErr (bare result) (FailsToBegin P.is_modelled project.now unit.now
         (command_of setup.now project.now unit.now done.now) (P.at place.old) (P.at place.new)) }
@@ -169,7 +169,7 @@ pub fn begin_unit<P: Place>(
     }
 }
 
-/// Returns the outcome of a unit: what came of it, its message lines, and its difference.
+/// Returns the outcome of a unit, with its message lines and its difference.
 fn told(
     alloc: Global,
     project: &OrderedProject,
@@ -193,10 +193,10 @@ fn told(
 
 /// Answers the unit at an index of the plan that has begun, and makes its message lines.
 ///
-/// If the unit has a child, this waits for the child's end, reads its dep-info, judges the answer,
-/// and keeps the record if the answer is good. Else it judges the answer that the record replays,
-/// and gives a record of format 1 a run number. A record names the needed units by the numbers that
-/// the store has.
+/// If the unit has a child, the child's end is awaited, its dep-info is read, and the answer is
+/// judged. The record is kept if the answer is good. Without a child, the answer that the record
+/// replays is judged, and a record of format 1 gets a run number. A record names the needed units
+/// by the numbers that the store has.
 ///
 /// Whatever it returns, the unit's child is no longer in flight, and the other children stay in
 /// flight. The child's end changes only files inside the unit's folder, and the calls after it
@@ -311,7 +311,7 @@ pub fn run_unit<P: Place>(
     requires numbers { IsTrue P.is_modelled →
         HasNumbers (records store.old.folder (P.at place.old).world) store.old.numbers }
 
-    // It could not begin; or it began, and then answered.
+    // Either the unit could not begin, or it began and then answered.
     ensures halves { RunsUnit P.at P.is_modelled P.child setup.now project.now done.now index
         unit.now
         (bare result) store.old store.new place.old place.new }

@@ -65,8 +65,8 @@ pub trait Executor<P, O, F, E> {
             × stops e None first first_place first_out self.new place.new out.new
             (Began unit spawned ∷ es)) };
 
-    /// Takes the answer of the unit at an index of those in flight.
-    /// It is no longer in flight then, even after a fault.
+    /// Takes the answer of the unit at an index of those in flight. Afterwards this unit is no
+    /// longer in flight, even after a fault.
     fn answer(
         &mut self,
         alloc: Global,

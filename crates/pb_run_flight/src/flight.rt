@@ -115,8 +115,8 @@ fn ends_badly<F>(states: &[State<F>], count: usize) -> bool
     }
 }
 
-/// Returns whether the unit at an index may begin, if no unit before it has answered
-/// and is bad; `None` if it has answered and is bad itself, or does not exist.
+/// Returns whether the unit at an index may begin, if no unit before it has answered and is bad.
+/// The result is `None` if the unit itself has answered and is bad, or does not exist.
 fn may_begin<F>(
     needs: &[Items<usize>],
     met: &[usize],
@@ -344,9 +344,8 @@ impl<F: Drop> Flight<F> {
         first_bad(self.states.as_slice())
     }
 
-    /// Returns the units that may begin, in plan order: those that have
-    /// not begun and whose needs have all answered and are good, as
-    /// long as no unit earlier in plan order has answered and is bad.
+    /// Returns the units that may begin, in plan order. They have not begun, and all their needs
+    /// have answered and are good. No unit before them in plan order has answered and is bad.
     ///
     /// Errors: out of memory.
     pub fn ready(&self, alloc: Global) -> Result<Vec<usize>, AllocError>
@@ -362,7 +361,7 @@ impl<F: Drop> Flight<F> {
         )
     }
 
-    /// Notes that a unit has begun. It is one of the units that may begin. This uses no memory.
+    /// Notes that a unit has begun, which is one of the units that may begin. No memory is used.
     pub fn begin(&mut self, unit: usize)
         requires ready { Contains (ready_of self.old.needs self.old.states) unit }
         ensures { self.new ≡ begun unit self.old }
@@ -386,8 +385,8 @@ impl<F: Drop> Flight<F> {
         self.reach = reach;
     }
 
-    /// Returns the lines that are due now and have not been handed out: those of the units that
-    /// have answered, from the start of plan order, up to and including the first bad one.
+    /// Returns the lines that are due now and have not been handed out. Lines are due of the units
+    /// that have answered, from the start of plan order, up to and including the first bad unit.
     ///
     /// Errors: out of memory; then nothing has been handed out, and
     /// the next call returns these lines too.

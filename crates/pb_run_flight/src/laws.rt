@@ -9,14 +9,14 @@ pub fn ready_is_exact<F>()
     ensures { ReadyIsExact F }
 {}
 
-/// After lawful events, a unit that may begin or has begun reaches only units
-/// that have answered and are good; so it reads nothing of a unit in flight.
+/// After lawful events, a unit that may begin or has begun reaches only units that have answered
+/// and are good. So the unit reads nothing of a unit in flight.
 pub fn reached_is_good<F>()
     ensures { ReachedIsGood F }
 {}
 
-/// After each call that hands out, the lines handed out in all are those of the units that
-/// have answered, from the start of plan order, up to and including the first bad one.
+/// After each call that hands out lines, all lines handed out are those of the units that have
+/// answered. They count from the start of plan order, up to and including the first bad unit.
 pub fn hands_out_all_due<F>()
     ensures { HandsOutAllDue F }
 {}

@@ -1,6 +1,6 @@
-//! The flight table of a build: which units may begin, which are in flight,
-//! and which lines are due. It knows no place and no compiler: a unit is a
-//! number, and what it answers is a fault, if there is one, and bytes.
+//! The flight table of a build: which units may begin, which are in flight, and which lines are
+//! due. The table knows no place and no compiler. A unit is a number, and its answer is a fault, if
+//! there is one, and bytes.
 #![tactic(auto)]
 
 mod driving;

@@ -14,21 +14,21 @@ pub enum Step {
     Answer(usize),
 }
 
-/// Decides each step of a build. It may have a state, which each step may change.
+/// Decides each step of a build. A turn may have a state, which each step may change.
 pub trait Turn {
     /// How its state, the two lists, the step and its new state are related.
     ghost turns: { Self → List ℕ → List ℕ → Step → Self → Type 0 };
 
-    /// Returns the next step. `ready` are the units that may begin, in plan order;
-    /// `flying` those that have begun and not answered, in order of beginning; not
-    /// both are empty. The step names an item of its list. This uses no memory.
+    /// Returns the next step. `ready` are the units that may begin, in plan order. `flying` are
+    /// those that have begun and not answered, in the order in which they began. At least one of
+    /// the two lists has a unit. The step names an item of its list. No memory is used.
     fn turn(&mut self, ready: &[usize], flying: &[usize]) -> Step
         requires some { 0 < length ready.now + length flying.now }
         ensures turned { turns self.old ready.now flying.now result self.new }
         ensures within { IsWithin (length ready.now) (length flying.now) result };
 }
 
-/// Decides which unit begins. It may have a state, which each call may change.
+/// Decides which unit begins. A pick may have a state, which each call may change.
 pub trait Pick {
     /// How its state, the list, the answer and its new state are related.
     ghost picks: { Self → List ℕ → ℕ → Self → Type 0 };

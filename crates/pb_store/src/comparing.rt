@@ -30,10 +30,10 @@ fn is_same_file(file: &(RelativePath, Bytes), other: &(RelativePath, Bytes)) -> 
         && file.1.as_slice() == other.1.as_slice()
 }
 
-/// The comparison of some files with the recorded ones, so far.
+/// The comparison of some files with the recorded files, so far.
 #[derive(Drop)]
 struct Matching<'a> {
-    /// Whether all files so far are equal to the recorded ones.
+    /// Whether all files so far are equal to the recorded files.
     same: bool,
     /// The recorded files that are left.
     left: &'a [(RelativePath, Bytes)],
@@ -62,9 +62,9 @@ fn outcome(matching: &Matching<'_>) -> bool
     matching.same && matching.left.is_empty()
 }
 
-/// Returns whether the files at these paths, with their paths relative to a folder, are the
-/// recorded ones. It has one file in memory at a time. It also reads the files after the first that
-/// differs.
+/// Returns whether the files at these paths, with their paths inside a folder, are the recorded
+/// files. Only one file is in memory at a time. The files after the first that differs are read,
+/// too.
 fn are_files_at<P: Place>(
     alloc: Global,
     place: &mut P,
@@ -92,8 +92,8 @@ fn are_files_at<P: Place>(
     Ok(outcome(&matching))
 }
 
-/// Returns whether the sources below a folder, with their paths relative to it and in byte order,
-/// are the recorded ones.
+/// Returns whether the sources below a folder, with their paths inside it and in byte order, are
+/// the recorded files.
 #[tactic(auto, using(crate::proofs::Present::sources_in, crate::proofs::Firsts::files_same))]
 fn are_sources<P: Place>(
     alloc: Global,
@@ -118,8 +118,8 @@ fn are_sources<P: Place>(
     }
 }
 
-/// Returns whether the files below a folder, with their paths relative to it and in byte order, are
-/// the recorded ones.
+/// Returns whether the files below a folder, with their paths inside it and in byte order, are the
+/// recorded files.
 #[tactic(auto, using(crate::proofs::Present::files_in_it, crate::proofs::Firsts::files_same))]
 pub(crate) fn are_files<P: Place>(
     alloc: Global,
@@ -221,8 +221,7 @@ fn is_value_present<P: Place>(
     }
 }
 
-/// Returns whether an input has its present value. It looks at nothing at or below the target
-/// folder.
+/// Returns whether an input has its present value. Nothing at or below the target folder is looked at.
 pub(crate) fn is_present<P: Place>(
     alloc: Global,
     place: &mut P,

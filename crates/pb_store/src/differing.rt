@@ -217,8 +217,8 @@ fn first_from<P: Place>(
 
 impl Store {
     /// Returns the first difference between a unit and its record, for a command that would build
-    /// it again. If nothing differs, it returns the recorded answer. It reads and compares each
-    /// input in turn, up to the first that differs. It does not read the records of needed units,
+    /// it again. If nothing differs, the recorded answer is returned. Each input is read and
+    /// compared in turn, up to the first that differs. The records of needed units are not read,
     /// because the store has their run numbers. When a unit is built again is our own rule.
     ///
     /// Errors: `Place` if a file or a variable cannot be read, or a folder cannot be listed;
@@ -235,7 +235,7 @@ impl Store {
         ensures compares { IsTrue P.is_modelled →
             IfOk result (Compares self.now.folder key.now command.now (P.at place.old).world) }
 
-        // It only looks, and no further than the first difference.
+        // The call only looks, and no further than the first difference.
         ensures quiet { OnlyLooks MayLook result (P.at place.old) (P.at place.new) }
         ensures looks { IsTrue P.is_modelled →
             Looks result (unit_looked self.now.folder key.now command.now (P.at place.old).world)
@@ -261,8 +261,8 @@ impl Store {
         }
     }
 
-    /// Returns the first difference between a unit and its record, or none. It makes the same calls
-    /// as `compare`.
+    /// Returns the first difference between a unit and its record, or none. The calls are those of
+    /// `compare`.
     ///
     /// Errors: those of `compare`.
     pub fn differs<P: Place>(
@@ -278,7 +278,7 @@ impl Store {
             IfOk result
             (FirstDifference self.now.folder key.now command.now (P.at place.old).world) }
 
-        // It only looks, and no further than the first difference.
+        // The call only looks, and no further than the first difference.
         ensures quiet { OnlyLooks MayLook result (P.at place.old) (P.at place.new) }
         ensures looks { IsTrue P.is_modelled →
             Looks result (unit_looked self.now.folder key.now command.now (P.at place.old).world)

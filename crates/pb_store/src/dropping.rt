@@ -16,7 +16,7 @@ use crate::store::{Store, place_path};
 use pb_place_types::{PathText, Place};
 use std::alloc::Global;
 
-/// Returns the number after this one, or none if no number is left.
+/// Returns the number after this number, or none if no number is left.
 pub(crate) fn number_after(number: u64) -> Option<u64>
     ensures { result ≡ after number }
 {
@@ -87,7 +87,7 @@ impl Store {
         requires numbers { IsTrue P.is_modelled →
             HasNumbers (records self.old.folder (P.at place.old).world) self.old.numbers }
 
-        // It returns the number that was next. After an error that number is still the next.
+        // The call returns the number that was next. After an error that number is still the next.
         ensures number { MatchResult result (λ number. IsGiven number self.old.next self.new.next)
             (λ e. self.new.next ≡ self.old.next) }
         ensures folder { self.new.folder ≡ self.old.folder }

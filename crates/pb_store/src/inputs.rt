@@ -19,8 +19,8 @@ use pb_place_types::{PathText, Place, RelativePath};
 use pb_record::{Input, InputName};
 use std::alloc::Global;
 
-/// Returns the bytes of a file of the sources, or none if there is no file. If the path is at or
-/// below the target folder, it returns none without a call.
+/// Returns the bytes of a file of the sources, or none if there is no file. For a path at or below
+/// the target folder the result is none, and no call is made.
 #[tactic(auto, using(crate::proofs::Present::source_laws))]
 pub(crate) fn source_at<P: Place>(
     alloc: Global,
@@ -45,8 +45,8 @@ pub(crate) fn source_at<P: Place>(
     }
 }
 
-/// Returns the file at a path, with its path relative to a folder. It returns none if the path is
-/// not below the folder, or if there is no file.
+/// Returns the file at a path, with its path inside a folder. The result is none if the path is not
+/// below the folder, or if there is no file.
 pub(crate) fn file_at<P: Place>(
     alloc: Global,
     place: &mut P,
@@ -237,8 +237,8 @@ fn value_now<P: Place>(
     }
 }
 
-/// Returns the input of this name with its present value. It looks at nothing at or below the
-/// target folder.
+/// Returns the input of this name with its present value. Nothing at or below the target folder is
+/// looked at.
 fn input_now<P: Place>(
     alloc: Global,
     place: &mut P,

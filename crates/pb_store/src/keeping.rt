@@ -89,8 +89,8 @@ pub(crate) fn put_record<P: Place>(
     }
 }
 
-/// Returns the request of a command. It requires that the command writes into the unit's folder and
-/// that its variables are sorted.
+/// Returns the request of a command. The command must write into the unit's folder, and its
+/// variables must be sorted.
 #[tactic(auto, using(crate::proofs::Earned::asked_laws))]
 fn asked_of(
     alloc: Global,
@@ -188,7 +188,7 @@ fn kept_now<P: Place>(
         Looks result (names_looked command.now.target (P.at place.old).world names.now)
         (P.at place.old).counts (P.at place.new).counts }
 {
-    // The values are read before the write, so that the record contains the present ones.
+    // The values are read before the write, so that the record contains the present values.
     let inputs = present(alloc, place, &command.target, names)?;
     let numbers = match numbered(alloc, numbers, needs) {
         Ok(numbers) => numbers,
@@ -216,8 +216,8 @@ fn watch<P: Place>(
     }
 }
 
-/// Returns whether all that the child of a command read stood still since the spawn: these inputs,
-/// and what units wrote into the folders that the command reads.
+/// Returns whether all that the child of a command read stood still since the spawn. This is about
+/// these inputs, and about what units wrote into the folders that the command reads.
 fn stood_still<P: Place>(
     alloc: Global,
     place: &mut P,
@@ -233,8 +233,8 @@ fn stood_still<P: Place>(
     Ok(place.stood_still(command))
 }
 
-/// Writes a record, unless something that the child of its command read has moved. It looks for
-/// this after it has made the record: what changes later differs from the recorded values.
+/// Writes a record, unless something that the child of its command read has moved. The look for
+/// this comes after the record is made: what changes later differs from the recorded values.
 fn put_still<P: Place>(
     alloc: Global,
     place: &mut P,
@@ -277,8 +277,8 @@ impl Store {
     /// each name once.
     ///
     /// If something that the child read has moved since it was spawned (`Place::watch`), no record
-    /// is written, because the child may not have read the present values. That never happens at a
-    /// modelled place.
+    /// is written. The child may not have read the present values then. At a modelled place nothing
+    /// moves.
     pub fn keep<P: Place>(
         &mut self,
         alloc: Global,

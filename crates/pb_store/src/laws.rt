@@ -10,16 +10,18 @@ pub fn differences_are_one()
     ensures { DifferencesAreOne }
 {}
 
-/// States a fact of the name that `differs` returns for two rows of variables, each sorted by name.
-/// It is the first name, in byte order, at which the rows differ. At this name only one row has a
-/// text, or their texts differ. At each lesser name both have the same text, or neither has one.
+/// States a fact about the name that `differs` returns for two rows of variables, each sorted by
+/// name. The name is the first, in byte order, at which the rows differ. At this name only one row
+/// has a text, or their texts differ. At each lesser name both have the same text, or neither has
+/// one.
 pub fn first_name_is_first()
     ensures { FirstNameIsFirst }
 {}
 
 /// States that the tests that determine how far `differs` looks decide the facts that make a
-/// difference. These are the present value of an input, the files of a needed unit that a record
-/// names by its files, and each part and variable of a command.
+/// difference. These facts are the present value of an input, and each part and variable of a
+/// command. The files of a needed unit are such a fact, too, if the record names the unit by its
+/// files.
 pub fn tests_decide()
     ensures { TestsDecide }
 {}

@@ -147,8 +147,8 @@ fn greatest_at<P: Place>(
     read_greatest(alloc, place, folder, numbers, path)
 }
 
-/// Returns the greatest number that the records among these files have or name. It notes the
-/// numbers of the records that count.
+/// Returns the greatest number that the records among these files have or name. The numbers of the
+/// records that count are noted.
 fn greatest_of<P: Place>(
     alloc: Global,
     place: &mut P,
@@ -176,10 +176,10 @@ fn greatest_of<P: Place>(
 }
 
 impl Store {
-    /// Returns the store of a profile folder. It reads each record directly in the folder once. A
+    /// Returns the store of a profile folder. Each record directly in the folder is read once. A
     /// text that is no record does not count. The next run number is one above the greatest number
     /// that a record contains, even a record at the path of another key. If no record contains a
-    /// number, it is 1.
+    /// number, the next is 1.
     ///
     /// Errors: `Place` with the path, if the folder cannot be listed or a record cannot be read;
     /// `OutOfMemory`.
@@ -192,7 +192,7 @@ impl Store {
         ensures opens { IsTrue P.is_modelled →
             IfOk result (OpensStore folder (P.at place.old).world) }
 
-        // It only lists the folder and reads each record. An error contains the path.
+        // The call only lists the folder and reads each record. An error contains the path.
         ensures quiet { OnlyOpens result (P.at place.old) (P.at place.new) }
         ensures told { IfErr result (OpensBy P.is_modelled folder (P.at place.old).world) }
         ensures looks { IsTrue P.is_modelled →

@@ -27,7 +27,7 @@ pub enum Compared {
     Same(Replayed),
 }
 
-/// Returns what a record replays. It consumes the record, so that the streams are not copied.
+/// Returns what a record replays. The record is consumed, so that the streams are not copied.
 pub(crate) fn again(kept: Record) -> Replayed
     ensures { result ≡ replayed kept }
 {

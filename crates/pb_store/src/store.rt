@@ -19,9 +19,9 @@ use std::alloc::{AllocError, Global};
 pub struct Store {
     /// The profile folder.
     pub folder: PathText,
-    /// The next run number. It is above each number that a record of the folder has or names, and
-    /// above each number that was taken since the store was opened. It is none if no number is
-    /// left.
+    /// The next run number, which is above each number that a record of the folder has or names.
+    /// Each number that was taken since the store was opened is below it, too. Without a number
+    /// left, there is no next number.
     pub next: Option<u64>,
     /// The run numbers of the records that count in the folder, by the units' keys. After a failed
     /// removal or write of a record, contracts promise nothing about them.

@@ -8,9 +8,9 @@ ghost use Rattle.pb_store_soundness.specs.Numbers.{NumberWaitsLaw, StaysAheadLaw
 ghost use Rattle.pb_store_soundness.specs.Reuse.{GroundsLaw, ReuseLaw, RenewLaw, SparesLaw, PutGroundsLaw};
 
 /// A profile folder stays sound if each record is gone, is unchanged, or is a true one with a
-/// number of its own. So it does after a change outside it; after a change in the output folder of
-/// a unit without a record that counts; if a record is removed or no longer counts; and if a true
-/// record is written.
+/// number of its own. A change outside the folder keeps it sound, and so does a change in the
+/// output folder of a unit for which no record counts. A record may be removed or may no longer
+/// count, and a true record may be written.
 pub fn soundness_stays()
     ensures stays { StaysSound }
     ensures outside { OutsideLaw }
@@ -19,10 +19,10 @@ pub fn soundness_stays()
     ensures put { PutLaw }
 {}
 
-/// If nothing differs, and all that the command reads is grounded, the unit is grounded, and its
-/// record and its folder are what its child would answer. A record of an honest child's reply may
-/// replace whatever was there. Grounded units stay grounded if a unit that they do not reach is
-/// built again.
+/// If nothing differs, and all that the command reads is grounded, the unit is grounded. Then the
+/// unit's record and its folder are what its child would answer. A record of an honest child's
+/// reply may replace whatever was there. Grounded units stay grounded if a unit that they do not
+/// reach is built again.
 pub fn records_are_reused()
     ensures grounds { GroundsLaw }
     ensures reuse { ReuseLaw }
@@ -31,8 +31,8 @@ pub fn records_are_reused()
     ensures put_grounds { PutGroundsLaw }
 {}
 
-/// What other units do while a unit's child is in flight changes neither what the child sees, nor
-/// the unit's record and files.
+/// While a unit's child is in flight, other units do not change what the child sees. The unit's
+/// record and files stay unchanged, too.
 pub fn others_stay_apart()
     ensures others { OthersLaw }
     ensures waits { NumberWaitsLaw }

@@ -28,9 +28,9 @@ pub enum Invocation {
     Explain(Text),
     /// The plan of a build of these options, in a form. Nothing is built.
     Plan { options: Options, form: PlanForm },
-    /// The removal of what builds with these options made. It removes their packages, or all
-    /// packages if the options name none. It does so under their profile if the options name one,
-    /// else under all profiles.
+    /// The removal of what builds with these options made. Only their packages are removed, or all
+    /// packages if the options name none. Only the profile that the options name counts, or all
+    /// profiles if they name none.
     Clean { options: Options, one_profile: bool },
 }
 

@@ -112,7 +112,8 @@ fn number_in(text: &str) -> Option<u64>
     text.parse::<u64>().ok()
 }
 
-/// Returns the value of `--jobs`; the number of processors for `default`; 1 if it was not given.
+/// Returns the value of `--jobs`: the given number, or the number of processors for `default`.
+/// Without the option this is 1.
 ///
 /// Errors: `Wrong`, if the value is neither a number nor `default`.
 pub(crate) fn jobs_of(

@@ -27,8 +27,8 @@ pub enum CleanFault {
     Nothing(Wanted, PathText),
     /// The folder of the profile has no name.
     NoSuchProfile,
-    /// A call of the place failed. It has the path or the name that was passed to the call, and the
-    /// reason.
+    /// A call of the place failed. The fault has the path or the name that was passed to the call,
+    /// and the reason.
     Call(Text, PlaceFault),
     /// Memory ran out.
     OutOfMemory,

@@ -202,9 +202,9 @@ fn remove<P: Place>(
     go_on(alloc, place, choice, first)
 }
 
-/// Lists the folders of the profiles of a target folder now, and removes the chosen part of the
-/// list, and nothing else: records first, then the folders of units. If all is chosen and only its
-/// tag is left of the target folder, the whole folder is removed.
+/// Lists the folders of the profiles of a target folder now, and removes exactly the chosen part of
+/// the list. Records are removed first, and then the folders of units. If all is chosen and only
+/// its tag is left of the target folder, the whole folder is removed.
 ///
 /// Errors: `Call`, with the path of the call that failed; `OutOfMemory`. What it removed before the
 /// error stays removed.

@@ -47,8 +47,8 @@ fn variable<P: Place>(alloc: Global, place: &mut P) -> Result<Option<Text>, Clea
     }
 }
 
-/// Returns the path that a text means, from the root if it is relative; the other path if there is
-/// no text, or if the text has byte 0.
+/// Returns the path that a text means; a relative text starts at the root. If there is no text, or
+/// it has byte 0, this is the other path.
 fn told_or(
     alloc: Global,
     root: &PathText,
@@ -92,8 +92,8 @@ fn target_by(
     told_or(alloc, &root, other, &options.target_dir)
 }
 
-/// Returns the target folder of a build of these options: what `--target-dir` says, else what the
-/// variable `CARGO_TARGET_DIR` says, else `target` in the folder of the manifest.
+/// Returns the target folder of a build of these options. This is what `--target-dir` says, or else
+/// what the variable `CARGO_TARGET_DIR` says, or else `target` in the folder of the manifest.
 ///
 /// Errors: `Call`, with the variable's name; `OutOfMemory`.
 pub fn target_of<P: Place>(

@@ -7,7 +7,7 @@ use pb_place_types::{PathFault, PathText};
 use std::alloc::{AllocError, Global};
 use toml::{Table, Value};
 
-/// Why a manifest is asked for.
+/// Why a manifest is requested.
 #[derive(Clone, Copy, PartialEq, Eq)]
 pub enum Role {
     /// `--manifest-path` names it, or the current folder.
@@ -18,7 +18,7 @@ pub enum Role {
     Entry,
 }
 
-/// The fact that a manifest is asked for.
+/// The fact that a manifest is requested.
 #[derive(Drop)]
 pub struct Ask {
     /// Why.
@@ -33,7 +33,7 @@ pub struct Ask {
     pub name: Text,
     /// What its version must match; empty if nothing is written.
     pub version: Text,
-    /// The path of the manifest that is asked for.
+    /// The path of the manifest that is requested.
     pub path: PathText,
 }
 

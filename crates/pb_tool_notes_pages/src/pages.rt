@@ -101,8 +101,7 @@ fn path_of(alloc: Global, pages: &Pages, number: usize) -> Result<Option<PathTex
     }
 }
 
-/// Reads the manifests that are asked for, one after another, and those for which these manifests
-/// ask.
+/// Reads the requested manifests, one after another, and those that these manifests request.
 fn read_all<P: Place>(alloc: Global, place: &mut P, pages: &mut Pages) -> Result<(), PlaceFault>
     ensures { LooksAgain (P.at place.old) (P.at place.new) }
 {

@@ -51,7 +51,7 @@ fn tell_requested(
     Ok(())
 }
 
-/// Returns whether the manifest of a folder that is named in the root is asked for.
+/// Returns whether the manifest of a folder that is named in the root is requested.
 fn is_known(alloc: Global, asks: &[Ask], root: &PathText, written: &str) -> bool {
     match root.join(alloc, written) {
         Ok(folder) => match folder.join(alloc, "Cargo.toml") {

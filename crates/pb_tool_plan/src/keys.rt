@@ -5,7 +5,7 @@ ghost use Rattle.pb_tool_plan.specs.Texts.{key_at};
 
 use pb_unit::Planned;
 
-/// Returns the key of the unit at an index; empty if there is no such unit.
+/// Returns the key of the unit at an index, or the empty text if there is no unit.
 pub(crate) fn key_at(units: &[Planned], place: usize) -> &str
     ensures { result.now ≡ key_at units.now place }
 {

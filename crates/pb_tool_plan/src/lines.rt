@@ -55,8 +55,8 @@ fn unit_lines(alloc: Global, units: &[Planned]) -> Result<String, AllocError>
     Ok(text)
 }
 
-/// Returns a plan in lines. For each unit, in plan order, the line has its key, then a colon and
-/// the keys of what it needs, if it needs something.
+/// Returns a plan in lines, one for each unit, in plan order. The line has the unit's key. If the
+/// unit needs something, a colon and the keys of what it needs follow.
 ///
 /// Errors: out of memory.
 pub fn plan_lines(alloc: Global, plan: &Plan) -> Result<String, AllocError>

@@ -20,7 +20,7 @@ use pb_store::Store;
 use pb_unit::Planned;
 use std::alloc::{AllocError, Global};
 
-/// Returns the fate of the unit at an index of the plan, and the unit's directives. They follow
+/// Returns the fate of the unit at an index of the plan, and the unit's directives. Both follow
 /// from the fates and the directives of the units before it.
 fn fate_of<P: Place>(
     alloc: Global,
@@ -72,9 +72,9 @@ fn append(
 
 /// Returns what a build would do with each unit of a prepared build, in plan order.
 ///
-/// If all that a unit reaches is kept, it compares the unit with its record, as a build does when
-/// the unit begins. It reads what the comparison reads and, if nothing differs, the unit's
-/// dep-info. It starts no child and changes nothing.
+/// If all that a unit reaches is kept, the unit is compared with its record, as a build compares it
+/// when it begins. What the comparison reads is read and, if nothing differs, the unit's dep-info.
+/// No child is started, and nothing is changed.
 ///
 /// Errors: `Device` with a unit's key, if a file, a folder or a variable cannot be read;
 /// `OutOfMemory`.

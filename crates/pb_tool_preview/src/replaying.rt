@@ -60,8 +60,8 @@ fn fate_of(ran: Ran) -> (Fate, Option<Directives>)
     }
 }
 
-/// Returns the fate of a unit whose record replays this end of a child, and its directives. It
-/// reads the unit's dep-info, if it has one.
+/// Returns the fate of a unit whose record replays this end of a child, and its directives. The
+/// unit's dep-info is read, if it has one.
 pub(crate) fn replayed<P: Place>(
     alloc: Global,
     place: &mut P,

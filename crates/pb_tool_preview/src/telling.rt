@@ -33,7 +33,7 @@ fn is_unreached(fate: &Fate) -> bool
     matches!(fate, Fate::Unreached(_))
 }
 
-/// Returns the key of the unit at an index; it is empty if there is no such unit.
+/// Returns the key of the unit at an index, or the empty text if there is no unit.
 fn key_at(units: &[Planned], index: usize) -> &str
     ensures { result.now ≡ key_at units.now index }
 {
@@ -212,10 +212,10 @@ fn counts_line(alloc: Global, fates: &[Fate]) -> Result<String, AllocError>
     counts_text(alloc, started, kept, waiting, unreached)
 }
 
-/// Returns what a build would do with units of these fates: in plan order, a line for each unit
-/// that is not kept, with its key and the reason. Five or more units with the same text have one
-/// line together. Then come the numbers of units that would be started, kept, and so on. Each line
-/// ends with a line feed. The words are our own choice.
+/// Returns what a build would do with units of these fates. Each unit that is not kept has a line,
+/// in plan order, with its key and the reason. Five or more units with the same text have one line
+/// together. Then come the numbers of units that would be started, kept, and so on. Each line ends
+/// with a line feed. The words are our own choice.
 ///
 /// Errors: out of memory.
 pub fn preview_lines(alloc: Global, units: &[Planned], fates: &[Fate]) -> Result<String, AllocError>

@@ -43,8 +43,8 @@ fn ends_badly(fate: Option<&Fate>) -> bool
     }
 }
 
-/// Returns the fate of a unit that reaches a unit that is not kept. The first such unit is at this
-/// index.
+/// Returns the fate of a unit that reaches a unit that is not kept. The first unit that is not kept
+/// is at this index.
 pub(crate) fn waits_for(fates: &[Fate], index: usize) -> Fate
     ensures { result ≡ waits_for fates.now index }
 {

@@ -122,9 +122,9 @@ fn error_of(alloc: Global, answer: &Result<Summary, BuildFault>) -> Result<Strin
     Ok(line)
 }
 
-/// Writes which packages that are depended on have no library, by the build's plan. It writes
-/// nothing if there are none, or if there is no plan: the build then reports why. If memory runs
-/// out, it writes a line that needs no memory.
+/// Writes which packages that are depended on have no library, by the build's plan. Nothing is
+/// written if there are none, or if there is no plan: the build then reports why. If memory runs
+/// out, a line is written that needs no memory.
 pub(crate) fn note<E: Out>(alloc: Global, err: &mut E, plan: &Result<BuildPlan, BuildFault>)
     ensures { NotesOf plan.now (E.heard err.old) (E.heard err.new) }
 {
@@ -214,8 +214,8 @@ fn units_if(explain: bool, plan: &Result<BuildPlan, BuildFault>) -> Option<usize
     }
 }
 
-/// Writes why a build of so many units started what it started, if it ended without a fault and
-/// that is requested. If memory runs out for that, it writes a line that needs no memory.
+/// Writes why a build of n units started children, if the build ended without a fault and reasons
+/// are requested. If memory runs out for the reasons, a line is written that needs no memory.
 fn explain_to<E: Out>(
     alloc: Global,
     err: &mut E,
@@ -353,11 +353,11 @@ pub(crate) fn conclude<E: Out>(
 /// - The notes of a second look.
 /// - For a build that failed or was refused, `error: ` and its result line.
 ///
-/// Between the plan and the query of the compiler's version, the guard is asked for the target
-/// folder. If another build has it, a line on `err` says so, and this build waits.
+/// Between the plan and the query of the compiler's version, the target folder is requested from
+/// the guard. If another build has it, a line on `err` says so, and this build waits.
 ///
-/// If the status line is on, it shows each unit that begins. It changes nothing else, and the
-/// contract says nothing about it.
+/// If the status line is on, it shows each unit that begins. The status line changes nothing else,
+/// and the contract says nothing about it.
 pub fn build_options<P: Place + Reporting, G: Guard<P, E>, O: Out, E: Out, L: Out>(
     alloc: Global,
     place: &mut P,

@@ -16,8 +16,8 @@ use std::{fs, io};
 /// A folder that does not exist is made. A folder that cannot be made or locked is not guarded: the
 /// build goes on, and reports itself what is wrong with the folder.
 ///
-/// The locked folder is the one to which the path leads once the lock is taken: if another folder
-/// replaced it meanwhile, that one is locked.
+/// The locked folder is the one to which the path leads once the lock is taken. If another folder
+/// replaced the first meanwhile, that other folder is locked.
 ///
 /// A locked and empty folder gets the tag of a target folder, `CACHEDIR.TAG`, so that programs do
 /// not back it up, and builds do not take it for sources. The tag of another program gets one more

@@ -18,8 +18,8 @@ pub trait Guard<P: Place, E: Out> {
     /// and the guard after.
     ghost waits: { Self → Counts → SinkState → Self → Type 0 };
 
-    /// Requests a folder, takes it if it is free, and returns whether another build has it. A
-    /// folder that cannot be guarded counts as free.
+    /// Requests a folder, takes it if it is free, and returns whether another build has the folder.
+    /// A folder that cannot be guarded counts as free.
     fn is_taken(&mut self, place: &P, err: &E, folder: &PathText) -> bool
         ensures { asks self.old folder.now (P.at place.now).counts
             (E.heard err.now) result self.new };

@@ -7,8 +7,8 @@ ghost use Rattle.pb_tool_program.specs.Shown.{ShownChangesNothing};
 use crate::guard::Guard;
 use pb_tool_screen::{Coloring, Screen, Speaking};
 
-/// Whatever is shown of a build beside its lines, its status, its lines, the children that it
-/// starts and the files that it leaves are those of the build alone.
+/// Whatever is shown of a build beside its lines, the build itself is the same. Its status, its
+/// lines, the children that it starts and the files that it leaves do not change.
 pub fn shown_changes_nothing<P: Speaking, G: Guard<P, E>, O: Screen, E: Coloring>()
     ensures { ShownChangesNothing P.is_modelled P.child (Guarded G.asks G.waits)
         (IsTold P.speaks O.shows E.colors) }

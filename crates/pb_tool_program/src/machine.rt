@@ -74,8 +74,9 @@ fn say_counts(rt: &HostRuntime, counted: Counted, start: Instant) -> io::Result<
 /// Does what the arguments of this process request, over its files, variables and children, and
 /// returns the exit status.
 ///
-/// The status is that of `run`; 1 if an argument is not UTF-8; 101 if the current folder is
-/// unknown, or memory runs out for these. Each reason is written to standard error.
+/// The status is that of `run`. If an argument is not UTF-8, the status is 1. If the current folder
+/// is unknown, or memory runs out for these, the status is 101. Each reason is written to standard
+/// error.
 pub fn tool(rt: &HostRuntime) -> u8 {
     let words = match words(rt) {
         Ok(words) => words,

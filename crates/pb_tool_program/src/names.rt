@@ -23,7 +23,7 @@ fn near_told(alloc: Global, near: Option<&str>) -> Result<String, AllocError>
     Ok(text)
 }
 
-/// Returns the line that a page has no such name, with its most similar name.
+/// Returns the line that says that a page lacks this name, with the page's most similar name.
 fn no_such_name(alloc: Global, page: &Page, name: &str) -> Result<String, AllocError>
     ensures { IfOk result
         (λ text. string_bytes text ≡ no_such_name (near_in page.now name.now) name.now) }
@@ -37,7 +37,7 @@ fn no_such_name(alloc: Global, page: &Page, name: &str) -> Result<String, AllocE
     Ok(text)
 }
 
-/// Writes that a page has no such name, or that memory ran out for that, and returns the status.
+/// Writes that a page lacks this name, or that memory ran out for that, and returns the status.
 fn miss<E: Out>(alloc: Global, page: &Page, name: &str, err: &mut E) -> u8
     ensures { Unmeant (near_in page.now name.now) name.now result
         (E.heard err.old) (E.heard err.new) }

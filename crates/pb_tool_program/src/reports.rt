@@ -10,8 +10,8 @@ use pb_place_host::Reporting;
 use pb_place_types::{Out, write_all};
 use std::alloc::{AllocError, Global};
 
-/// Returns what a place reports of a build that ended with a fault of the outside; nothing for any
-/// other end. It makes no call of the outside.
+/// Returns what a place reports of a build that ended with a fault of the outside. After any other
+/// end this is nothing. No call of the outside is made.
 pub(crate) fn reported<'p, P: Reporting>(
     place: &'p P,
     answer: &Result<Summary, BuildFault>,

@@ -73,7 +73,7 @@ fn counts_line(
     Ok(text)
 }
 
-/// Returns whether what differed first is the text that children are told as `CARGO`.
+/// Returns whether the first difference is in the text that children get as `CARGO`.
 fn is_tool(difference: &Difference) -> bool
     ensures { result ≡ is_tool difference.now }
 {

@@ -20,7 +20,7 @@ fn padded(alloc: Global, number: usize, widest: usize) -> Result<String, AllocEr
     Ok(text)
 }
 
-/// Returns the line of a unit that begins, as `[ 66/300] util.target.lib`. It erases the line
+/// Returns the line of a unit that begins, as `[ 66/300] util.target.lib`. The line erases the line
 /// before it, and is cut after 79 letters.
 pub(crate) fn status_line(
     alloc: Global,

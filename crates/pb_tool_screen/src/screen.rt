@@ -23,10 +23,10 @@ pub trait Screen: Out {
         ensures heard { Self.heard self.new ≡ Self.heard self.old };
 }
 
-/// A sink over another sink, and passes on all that it receives. If lines are to be shown, it
-/// writes the text of each whole line to a third sink, as soon as the other sink has taken the
-/// line. If memory runs out for a line, it reports that the line is lost. The third sink may fail
-/// in any way.
+/// A sink over another sink, to which it passes on all that it receives. If lines are to be shown,
+/// the text of each whole line is also written to a third sink. This happens as soon as the other
+/// sink has taken the line. If memory runs out for a line, the loss is reported. The third sink may
+/// fail in any way.
 #[derive(Drop)]
 pub struct Rendered<O, S> {
     /// The sink that receives the lines.

@@ -29,9 +29,9 @@ pub trait Speaking: Place + Reporting {
         ensures at { IsUnchanged (Self.at self.old) (Self.at self.new) };
 }
 
-/// A place that does what another place does. If children are to be named, it writes a line to a
-/// sink before each child is started: the program and its arguments, as a shell takes them. That
-/// sink may fail in any way.
+/// A place that does what another place does. If children are to be named, a line is written to a
+/// sink before each child is started. The line has the program and its arguments, as a shell takes
+/// them. That sink may fail in any way.
 #[derive(Drop)]
 pub struct Spoken<P, S> {
     /// The place that makes the calls.
@@ -82,7 +82,7 @@ fn line_of(alloc: Global, command: &Command) -> Result<String, AllocError> {
     Ok(line)
 }
 
-/// Writes a text to a sink, and erases a status line there before, if that is asked for.
+/// Writes a text to a sink. A status line there is erased before, if that is requested.
 fn write_text<S: Out>(aside: &mut S, erases: bool, text: &[u8]) {
     if erases {
         let _ = write_all(aside, ERASE);

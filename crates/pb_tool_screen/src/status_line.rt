@@ -14,7 +14,7 @@ pub struct Counted {
 }
 
 /// A line that says which unit begins, and how many have begun. Each new text overwrites the old
-/// one. Its sink may fail in any way. It shows nothing until it is switched on.
+/// one. The line's sink may fail in any way. Nothing is shown until the line is switched on.
 #[derive(Drop)]
 pub struct StatusLine<S> {
     sink: S,

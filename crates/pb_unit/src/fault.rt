@@ -11,8 +11,8 @@ use thiserror::Error;
 /// Why there is no plan.
 #[derive(Debug, Drop, Error)]
 pub enum PlanFault {
-    /// Units need one another. It contains the names of the
-    /// packages whose units reach themselves, in byte order.
+    /// Units need one another. The fault contains the names of the packages whose units reach
+    /// themselves, in byte order.
     #[error("packages depend on one another")]
     Cycle(Items<Text>),
     /// There are more than 4,096 units.

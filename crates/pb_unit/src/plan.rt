@@ -60,8 +60,8 @@ pub struct Plan {
     pub without_library: Items<Text>,
 }
 
-/// Returns the workspace from which packages are selected. It
-/// looks at the selection for the facts that its type promises.
+/// Returns the workspace from which packages are selected. The facts that the selection's type
+/// promises are taken from the selection.
 fn workspace_of<'a>(selected: &'a SelectedWorkspace<'_>) -> &'a Workspace
     ensures value { result.now ≡ selected.now.workspace }
     ensures settled { IsSettled selected.now.workspace }
@@ -314,8 +314,8 @@ impl Plan {
         self.planned.as_slice()
     }
 
-    /// Returns the indices of what the unit at this index needs, in
-    /// plan order; nothing if there is no such unit. It uses no memory.
+    /// Returns the indices of what the unit at this index needs, in plan order, or none if there is
+    /// no unit. No memory is used.
     pub fn needs(&self, place: usize) -> &[usize]
         ensures { result.now ≡ needs_in (slice_get self.now.planned place) }
     {
@@ -325,8 +325,9 @@ impl Plan {
         }
     }
 
-    /// Returns the level of the unit at this index: 0 if it needs nothing, else one more than
-    /// the greatest level of what it needs; 0 if there is no such unit. It uses no memory.
+    /// Returns the level of the unit at this index. The level is 0 if the unit needs nothing, or
+    /// does not exist, and otherwise one more than the greatest level of what it needs. No memory
+    /// is used.
     pub fn level(&self, place: usize) -> usize
         ensures { result ≡ level_at self.now.planned place }
     {
@@ -336,8 +337,8 @@ impl Plan {
         }
     }
 
-    /// Returns the indices of all that the unit at this index reaches, in
-    /// plan order; nothing if there is no such unit. It uses no memory.
+    /// Returns the indices of all that the unit at this index reaches, in plan order, or none if
+    /// there is no unit. No memory is used.
     pub fn reaches(&self, place: usize) -> &[usize]
         ensures { result.now ≡ reaches_in (slice_get self.now.planned place) }
     {

@@ -91,9 +91,9 @@ fn push_what(text: &mut String, what: &What) -> Result<(), AllocError>
 }
 
 impl Unit {
-    /// Returns the key of the unit in folders, records and messages: `PACKAGE.SIDE.WHAT`,
-    /// where SIDE is `host` or `target`, and WHAT is `lib`, `bin-NAME`, `script` or `run`
-    /// (our own choice). The workspace is that of the plan.
+    /// Returns the key of the unit in folders, records and messages: `PACKAGE.SIDE.WHAT`. SIDE is
+    /// `host` or `target`, and WHAT is `lib`, `bin-NAME`, `script` or `run` (our own choice). The
+    /// workspace is that of the plan.
     ///
     /// Errors: out of memory.
     pub fn key(&self, alloc: Global, workspace: &Workspace) -> Result<Text, AllocError>
@@ -108,9 +108,9 @@ impl Unit {
         Ok(Text::new(text))
     }
 
-    /// Returns the role of its settings: that of the host for a build script
-    /// and for all that is made for the host, else that of the target (The
-    /// Cargo Book, Profiles). A run of a script has the role of its side.
+    /// Returns the role of the unit's settings (The Cargo Book, Profiles). A build script, and all
+    /// that is made for the host, has the host's role. Any other unit has the target's role. A run
+    /// of a script has the role of its side.
     pub fn role(&self) -> Side
         ensures { result ≡ role_of self.now }
     {

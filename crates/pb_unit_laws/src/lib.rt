@@ -46,7 +46,7 @@ pub fn packages_are_at_fault()
     ensures { PackagesAreAtFault }
 {}
 
-/// A law: the kinds of units; the role and the folder of a unit; the directives of a run.
+/// A law: which kinds of units there are, which role and folder a unit has, and which directives a run has.
 pub fn kinds_are_these()
     ensures kinds { KindsAreThese }
     ensures roles { RolesAreThese }
@@ -59,7 +59,7 @@ pub fn settings_are_these()
     ensures { SettingsAreThese }
 {}
 
-/// A law: the level above some units; the name of the package at an index; and whether this package
+/// A law: the level above some units, the name of the package at an index, and whether this package
 /// has a library.
 pub fn levels_are_these()
     ensures levels { LevelsAreThese }

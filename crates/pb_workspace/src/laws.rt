@@ -10,15 +10,15 @@ pub fn rounds_are_enough()
     ensures { FuelIsEnough }
 {}
 
-/// A glob matches a name if and only if its signs do: `*` any text, `?` one character, every other
-/// byte itself (The Cargo Book, Workspaces).
+/// A glob matches a name if and only if its signs do. `*` matches any text, `?` one character, and
+/// every other byte itself (The Cargo Book, Workspaces).
 pub fn globs_stand_for_names()
     ensures { DecidesGlobs }
 {}
 
-/// An accepted workspace has no two packages with the same name. It has the target folder for which
-/// it was read, and the folder of its manifest as its root. The contract of `load` has the other
-/// promises.
+/// An accepted workspace has no two packages with the same name. Its target folder is the one for
+/// which it was read, and its root is the folder of its manifest. The contract of `load` has the
+/// other promises.
 pub fn workspaces_are_settled()
     ensures names { NamesDiffer }
     ensures target { HasTarget }

@@ -266,10 +266,10 @@ fn workspace_in<P: Place>(
 /// Reads the workspace of a root manifest (The Cargo Book, Workspaces, Manifest Format, Specifying
 /// Dependencies).
 ///
-/// It reads the root package first, then the members in byte order of their folders, then the
-/// packages to which path dependencies lead, in rounds, each in that order. It reads no package
-/// twice, and looks at nothing at or below the target folder. It starts no child process and
-/// changes no file.
+/// The root package is read first, and then the members in byte order of their folders. Then the
+/// packages to which path dependencies lead are read, in rounds, each in that order. No package is
+/// read twice, and nothing at or below the target folder is looked at. No child process is started,
+/// and no file is changed.
 ///
 /// Errors, of which the first that occurs is returned:
 /// - `NoManifest`: the file does not exist, is not named `Cargo.toml`, or is at or below the target

@@ -112,8 +112,8 @@ fn go_further(alloc: Global, parts: &mut Vec<Part>, part: &str) -> Result<(), Al
 }
 
 /// Returns the parts that a folder must match for a text of `members` or `default-members` to mean
-/// it. These are the parts of the root folder, which match only themselves, and then those of the
-/// text, walked as in a path.
+/// it. The parts of the root folder, which match only themselves, come first. Then come those of
+/// the text, walked as in a path.
 ///
 /// Errors: out of memory only.
 pub fn parts_meant(

@@ -218,7 +218,7 @@ fn led_to<P: Place>(
     Ok(led)
 }
 
-/// Returns `/` as a list. Its text is a path, so only memory can run out.
+/// Returns `/` as a list. The text is a path, so only memory can run out.
 ///
 /// Errors: out of memory only.
 fn root_alone(alloc: Global) -> Result<Items<PathText>, AllocError>
@@ -278,9 +278,9 @@ fn with_manifests<P: Place>(
     Ok(taken)
 }
 
-/// Returns the folders that a glob means: those to which its parts lead from `/`, that `exclude`
-/// does not leave out, and that have a manifest. At and below folders that `exclude` leaves out it makes no call
-/// (our own choice).
+/// Returns the folders that a glob means. Its parts lead to them from `/`, `exclude` does not leave
+/// them out, and they have a manifest. At and below folders that `exclude` leaves out no call is
+/// made (our own choice).
 ///
 /// Errors: those of `one_step`; those of `has_manifest`.
 fn folders_taken<P: Place>(
@@ -375,10 +375,10 @@ fn folders_of_texts<P: Place>(
 /// Returns the folders that `members` means, in byte order without repeats (The Cargo Book,
 /// Workspaces).
 ///
-/// These are the folders that are written out, and those with a manifest that a glob matches and
-/// `exclude` does not leave out. A glob never matches a folder at or below the target folder. It looks
-/// only where its parts lead: `crates/*` lists the folders in `crates`, and nothing below them (our
-/// own choice).
+/// A text without a sign means the folder that is written out. A glob means the folders with a
+/// manifest that it matches and that `exclude` does not leave out. A glob never matches a folder at
+/// or below the target folder. Only folders to which its parts lead are looked at: `crates/*` lists
+/// the folders in `crates`, and nothing below them (our own choice).
 ///
 /// Errors: `Place`, if a call failed, with its path; `OutOfMemory`.
 pub fn member_folders<P: Place>(

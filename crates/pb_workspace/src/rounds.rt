@@ -79,7 +79,7 @@ fn read_found(alloc: Global, path: &PathText, found: Option<Bytes>) -> Result<Ma
     }
 }
 
-/// Returns the manifest at a path. It reads at most one byte more than a manifest may have.
+/// Returns the manifest at a path. At most one byte more than a manifest may have is read.
 ///
 /// Errors: `NoManifest`, if the path is no file of the sources; `Manifest`, if the reader refuses
 /// it; `Place`, if the read failed; `OutOfMemory`.

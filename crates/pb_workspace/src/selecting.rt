@@ -259,8 +259,8 @@ fn selection_of(
 /// `default-members`; else the root package; else all members. Their indices are in ascending order
 /// without repeats, and the type guarantees that each is one of the workspace's packages.
 ///
-/// The features are the texts between the commas and spaces of `--features`, in order, without
-/// empty ones.
+/// The features are the texts between the commas and spaces of `--features`, in order; empty texts
+/// are left out.
 ///
 /// Errors: `NoSuchPackage`, if `-p` names no member, or if `default-members` decides and lists a
 /// folder that is no member; `OutOfMemory`.

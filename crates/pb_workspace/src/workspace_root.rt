@@ -105,10 +105,10 @@ pub fn frame_of(
     }
 }
 
-/// Returns whether the package of a folder is a member. The root package is one. In a workspace,
-/// the folders that `members` means are members, too, and so are those inside the root folder that
-/// are not excluded (The Cargo Book, Workspaces). It does not matter which package has the path
-/// dependency that leads there (our own choice).
+/// Returns whether the package of a folder is a member. The root package is a member. In a
+/// workspace, each folder that `members` means is a member. So is each folder inside the root
+/// folder that is not excluded (The Cargo Book, Workspaces). The package whose path dependency
+/// leads there does not matter (our own choice).
 ///
 /// Errors: out of memory only.
 pub fn is_member(

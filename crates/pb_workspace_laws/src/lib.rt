@@ -18,8 +18,8 @@ pub fn workspaces_are_read()
     ensures { WorkspacesAreRead }
 {}
 
-/// A law: there is only one such workspace, so the first law determines all of a workspace that was
-/// read.
+/// A law: there is only one workspace as the first law describes, so the first law determines all
+/// of a workspace that was read.
 pub fn workspaces_are_one()
     ensures { WorkspacesAreOne }
 {}
@@ -31,7 +31,7 @@ pub fn all_are_settled()
 {}
 
 /// A law: which folders a text of `members` means, if the files of the sources have normalised
-/// absolute paths; and how a path is spelled relative to a folder.
+/// absolute paths. The law also says how a path is spelled relative to a folder.
 pub fn folders_are_meant()
     ensures meant { TextsMeanFolders }
     ensures parts { PartsMatchNames }

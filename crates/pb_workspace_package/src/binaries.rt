@@ -203,9 +203,9 @@ fn values_of(alloc: Global, entries: Items<(Text, Binary)>) -> Result<Items<Bina
     Ok(binaries)
 }
 
-/// Returns the binaries of a package, in byte order of their names, each once: the found ones and
-/// the written ones. If two found ones have one name, the later counts. A written one replaces a
-/// found one of its name.
+/// Returns the binaries of a package, in byte order of their names, each once: those that were
+/// found and those that are written. If two found binaries have one name, the later counts. A
+/// written binary replaces a found binary of its name.
 ///
 /// Errors: out of memory.
 pub fn binaries_of(

@@ -16,9 +16,9 @@ use pb_place_types::PathText;
 use pb_workspace_types::Library;
 use std::alloc::{AllocError, Global};
 
-/// Returns the README of a package that names none: the first of
-/// `README.md`, `README.txt` and `README` that is a file of its folder (The
-/// Cargo Book, Manifest Format). If none is, it returns the empty text.
+/// Returns the README of a package that names none. This is the first of `README.md`, `README.txt`
+/// and `README` that is a file of the package's folder (The Cargo Book, Manifest Format). If none
+/// is, the result is the empty text.
 ///
 /// Errors: out of memory.
 pub fn found_readme(
@@ -41,9 +41,9 @@ pub fn found_readme(
     Text::from_str(alloc, "")
 }
 
-/// Returns the source of a package's build script, if it has one (The
-/// Cargo Book, Build Scripts): `build.rs` if that is a file, unless
-/// `build` says otherwise. A path that `build` writes is taken as it is.
+/// Returns the source of a package's build script, if it has one (The Cargo Book, Build Scripts).
+/// This is `build.rs` if that is a file, unless `build` says otherwise. A path that `build` writes
+/// is taken as it is.
 ///
 /// Errors: out of memory.
 pub fn script_of(
@@ -147,8 +147,8 @@ fn found_library(
     }))
 }
 
-/// Returns the library of a package of this name, if it has one (The Cargo
-/// Book, Cargo Targets): that of `[lib]`, or `src/lib.rs`, if that is a file.
+/// Returns the library of a package of this name, if it has one (The Cargo Book, Cargo Targets).
+/// This is the library of `[lib]`, or `src/lib.rs`, if that is a file.
 ///
 /// Errors: out of memory.
 #[tactic(auto, using(crate::proofs::Naming::library_laws))]

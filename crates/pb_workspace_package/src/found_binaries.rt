@@ -174,9 +174,9 @@ fn binaries_from(
     Ok(binaries)
 }
 
-/// Returns the binaries that a package's folder has (The Cargo Book, Cargo
-/// Targets), in this order: of `src/bin/NAME/main.rs`, of
-/// `src/bin/NAME.rs`, and of `src/main.rs`, which is named as the package.
+/// Returns the binaries that a package's folder has (The Cargo Book, Cargo Targets). Those of
+/// `src/bin/NAME/main.rs` come first, then those of `src/bin/NAME.rs`. That of `src/main.rs` is the
+/// last, and is named as the package.
 ///
 /// If two have the same name, the later one counts. NAME has the letters
 /// of a package's name. What is at or below the target folder is left out.

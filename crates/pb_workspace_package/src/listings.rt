@@ -19,7 +19,7 @@ use pb_place_types::{PathText, Place};
 use pb_workspace_types::LoadFault;
 use std::alloc::{AllocError, Global};
 
-/// What a package's folder has. These two lists decide all that is found there.
+/// What a package's folder has. Nothing but these two lists decides what is found there.
 #[derive(Drop)]
 pub struct Listings {
     /// The files at fixed paths, in the order in which the place is asked about them.
@@ -37,8 +37,8 @@ pub fn bin_folder(alloc: Global, folder: &PathText) -> Result<PathText, AllocErr
     own_path(alloc, folder, "src/bin")
 }
 
-/// Returns whether a package's folder has a file at a fixed path.
-/// It does not ask about one at or below the target folder.
+/// Returns whether a package's folder has a file at a fixed path. The place is not asked about a
+/// file at or below the target folder.
 ///
 /// Errors: `Place`, if the call failed, with its path; `OutOfMemory`.
 fn is_there<P: Place>(
@@ -59,8 +59,8 @@ fn is_there<P: Place>(
     is_source(alloc, place, target, &path)
 }
 
-/// Returns the files at fixed paths that a package's folder has. It asks
-/// about each of them in turn, but about none at or below the target folder.
+/// Returns the files at fixed paths that a package's folder has. The place is asked about each of
+/// these files in turn, but about none at or below the target folder.
 ///
 /// Errors: `Place`, if a call failed, with its path; `OutOfMemory`.
 fn files_there<P: Place>(
@@ -85,8 +85,8 @@ fn files_there<P: Place>(
     Ok(own)
 }
 
-/// Returns what a package's folder has. It asks about each file at a fixed path,
-/// and then lists `src/bin`. It looks at nothing at or below the target folder.
+/// Returns what a package's folder has. The place is asked about each file at a fixed path, and
+/// then `src/bin` is listed. Nothing at or below the target folder is looked at.
 ///
 /// Errors: `Place`, if a call failed, with its path; `OutOfMemory`.
 pub fn listings_of<P: Place>(

@@ -26,8 +26,8 @@ pub fn failed(path: PathText, fault: PlaceFault) -> LoadFault
     }
 }
 
-/// Returns the first bytes of the file at a path, at most `most`, if it is
-/// one of the sources. It does not read a path at or below the target folder.
+/// Returns the first bytes of the file at a path, at most `most`, if the file is one of the
+/// sources. A path at or below the target folder is not read.
 ///
 /// Errors: `Place`, if the read failed, with its path; `OutOfMemory`.
 #[tactic(auto, using(crate::proofs::SourceLemmas::source_laws))]
@@ -55,8 +55,8 @@ pub fn source<P: Place>(
     }
 }
 
-/// Returns whether a file of the sources is at a path. It does
-/// not ask about a path at or below the target folder.
+/// Returns whether a file of the sources is at a path. The place is not asked about a path at or
+/// below the target folder.
 ///
 /// Errors: `Place`, if the call failed, with its path; `OutOfMemory`.
 #[tactic(auto, using(crate::proofs::SourceLemmas::asking_laws))]
@@ -83,8 +83,8 @@ pub fn is_source<P: Place>(
     }
 }
 
-/// Returns the files of the sources below a folder, in byte
-/// order. It looks at nothing at or below the target folder.
+/// Returns the files of the sources below a folder, in byte order. Nothing at or below the target
+/// folder is looked at.
 ///
 /// Errors: `Place`, if the listing failed, with its path; `OutOfMemory`.
 #[tactic(auto, using(crate::proofs::SourceLemmas::listing_laws))]
@@ -111,8 +111,8 @@ pub fn listed_sources<P: Place>(
     }
 }
 
-/// Returns the folders directly in a folder that contain sources, each
-/// once. It does not list a folder at or below the target folder.
+/// Returns the folders directly in a folder that contain sources, each once. A folder at or below
+/// the target folder is not listed.
 ///
 /// Errors: `Place`, if the listing failed, with its path; `OutOfMemory`.
 #[tactic(auto, using(crate::proofs::SourceLemmas::listing_laws))]

@@ -202,9 +202,9 @@ fn readme_of(
     }
 }
 
-/// Returns what a package says about itself to people. `given` is what
-/// its workspace gives it, `found` the README of its folder. A path that
-/// is taken from the workspace becomes a path from the package's folder.
+/// Returns what a package says about itself to people. `given` is what its workspace offers, and
+/// `found` is the README of its folder. A path that is taken from the workspace becomes a path from
+/// the package's folder.
 ///
 /// Errors: `NoInherited`, if a key is taken from a workspace that does not have it.
 pub fn about_of(

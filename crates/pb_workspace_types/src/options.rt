@@ -28,8 +28,8 @@ pub struct Options {
     pub bin: Items<Text>,
     /// `--target-dir`. A relative folder starts at the workspace's root (our own choice).
     pub target_dir: Option<Text>,
-    /// A program and its arguments, which are written before the path of a build script. If it is
-    /// empty, the script is started directly.
+    /// A program and its arguments, which are written before the path of a build script. If there
+    /// is no program, the script is started directly.
     pub runner: Items<Text>,
     /// The value of a child's variable `CARGO`: the builder's path as it was called (our own
     /// choice).

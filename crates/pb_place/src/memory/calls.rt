@@ -51,8 +51,8 @@ impl<C> Memory<C> {
         self.tally.count(call, Err(own))
     }
 
-    /// Counts a write for which memory ran out before it changed anything. If it was to fail, the
-    /// fuse stays.
+    /// Counts a write for which memory ran out before it changed anything. If this write was to
+    /// fail, the fuse stays.
     fn refuse(&mut self)
         ensures { self.new ≡ record self.old {
           tally = past_call self.old.tally;
