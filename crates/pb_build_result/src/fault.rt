@@ -46,10 +46,10 @@ pub enum BuildFault {
     /// The compiler does not report its version. The query `-vV` ended with a status other than 0,
     /// or wrote more than 4,194,304 bytes to a stream. Or its standard output is not UTF-8, or has
     /// no line `host: TRIPLE`.
-    #[error("the compiler does not say its host")]
+    #[error("the compiler did not report its version and host")]
     Toolchain,
     /// A child gave no answer. The name is `-vV` for the query, else the unit's key.
-    #[error("the child of `{}` gave no answer: {}", .unit.as_str(), .fault)]
+    #[error("`{}` gave no answer: {}", .unit.as_str(), .fault)]
     Child { unit: Text, fault: StartFault },
     /// A call on files or variables failed, or no run number is left. The name is the
     /// unit's key, or the variable's name or the path that was passed to the call.

@@ -13,24 +13,24 @@ use thiserror::Error;
 #[derive(Debug, Drop, Error)]
 pub enum UnitFault {
     /// The child ended with this status, which is not 0.
-    #[error("the child ended with status {}", .0)]
+    #[error("the child process ended with status {}", .0)]
     Status(i32),
     /// A line of a build script's output has a fault.
-    #[error("a line of the script's output is refused: {}", .0)]
+    #[error("the script's output is refused: {}", .0)]
     Directive(LineFault),
     /// The compiler left no dep-info, one that cannot be read, or one over 4,194,304 bytes.
-    #[error("no dep-info that can be read")]
+    #[error("the compiler left no dep-info that can be read")]
     NoDepInfo,
     /// A path at or below the target folder is named as an input. The path is in no folder of a
     /// unit that this unit reaches.
-    #[error("`{}` lies in the target folder", .0.as_str())]
+    #[error("the input `{}` is in the target folder", .0.as_str())]
     ForeignInput(PathText),
     /// A stream of the child is over 4,194,304 bytes (our own choice).
-    #[error("a stream is too long")]
+    #[error("the child process wrote more to a stream than it may")]
     OutputTooLong,
     /// A build script ended with status 0 and printed a line `cargo::error` (The Cargo Book, Build
     /// Scripts).
-    #[error("the script told of an error")]
+    #[error("the build script reported an error")]
     ScriptError,
     /// Memory ran out.
     #[error("out of memory")]

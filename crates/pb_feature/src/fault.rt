@@ -11,13 +11,13 @@ use thiserror::Error;
 pub enum FeatureFault {
     /// An item names a feature that its package does not have; or no selected package has
     /// a requested feature; or a feature is requested of a package that does not have it.
-    #[error("there is no such feature")]
+    #[error("a requested feature does not exist")]
     NoSuchFeature,
     /// An item names a dependency that its package does not have.
-    #[error("there is no such dependency")]
+    #[error("a feature names a dependency that does not exist")]
     NoSuchDependency,
     /// An item `dep:N` or `N?/F` names a dependency that is not optional.
-    #[error("the dependency is not optional")]
+    #[error("a feature names a dependency that is not optional")]
     NotOptional,
     /// Memory ran out.
     #[error("out of memory")]

@@ -21,33 +21,33 @@ pub enum ManifestFault {
     /// A value outside `[profile]` has the wrong type, is not an allowed value, or is a path with
     /// byte 0. The key is the rule's; for an entry of a table of dependencies or features, it is
     /// that table's.
-    #[error("`{}` has a value that it may not have", .0.name())]
+    #[error("`{}` has a value that is not allowed", .0.name())]
     BadKind(Key),
     /// The name of a package, a binary or a dependency is missing, or such a name or a library's
     /// has invalid letters.
-    #[error("a name is missing or has letters that it may not have")]
+    #[error("a name is missing or has letters that are not allowed")]
     BadName,
     /// A version or a version requirement is not one of Semantic Versioning.
     #[error("a version or a version requirement cannot be read")]
     BadVersion,
     /// The manifest has a table `target`, `patch` or `replace`. Our own choice.
-    #[error("a table is not supported")]
+    #[error("`target`, `patch` and `replace` are not supported")]
     UnsupportedTable,
     /// A dependency has `git` or `registry`, or no path. Our own choice.
-    #[error("a dependency has a source that is not supported")]
+    #[error("a dependency has a source other than `path`")]
     UnsupportedSource,
     /// A library has a crate type other than `lib`, `rlib` and `bin`. Our own choice.
-    #[error("a crate type is not supported")]
+    #[error("the library has a crate type that is not supported")]
     UnsupportedCrateType,
     /// A value in `[profile]` is not allowed for its key. Or a custom profile has no `inherits`,
     /// has invalid letters in its name, or is called `debug`.
-    #[error("a profile cannot be read")]
+    #[error("a profile has a name or a value that is not allowed, or has no `inherits`")]
     BadProfile,
     /// A feature's name has invalid letters, or an item has none of the forms.
-    #[error("a feature cannot be read")]
+    #[error("a feature has a name or an item that is not allowed")]
     BadFeature,
     /// The manifest has more than 1,048,576 bytes. Our own choice.
-    #[error("the manifest is too large")]
+    #[error("the manifest is longer than a manifest may be")]
     TooLarge,
     /// `[package]` or `[workspace]` requests resolver 1. Our own choice.
     #[error("resolver 1 is not supported")]

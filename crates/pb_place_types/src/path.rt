@@ -21,7 +21,7 @@ pub enum PathFault {
     #[error("the path is not absolute")]
     NotAbsolute,
     /// The text contains byte 0, which no file system allows in a name.
-    #[error("the path has byte 0")]
+    #[error("the path contains byte 0")]
     BadByte,
     /// Out of memory.
     #[error("out of memory")]

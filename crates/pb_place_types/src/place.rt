@@ -51,10 +51,10 @@ pub enum StartFault {
     #[error("the program cannot be started")]
     CannotStart,
     /// The child ended without a status.
-    #[error("the child died")]
+    #[error("the child process ended without a status")]
     Died,
     /// The child's output could not be captured.
-    #[error("the child's output could not be taken in")]
+    #[error("the output of the child process could not be read")]
     Capture,
     /// Out of memory. The outside did not fail.
     #[error("out of memory")]

@@ -10,14 +10,14 @@ use thiserror::Error;
 #[derive(Clone, Copy, Debug, PartialEq, Eq, Error)]
 pub enum ProfileFault {
     /// The requested profile, or one that it inherits from, is neither built in nor written.
-    #[error("there is no such profile")]
+    #[error("a requested profile does not exist")]
     NoSuchProfile,
     /// The requested profile leads to profiles that inherit from one another.
     #[error("profiles inherit from one another")]
     InheritsCycle,
     /// An override of the requested profile, or of one that it inherits from, sets `panic`, `lto`
     /// or `rpath`.
-    #[error("an override sets a key that it may not set")]
+    #[error("an override in a profile sets `panic`, `lto` or `rpath`")]
     NotInOverride,
     /// Out of memory.
     #[error("out of memory")]

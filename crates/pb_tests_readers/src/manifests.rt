@@ -173,28 +173,40 @@ static FAULTS_IN_WORDS: &[(ManifestFault, &str)] = &[
     (ManifestFault::NotToml, "the manifest is not TOML"),
     (
         ManifestFault::BadKind(Key::OfProfile(ProfileKey::CodegenUnits)),
-        "`codegen-units` has a value that it may not have",
+        "`codegen-units` has a value that is not allowed",
     ),
     (
         ManifestFault::BadName,
-        "a name is missing or has letters that it may not have",
+        "a name is missing or has letters that are not allowed",
     ),
     (
         ManifestFault::BadVersion,
         "a version or a version requirement cannot be read",
     ),
-    (ManifestFault::UnsupportedTable, "a table is not supported"),
+    (
+        ManifestFault::UnsupportedTable,
+        "`target`, `patch` and `replace` are not supported",
+    ),
     (
         ManifestFault::UnsupportedSource,
-        "a dependency has a source that is not supported",
+        "a dependency has a source other than `path`",
     ),
     (
         ManifestFault::UnsupportedCrateType,
-        "a crate type is not supported",
+        "the library has a crate type that is not supported",
     ),
-    (ManifestFault::BadProfile, "a profile cannot be read"),
-    (ManifestFault::BadFeature, "a feature cannot be read"),
-    (ManifestFault::TooLarge, "the manifest is too large"),
+    (
+        ManifestFault::BadProfile,
+        "a profile has a name or a value that is not allowed, or has no `inherits`",
+    ),
+    (
+        ManifestFault::BadFeature,
+        "a feature has a name or an item that is not allowed",
+    ),
+    (
+        ManifestFault::TooLarge,
+        "the manifest is longer than a manifest may be",
+    ),
     (ManifestFault::OldResolver, "resolver 1 is not supported"),
 ];
 

@@ -24,14 +24,23 @@ fn ending_reads(alloc: Global, ending: Ending, wanted: &str) -> Result<bool, Pat
 /// Faults of a build, and what they are in words.
 static BUILD_WORDS: &[(Ending, &str)] = &[
     (Ending::Plan("NothingToBuild"), "there is nothing to build"),
-    (Ending::Toolchain, "the compiler does not say its host"),
+    (
+        Ending::Toolchain,
+        "the compiler did not report its version and host",
+    ),
     (Ending::Sink, "the message lines cannot be written"),
     (Ending::OutOfMemory, "out of memory"),
-    (Ending::Load("NoManifest"), "no manifest at `/w/Cargo.toml`"),
-    (Ending::Load("NoInherited"), "a key is not there to inherit"),
+    (
+        Ending::Load("NoManifest"),
+        "no manifest can be read at `/w/Cargo.toml`",
+    ),
+    (
+        Ending::Load("NoInherited"),
+        "a package inherits a key or an entry that is not there",
+    ),
     (
         Ending::Manifest(ManifestFault::BadKind(Key::LicenseFile)),
-        "the manifest at `/w/m/Cargo.toml` is refused: `license-file` has a value that it may not have",
+        "`/w/m/Cargo.toml` is refused: `license-file` has a value that is not allowed",
     ),
 ];
 
@@ -43,18 +52,27 @@ fn bad_reads(alloc: Global, bad: Bad, wanted: &str) -> Result<bool, PathFault> {
 
 /// Faults of a unit, and what they are in words.
 static UNIT_WORDS: &[(Bad, &str)] = &[
-    (Bad::Named("ScriptError"), "the script told of an error"),
-    (Bad::Named("NoDepInfo"), "no dep-info that can be read"),
+    (
+        Bad::Named("ScriptError"),
+        "the build script reported an error",
+    ),
+    (
+        Bad::Named("NoDepInfo"),
+        "the compiler left no dep-info that can be read",
+    ),
     (
         Bad::Named("ForeignInput"),
-        "`/w/target/x` lies in the target folder",
+        "the input `/w/target/x` is in the target folder",
     ),
-    (Bad::Named("OutputTooLong"), "a stream is too long"),
+    (
+        Bad::Named("OutputTooLong"),
+        "the child process wrote more to a stream than it may",
+    ),
     (Bad::Named("OutOfMemory"), "out of memory"),
-    (Bad::Status(-1), "the child ended with status -1"),
+    (Bad::Status(-1), "the child process ended with status -1"),
     (
         Bad::Line(LineFault::BadValue(3)),
-        "a line of the script's output is refused: line 3 has a bad value",
+        "the script's output is refused: line 3 has a bad value",
     ),
 ];
 

@@ -13,40 +13,40 @@ use thiserror::Error;
 pub enum LoadFault {
     /// No manifest can be read at this path: no file is there, it is not named `Cargo.toml`, or it
     /// is at or below the target folder. The last two are our own choice.
-    #[error("no manifest at `{}`", .0.as_str())]
+    #[error("no manifest can be read at `{}`", .0.as_str())]
     NoManifest(PathText),
     /// The manifest at this path is refused.
-    #[error("the manifest at `{}` is refused: {}", .0.as_str(), .1)]
+    #[error("`{}` is refused: {}", .0.as_str(), .1)]
     Manifest(PathText, ManifestFault),
     /// Two packages have the same name.
-    #[error("two packages have one name")]
+    #[error("two packages have the same name")]
     SameName,
     /// A dependency leads to a package with another name.
-    #[error("a dependency leads to a package of another name")]
+    #[error("a dependency leads to a package with another name")]
     NameMismatch,
     /// A dependency leads to a package whose version does not match its requirement.
-    #[error("a dependency leads to a package of another version")]
+    #[error("a dependency leads to a package whose version does not match")]
     VersionMismatch,
     /// Two packages link the same native library.
-    #[error("two packages link one native library")]
+    #[error("two packages link the same native library")]
     LinksTwice,
     /// A package links a native library but has no build script.
-    #[error("a package links a native library and has no build script")]
+    #[error("a package links a native library but has no build script")]
     LinksWithoutScript,
     /// A package inherits a key or an entry that the workspace does not have, or is no member.
-    #[error("a key is not there to inherit")]
+    #[error("a package inherits a key or an entry that is not there")]
     NoInherited,
     /// There are more than 256 packages.
     #[error("there are more than 256 packages")]
     TooMany,
     /// A package has two `[[bin]]` with the same name.
-    #[error("a package has two binaries of one name")]
+    #[error("a package has two binaries with the same name")]
     SameBinary,
     /// A call on this path failed.
     #[error("a call on `{}` failed: {}", .0.as_str(), .1)]
     Place(PathText, PlaceFault),
     /// `-p` names a package that is no member, or `default-members` names a folder that is none.
-    #[error("a package is asked for that is no member")]
+    #[error("a requested package is not a member of the workspace")]
     NoSuchPackage,
     /// Out of memory.
     #[error("out of memory")]

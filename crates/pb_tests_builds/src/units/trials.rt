@@ -145,8 +145,8 @@ file /w/a/src/n one
 run 0
 ---
 nothing is kept of it
-`/w/a/src/n` has changed, but the child ended with status 1
-nothing is kept of it, but the child ended with status 1
+`/w/a/src/n` has changed, but the child process ended with status 1
+nothing is kept of it, but the child process ended with status 1
 nothing is kept of it
 === [records.differs] an inherited variable
 run 0
@@ -179,7 +179,7 @@ nothing is kept of it
 `/w/a/src/n` has changed
 same
 same
-`a.target.lib` was built anew
+`a.target.lib` was built again
 === [records.differs] a folder that a script has as its input
 run 0
 run 1
@@ -198,7 +198,7 @@ nothing is kept of it
 same
 same
 `/w/b` has changed
-`b.target.run` was built anew
+`b.target.run` was built again
 === [records.text] a record that is gone
 run 0
 gone /w/target/debug/a.target.lib.record
@@ -300,11 +300,11 @@ lines
 there /w/target/debug/a.target.lib.record
 run 0
 ---
-nothing is kept of it, but the child ended with status 1
+nothing is kept of it, but the child process ended with status 1
 {"reason":"compiler-message","package_id":"path+file:///w/a#0.0.0","manifest_path":"/w/a/Cargo.toml","target":{"kind":["lib"],"crate_types":["lib"],"name":"a","src_path":"/w/a/src/lib.rs","edition":"2015"},"message":{"level":"error","message":"no","line":1}}
 
 gone
-nothing is kept of it, but the child ended with status 1
+nothing is kept of it, but the child process ended with status 1
 === [answers.bad] a script that fails leaves no record
 file /w/b/build.rs exit 3
 run 1
@@ -313,16 +313,16 @@ there /w/target/debug/b.target.run.record
 run 2
 ---
 nothing is kept of it
-nothing is kept of it, but the child ended with status 3
+nothing is kept of it, but the child process ended with status 3
 gone
-nothing is kept of it, but the child ended with status 3
+nothing is kept of it, but the child process ended with status 3
 === [answers.bad] a script with a line that is refused
 file /w/b/build.rs print cargo::nope
 run 1
 run 2
 ---
 nothing is kept of it
-nothing is kept of it, but a line of the script's output is refused: line 1 has a bad value
+nothing is kept of it, but the script's output is refused: line 1 has a bad value
 === [build.faults] a call that fails, and no call after it
 fuse 1
 run 0
