@@ -21,8 +21,8 @@ use Rattle.pb_store_soundness.specs.Records.{RecordParser, ends_as_record, if_of
 use Rattle.pb_store_soundness.specs.Reuse.{number_if}
 use Rattle.pb_store_soundness.proofs.Places.{is_same, no_key, one_key, places_differ, record_same, text_at}
 use Rattle.pb_store.specs.Differences.{AreNeeded, FirstNeed, FirstOrAll, HasNumber, IsFirst}
-use Rattle.pb_store.specs.Folder.{HasNumbers, number_in, numbered, or_zero}
-use Rattle.pb_store.specs.Presence.{IsHeld, noted, noted_at, numbered_by}
+use Rattle.pb_store.specs.Folder.{HasNumbers, IsHeld, number_in, numbered, or_zero}
+use Rattle.pb_store.specs.Presence.{noted, noted_at, numbered_by}
 use Rattle.pb_store.proofs.Ahead.{place_ends, place_listed}
 use Rattle.pb_store.proofs.Earned.{contains_cases, contains_none}
 

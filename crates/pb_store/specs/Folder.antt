@@ -34,6 +34,10 @@ use Rattle.pb_store.specs.declared.store.Store.{Store}
 abbrev pub number_in : List (List ℕ × Option ℕ) → List ℕ → Option ℕ
 number_in table key = option_and_then (λ (number : Option ℕ). number) (value_at key table)
 
+-- the table has for the needed unit the number that is named with it
+abbrev pub IsHeld : List (List ℕ × Option ℕ) → (List ℕ × ℕ) → Type 0
+IsHeld table need = number_in table need.0 ≡ Some need.1
+
 -- the table has, for each key, the run number of the record that counts for the key, if there is one
 abbrev pub HasNumbers : RecordMap → List (List ℕ × Option ℕ) → Type 0
 HasNumbers at table = (key : List ℕ) → number_in table key ≡ number_if (at key)

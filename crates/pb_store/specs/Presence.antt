@@ -1,6 +1,6 @@
 -- How the files below a folder are read one by one, and how the numbers of records are collected
 -- and looked up. Only private functions need these definitions.
-use Rattle.std.specs.Prelude.{◌≡◌, ◌&&◌, ℕ, if◌then◌else◌, true, map, max, List, [], ◌∷◌, Option, Some, None}
+use Rattle.std.specs.Prelude.{◌&&◌, ℕ, if◌then◌else◌, true, map, max, List, [], ◌∷◌, Option, Some, None}
 use Rattle.std.specs.FinMap as finite
 use Rattle.std.specs.List.{fold}
 use Rattle.std.specs.Str.{bytes_eq}
@@ -33,10 +33,6 @@ file_looked path (Some relative) = call.Read path ∷ []
 -- the calls that read the files at these paths, in their order
 abbrev pub files_looked : List ℕ → List (List ℕ) → List Call
 files_looked folder paths = looked_up_to (λ path. true) (λ path. file_looked path (inside folder path)) paths
-
--- the table has for the needed unit the number that is named with it
-abbrev pub IsHeld : List (List ℕ × Option ℕ) → (List ℕ × ℕ) → Type 0
-IsHeld numbers need = number_in numbers need.0 ≡ Some need.1
 
 -- the needed units, each with the number that the table has for it
 abbrev pub numbered_by : List (List ℕ × Option ℕ) → List (List ℕ) → List (List ℕ × ℕ)

@@ -66,7 +66,7 @@ fn is_same_part(asked: &RecordedCommand, command: &Command, part: CommandPart) -
 
 /// Returns the first part of a command, apart from its variables, that differs from the recorded
 /// one. It takes no memory.
-pub(crate) fn first_part(asked: &RecordedCommand, command: &Command) -> Option<CommandPart>
+pub fn first_part(asked: &RecordedCommand, command: &Command) -> Option<CommandPart>
     ensures { MatchOption result (AsksAs asked.now command.now)
         (IsFirst (SamePart asked.now command.now) (λ part. part) parts) }
 {
@@ -119,7 +119,7 @@ fn first_name<'a>(pairs: &'a [(Text, Text)], others: &'a [(Text, Text)]) -> Opti
 /// Returns the first name, in byte order, at which two rows of variables differ: only one row has
 /// the name, or the texts differ. Both rows are sorted by name.
 #[tactic(auto, using(crate::proofs::Names::name_laws))]
-pub(crate) fn first_variable(
+pub fn first_variable(
     alloc: Global,
     pairs: &[(Text, Text)],
     others: &[(Text, Text)],

@@ -18,9 +18,11 @@ mod opening;
 pub mod replaying;
 mod store;
 
+pub use asking::{first_part, first_variable};
 pub use difference::{CommandPart, Difference};
 pub use fault::{OpenFault, StoreFault};
 pub use keys::Key;
 pub use laws::{differences_are_one, first_name_is_first, unchanged_is_same};
+pub use numbers::first_number;
 pub use replaying::{Compared, Replayed};
 pub use store::Store;

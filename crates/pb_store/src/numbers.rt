@@ -4,9 +4,9 @@ ghost use Rattle.std.specs.Prelude.{◌≡◌, ◌&&◌, Decides, IfErr, IfOk, O
 ghost use Rattle.std.specs.Str.{bytes_eq};
 ghost use Rattle.pb_data.specs.Table.{with_entry};
 ghost use Rattle.pb_store.specs.Differences.{FirstOrAll};
-ghost use Rattle.pb_store.specs.Folder.{number_in, or_zero};
+ghost use Rattle.pb_store.specs.Folder.{IsHeld, number_in, or_zero};
 ghost use Rattle.pb_store_soundness.specs.Records.{is_key, place_of};
-ghost use Rattle.pb_store.specs.Presence.{IsHeld, noted_told, numbered_by, own_said};
+ghost use Rattle.pb_store.specs.Presence.{noted_told, numbered_by, own_said};
 ghost use Rattle.pb_store.specs.declared.fault.StoreFault.TheVariants as store_fault;
 
 use crate::fault::StoreFault;
@@ -45,7 +45,7 @@ fn is_held(numbers: &Table<Option<u64>>, need: &(Text, u64)) -> bool
 }
 
 /// Returns the key of the first needed unit that does not have the number by which it is named.
-pub(crate) fn first_number(
+pub fn first_number(
     alloc: Global,
     numbers: &Table<Option<u64>>,
     needs: &[(Text, u64)],

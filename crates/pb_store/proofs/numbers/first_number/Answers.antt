@@ -1,5 +1,5 @@
 use Rattle.std.proofs.Common.{rules, refl, List, ℕ}
-use Rattle.pb_store.specs.Presence.{IsHeld}
+use Rattle.pb_store.specs.Folder.{IsHeld}
 use Rattle.pb_store.proofs.Firsts.{one_fails, one_holds}
 use Rattle.pb_store.proofs.numbers.first_number.Goals as goal
 
