@@ -27,7 +27,7 @@ use Rattle.pb_build_turns.specs.History.{untouched}
 use Rattle.pb_build_turns.proofs.Repeating.{leaves_records, starts_none_again}
 use Rattle.pb_unit.specs.declared.plan.Planned.{Planned}
 use Rattle.pb_build.specs.Again.{SameBuildStartsNone}
-use Rattle.pb_build.specs.Ending.{Works, Builds, Finishes, Closes}
+use Rattle.pb_build.specs.Ending.{Works, Builds, EndsWith, Closes}
 use Rattle.pb_build.specs.Environment.{environment_of}
 use Rattle.pb_build.specs.declared.environment.Environment.{Environment}
 use Rattle.pb_build.specs.Headline.{RestsOn, records_of}
@@ -44,7 +44,7 @@ injective e = cc
 
 -- A build that ended well is one whose units did.
 
-finishes_err : (bytes : List ℕ) (fault : BuildFault) (summary : Summary) (old new : SinkState) → Finishes bytes (Err fault) (Ok summary) old new → ⊥
+finishes_err : (bytes : List ℕ) (fault : BuildFault) (summary : Summary) (old new : SinkState) → EndsWith bytes (Err fault) (Ok summary) old new → ⊥
 finishes_err bytes fault summary old new (inl ends) = no_fault ends.0
 finishes_err bytes fault summary old new (inr ends) = no_fault ends.0
 

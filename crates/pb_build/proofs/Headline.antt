@@ -44,7 +44,7 @@ use Rattle.pb_unit.specs.declared.plan.Planned.{Planned}
 use Rattle.pb_workspace.proofs.Accepted.{target_kept}
 use Rattle.pb_build.specs.Ending.{Works, Builds, StopsEarly}
 use Rattle.pb_build.specs.Environment.{environment_of}
-use Rattle.pb_build.specs.Headline.{records_of, RestsOn, ByTurns, UnitsOf, AnswersAs, NamesOpened, FailsAt, LinesBefore, GivesUnits, LeavesRecords, GivesCleanResult, Headline}
+use Rattle.pb_build.specs.Headline.{records_of, RestsOn, ByTurns, UnitsOf, AnswersAs, NamesOpened, UnitCallFails, LinesBefore, GivesUnits, LeavesRecords, GivesCleanResult, Headline}
 use Rattle.pb_build.specs.Planning.{IsProject}
 use Rattle.pb_build.specs.Result.{toolchain_of, setup_of}
 use Rattle.pb_build.proofs.Opened.{names_opened}
@@ -222,7 +222,7 @@ module _ (premise : Premise) (child : Answers) (options : Options) where
         units_missing key spawned None same begins = let (place, named, is) = begins refl in begun_missing Turns (needs_of project) Anyhow Anything from es stopped flies place spawned before is
         units_missing key spawned (Some unit) (i, missing, at, turned) begins = missing
 
-        fails_at : (key : List ℕ) → is_finished (states_in project es) ≡ false → StopsAt true project mid stop key es → FailsAt project es (rows_in b) key old.heard.taken new.heard.taken
+        fails_at : (key : List ℕ) → is_finished (states_in project es) ≡ false → StopsAt true project mid stop key es → UnitCallFails project es (rows_in b) key old.heard.taken new.heard.taken
         fails_at key missing by = record {
           place = by.place;
           named = ap key_in by.there ∙ ap (λ (k : List ℕ). k ∷ []) by.named;

@@ -31,7 +31,7 @@ use Rattle.pb_workspace_types.specs.declared.package.Side.{Side}
 use Rattle.pb_workspace_types.specs.declared.package.Package.{Package}
 use Rattle.pb_workspace_types.specs.declared.workspace.Workspace.{Workspace}
 use Rattle.pb_build.specs.Environment.{environment_of}
-use Rattle.pb_build.specs.Laws.{IsSame, HasOneResult}
+use Rattle.pb_build.specs.Laws.{SameResults, HasOneResult}
 use Rattle.pb_build.specs.Planning as planning
 use Rattle.pb_build.specs.Planning.{IsFeatured, IsProject, IsRefused}
 use Rattle.pb_build.specs.Private.{HasNoProject, by_selection, by_feature, by_plan}
@@ -206,7 +206,7 @@ module _ (child : Answers) (options : Options) (environment : Environment) (w : 
       let same : t ≡ u = cc in
       ap (λ x. rows_of child (setup_of options environment x) p (from_nothing environment.target w)) same ∙ rows_alike child (setup_of options environment u) (from_nothing environment.target w) p q is
 
-  results_same : (r s : BuildResult) → Comes child options environment w r → Comes child options environment w s → IsSame r s
+  results_same : (r s : BuildResult) → Comes child options environment w r → Comes child options environment w s → SameResults r s
   results_same _ _ (refused why is) (refused other is') = refused_once options environment.target w why other is is'
   results_same _ _ (refused why is) (no_toolchain project is' silent) = not_refused options environment.target w project why is' is
   results_same _ _ (refused why is) (finished project toolchain is' says) = not_refused options environment.target w project why is' is

@@ -10,7 +10,7 @@ use Rattle.pb_feature.specs.Resolved.{IsResolved}
 use Rattle.pb_feature_types.specs.Features.{is_enabled, features_at}
 use Rattle.pb_feature_types.specs.declared.features.Features.{Features}
 use Rattle.pb_graph.proofs.Elements.{all_at}
-use Rattle.pb_unit.specs.Plan.{IsPlan, IsCycle, IsCrowd, Stops, by_cycle, by_number, by_nothing, Refuses, by_profile, by_units}
+use Rattle.pb_unit.specs.Plan.{IsPlan, IsCycle, IsCrowd, LacksPlan, by_cycle, by_number, by_nothing, Refuses, by_profile, by_units}
 use Rattle.pb_unit.specs.Units.{key_of, unit, is_normal, is_build, has_library, hands_on, entries_at, library_by, tool_by, run_by, libraries, tools, runs, own_library, own_run, needs_of, needs, Reaches, direct, onward, IsRoot, library, binary, IsPlanned}
 use Rattle.pb_unit.specs.declared.fault.PlanFault.{PlanFault}
 use Rattle.pb_unit.specs.declared.plan.Plan.{Plan}
@@ -82,7 +82,7 @@ module _ (ws : Workspace) (selection : Selection) (f g : Features) (one : IsReso
 
 -- Why there is no plan.
 
-stops_too : (ws : Workspace) (selection : Selection) (f g : Features) → IsResolved ws selection f → IsResolved ws selection g → (fault : PlanFault) → Stops ws f selection fault → Stops ws g selection fault
+stops_too : (ws : Workspace) (selection : Selection) (f g : Features) → IsResolved ws selection f → IsResolved ws selection g → (fault : PlanFault) → LacksPlan ws f selection fault → LacksPlan ws g selection fault
 stops_too ws selection f g one other _ (by_cycle names cycle) = by_cycle names record {
   some = cycle.some;
   order = cycle.order;
@@ -119,7 +119,7 @@ module _ (ws : Workspace) (features : Features) (selection : Selection) where
   crowded : IsCrowd ws features selection → (u : Unit) × IsPlanned ws features selection u
   crowded crowd = let within : 0 < length crowd.units = omega (arith, crowd.many) in let none = unit 0 Target Lib in (slice_index_or crowd.units 0 none, crowd.planned 0 none within)
 
-  stops_once : (a b : PlanFault) → Stops ws features selection a → Stops ws features selection b → a ≡ b
+  stops_once : (a b : PlanFault) → LacksPlan ws features selection a → LacksPlan ws features selection b → a ≡ b
   stops_once _ _ (by_cycle names cycle) (by_cycle more other) =
       ap Cycle (same_texts names more cycle.order other.order (λ q. (λ has. (other.same q).1 ((cycle.same q).0 has), λ has. (cycle.same q).1 ((other.same q).0 has))))
   stops_once _ _ (by_cycle names cycle) (by_number straight crowd) = let (u, planned, round) = circled names cycle in absurd (straight u planned round)

@@ -127,16 +127,16 @@ Works is_modelled child Turns options from last result old new = StopsEarly is_m
 
 -- Either these bytes are written and `inner` is returned. Or the sink takes only the first of these
 -- bytes and fails, and the fault `Sink` is returned.
-abbrev pub Finishes : List ℕ → Result Summary BuildFault → Result Summary BuildFault → SinkState → SinkState → Type 0
-Finishes bytes inner result old new =
+abbrev pub EndsWith : List ℕ → Result Summary BuildFault → Result Summary BuildFault → SinkState → SinkState → Type 0
+EndsWith bytes inner result old new =
     ((result ≡ inner) × Appends old.taken new.taken bytes × (new.faults ≡ old.faults)) ⊎ ((result ≡ Err Sink) × TakesPart bytes old.taken new.taken × (new.faults ≡ up old.faults))
 
 -- the finish line is written, unless the build is refused or the sink has already failed
 abbrev pub Closes : Result Summary BuildFault → Result Summary BuildFault → SinkState → SinkState → Type 0
-Closes (Ok summary) result old new = Finishes (finish_line summary.success) (Ok summary) result old new
+Closes (Ok summary) result old new = EndsWith (finish_line summary.success) (Ok summary) result old new
 Closes (Err (Plan why)) result old new = (result ≡ Err (Plan why)) × (new ≡ old)
 Closes (Err Sink) result old new = (result ≡ Err Sink) × (new ≡ old)
-Closes (Err fault) result old new = Finishes (finish_line false) (Err fault) result old new
+Closes (Err fault) result old new = EndsWith (finish_line false) (Err fault) result old new
 
 -- A build as a whole.
 

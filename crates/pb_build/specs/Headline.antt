@@ -135,7 +135,7 @@ pub record GivesAll (premise : Premise) (child : Answers) (Schedule : Project �
 -- A call for the unit with this key failed while units were missing, or no run number was left for
 -- it. The unit has begun and not answered. The lines are those that are due: of the first units in
 -- plan order, as far as all of them have answered.
-pub record FailsAt (project : Project) (es : List (Event BadUnit)) (rows : List Row) (key : List ℕ) (old new : Option (List ℕ)) : Type 0 where
+pub record UnitCallFails (project : Project) (es : List (Event BadUnit)) (rows : List Row) (key : List ℕ) (old new : Option (List ℕ)) : Type 0 where
   pub place : ℕ
   pub named : key_at project place ≡ key ∷ []
   pub flies : slice_get (states_in project es) place ≡ Some Begun
@@ -146,8 +146,8 @@ pub record FailsAt (project : Project) (es : List (Event BadUnit)) (rows : List 
 -- failed, only the first of their bytes were written. If memory ran out, only the lines of the
 -- first n of these units were.
 abbrev pub LinesBefore : BuildFault → Project → List (Event BadUnit) → List Row → Option (List ℕ) → Option (List ℕ) → Type 0
-LinesBefore (Child key fault) project es rows old new = FailsAt project es rows key old new
-LinesBefore (Device key fault) project es rows old new = FailsAt project es rows key old new
+LinesBefore (Child key fault) project es rows old new = UnitCallFails project es rows key old new
+LinesBefore (Device key fault) project es rows old new = UnitCallFails project es rows key old new
 LinesBefore Sink project es rows old new = TakesPart (said_from project es 0 (take (count_due (states_in project es)) rows)) old new
 LinesBefore OutOfMemory project es rows old new = (n : ℕ) × Appends old new (said_from project es 0 (take n (take (count_due (states_in project es)) rows)))
 LinesBefore fault project es rows old new = ⊥

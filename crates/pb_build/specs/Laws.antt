@@ -22,15 +22,15 @@ GivesFromNothing = (child : Answers) (options : Options) (w : World) (r : BuildR
 
 -- The two results are the same. Both may be the same refusal. In both the compiler may not report
 -- its version. Or both have the same units of the same plan, with the same outcomes.
-abbrev pub IsSame : BuildResult → BuildResult → Type 0
-IsSame (Refused why) (Refused other) = why ≡ other
-IsSame NoToolchain NoToolchain = Unit {0}
-IsSame (Finished project rows) (Finished other more) = (project.workspace ≡ other.workspace) × (project.plan ≡ other.plan) × (project.profile ≡ other.profile) × (rows ≡ more)
-IsSame _ _ = ⊥
+abbrev pub SameResults : BuildResult → BuildResult → Type 0
+SameResults (Refused why) (Refused other) = why ≡ other
+SameResults NoToolchain NoToolchain = Unit {0}
+SameResults (Finished project rows) (Finished other more) = (project.workspace ≡ other.workspace) × (project.plan ≡ other.plan) × (project.profile ≡ other.profile) × (rows ≡ more)
+SameResults _ _ = ⊥
 
--- a world has only one result, in the sense of `IsSame`
+-- a world has only one result, in the sense of `SameResults`
 abbrev pub HasOneResult : Type 0
-HasOneResult = (child : Answers) (options : Options) (w : World) (r s : BuildResult) → IsResult child options w r → IsResult child options w s → IsSame r s
+HasOneResult = (child : Answers) (options : Options) (w : World) (r s : BuildResult) → IsResult child options w r → IsResult child options w s → SameResults r s
 
 -- the units that a build has, with their outcomes, are the result of its world
 abbrev pub UnitsAreOfResult : Type 0

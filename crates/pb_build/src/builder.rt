@@ -2,7 +2,7 @@
 
 ghost use Rattle.std.specs.Prelude.{◌≡◌, ◌⊎◌, ◌+◌, [], max, IsTrue, IfOk, IfErr, MatchResult, OnErr};
 ghost use Rattle.pb_build.specs.Causes.{MayPlan, MayReady, NamesCall, PlansInTurn, ReadiesInTurn, StopsBefore, plan_called, OnlyLooks, OnlyAsks};
-ghost use Rattle.pb_build.specs.Ending.{FailsBefore, Finishes, IsPlanOf, PlansFrom, Prepares, Works, Closes, Builds, BuildsBy, BuildsFirst};
+ghost use Rattle.pb_build.specs.Ending.{FailsBefore, EndsWith, IsPlanOf, PlansFrom, Prepares, Works, Closes, Builds, BuildsBy, BuildsFirst};
 ghost use Rattle.pb_build.specs.Environment.{environment_of};
 ghost use Rattle.pb_build.specs.Headline.{ByTurns, ByPick, ByFirst, Headline};
 ghost use Rattle.pb_build.specs.Kept.{SourcesStay};
@@ -20,7 +20,7 @@ ghost use Rattle.pb_place_types.specs.Sinks.{SinkState};
 ghost use Rattle.pb_build_turns.specs.Executor.{BuildState, moment};
 
 use crate::environment::{Environment, environment_of};
-use crate::planning::planned;
+use crate::planning::plan_project;
 use crate::toolchain::ask;
 use pb_build_result::{BuildFault, Summary};
 use pb_build_turns::run_turns;
@@ -83,7 +83,7 @@ fn records_folder(alloc: Global, project: &OrderedProject) -> Result<PathText, A
 }
 
 /// Returns the fault of a store that cannot be opened: `Device`, with the path of the failed call.
-fn unopened(fault: OpenFault) -> BuildFault
+fn open_error(fault: OpenFault) -> BuildFault
     ensures { result ≡ unopened fault }
 {
     match fault {
@@ -93,7 +93,7 @@ fn unopened(fault: OpenFault) -> BuildFault
 }
 
 /// Opens the store of a project's records.
-fn opened<P: Place>(
+fn open_store<P: Place>(
     alloc: Global,
     place: &mut P,
     project: &OrderedProject,
@@ -113,7 +113,7 @@ fn opened<P: Place>(
     };
     match Store::open(alloc, place, folder) {
         Ok(store) => Ok(store),
-        Err(fault) => Err(unopened(fault)),
+        Err(fault) => Err(open_error(fault)),
     }
 }
 
@@ -156,7 +156,7 @@ fn ready<P: Place>(
             return Err(BuildFault::OutOfMemory);
         }
     };
-    match opened(alloc, place, &project) {
+    match open_store(alloc, place, &project) {
         Ok(store) => Ok(Prepared {
             setup,
             project,
@@ -206,7 +206,7 @@ pub fn plan_build<P: Place>(
         Ok(environment) => environment,
         Err(fault) => return Err(fault),
     };
-    match planned(alloc, place, options, &environment.target) {
+    match plan_project(alloc, place, options, &environment.target) {
         Ok(project) => Ok(BuildPlan {
             environment,
             project,
@@ -312,7 +312,7 @@ fn finish<O: Out>(
     success: bool,
     inner: Result<Summary, BuildFault>,
 ) -> Result<Summary, BuildFault>
-    ensures { Finishes (finish_line success) inner result (O.heard out.old) (O.heard out.new) }
+    ensures { EndsWith (finish_line success) inner result (O.heard out.old) (O.heard out.new) }
 {
     match write_lines(out, finish_line(success)) {
         Ok(()) => inner,

@@ -31,7 +31,7 @@ pub struct Environment {
 }
 
 /// Returns a text that is not empty; an empty one counts as absent.
-fn filled(found: Option<Text>) -> Option<Text>
+fn unless_empty(found: Option<Text>) -> Option<Text>
     ensures { result ≡ set_text found }
 {
     match found {
@@ -62,7 +62,7 @@ fn variable<P: Place>(alloc: Global, place: &mut P, name: &str) -> Result<Option
         Err(_) => return Err(BuildFault::OutOfMemory),
     };
     match place.variable(alloc, name) {
-        Ok(found) => Ok(filled(found)),
+        Ok(found) => Ok(unless_empty(found)),
         Err(fault) => Err(deviceless(told, fault)),
     }
 }

@@ -87,7 +87,7 @@ fn select<'a>(
 }
 
 /// Returns the features that are on.
-fn featured(alloc: Global, chosen: &SelectedWorkspace<'_>) -> Result<Features, BuildFault>
+fn resolve_features(alloc: Global, chosen: &SelectedWorkspace<'_>) -> Result<Features, BuildFault>
     ensures featured { IfOk result (IsFeatured chosen.now.workspace chosen.now.selection) }
     ensures refused { IfErr result
         (λ e.
@@ -144,7 +144,7 @@ fn parts_of(
         Ok(chosen) => chosen,
         Err(fault) => return Err(fault),
     };
-    let features = match featured(alloc, &chosen) {
+    let features = match resolve_features(alloc, &chosen) {
         Ok(features) => features,
         Err(fault) => return Err(fault),
     };
@@ -199,7 +199,7 @@ fn project_of(
 ///
 /// Errors: `Plan`, with the first refusal; `Device`, with the
 /// path of the failed call; `OutOfMemory`.
-pub(crate) fn planned<P: Place>(
+pub(crate) fn plan_project<P: Place>(
     alloc: Global,
     place: &mut P,
     options: &Options,

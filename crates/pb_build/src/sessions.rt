@@ -111,7 +111,7 @@ fn built_anyhow<C: Child, O: Out>(
 
 /// Builds, and begins the units that the session picks. If
 /// nothing is set to fail, and nothing has failed, no call fails.
-fn built<C: Child + Copy, O: Out>(
+fn build_by<C: Child + Copy, O: Out>(
     alloc: Global,
     memory: &mut Memory<C>,
     out: &mut O,
@@ -161,7 +161,7 @@ fn add_build<C: Child + Copy, O: Out>(
         (point memory.old (O.heard out.old) answers.old)
         (point memory.new (O.heard out.new) answers.new)) }
 {
-    let result = built(alloc, memory, out, options, pick);
+    let result = build_by(alloc, memory, out, options, pick);
     memory.files_have_paths();
     memory.fuse(0);
     answers.push(BuildOutcome { result })?;

@@ -11,4 +11,4 @@ pub use bad_unit::BadUnit;
 pub use fault::{BuildFault, DeviceFault, Refusal};
 pub use line::result_line;
 pub use summary::Summary;
-pub use telling::said;
+pub use telling::summary_text;

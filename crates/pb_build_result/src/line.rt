@@ -18,7 +18,7 @@ use pb_workspace_types::LoadFault;
 use std::alloc::{AllocError, Global};
 
 /// Returns texts one after another.
-pub(crate) fn joined(alloc: Global, parts: &[&str]) -> Result<String, AllocError>
+pub(crate) fn join_texts(alloc: Global, parts: &[&str]) -> Result<String, AllocError>
     ensures { IfOk result (λ text. string_bytes text ≡ concat (map (λ part. part.now) parts.now)) }
 {
     let mut text = String::new(alloc);
@@ -72,7 +72,7 @@ fn unit_fault_text(alloc: Global, fault: &UnitFault) -> Result<String, AllocErro
     match fault {
         UnitFault::Status(number) => format!(in alloc; "Status({number})"),
         UnitFault::Directive(fault) => {
-            joined(alloc, &["Directive(", line_fault_name(*fault), ")"])
+            join_texts(alloc, &["Directive(", line_fault_name(*fault), ")"])
         }
         UnitFault::ScriptError => String::from_str(alloc, "ScriptError"),
         UnitFault::NoDepInfo => String::from_str(alloc, "NoDepInfo"),
@@ -88,10 +88,10 @@ fn summary_line(alloc: Global, summary: &Summary) -> Result<String, AllocError>
 {
     let keys = keys_text(alloc, summary.started.as_slice())?;
     match &summary.bad {
-        None => joined(alloc, &["ok started=", keys.as_str()]),
+        None => join_texts(alloc, &["ok started=", keys.as_str()]),
         Some((unit, fault)) => {
             let fault = unit_fault_text(alloc, fault)?;
-            joined(
+            join_texts(
                 alloc,
                 &[
                     "bad ",
@@ -223,7 +223,7 @@ fn device_fault_name(fault: DeviceFault) -> &'static str
 fn fault_at(alloc: Global, place: &str, name: &str) -> Result<String, AllocError>
     ensures { IfOk result (λ text. string_bytes text ≡ fault_at place.now name.now) }
 {
-    joined(alloc, &["fault ", place, " ", name])
+    join_texts(alloc, &["fault ", place, " ", name])
 }
 
 /// Returns the line of a build that ended without a summary.
@@ -231,7 +231,7 @@ fn fault_line(alloc: Global, fault: &BuildFault) -> Result<String, AllocError>
     ensures { IfOk result (λ text. string_bytes text ≡ fault_line fault.now) }
 {
     match fault {
-        BuildFault::Plan(refusal) => joined(alloc, &["refused ", refusal_name(refusal)]),
+        BuildFault::Plan(refusal) => join_texts(alloc, &["refused ", refusal_name(refusal)]),
         BuildFault::Toolchain => String::from_str(alloc, "fault -vV Toolchain"),
         BuildFault::Child { unit, fault } => {
             fault_at(alloc, unit.as_str(), start_fault_name(*fault))

@@ -25,7 +25,7 @@ fn push_ended(text: &mut Vec<u8>, bytes: &[u8]) -> Result<(), AllocError>
 /// feed. Returns nothing if the child wrote nothing, or all units are good.
 ///
 /// Errors: out of memory.
-pub fn said(alloc: Global, summary: &Summary) -> Result<Bytes, AllocError>
+pub fn summary_text(alloc: Global, summary: &Summary) -> Result<Bytes, AllocError>
     ensures { IfOk result (λ text. text ≡ said_by_bad summary.now.bad summary.now.said) }
 {
     let mut text = Vec::new(alloc);

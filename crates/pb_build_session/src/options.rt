@@ -249,7 +249,12 @@ fn default_tools(alloc: Global) -> Result<Tools, AllocError>
 }
 
 /// Returns the options made of their parts.
-fn joined(asked: OptionValues, featured: Featured, targeted: Targeted, tools: Tools) -> Options
+fn options_of_parts(
+    asked: OptionValues,
+    featured: Featured,
+    targeted: Targeted,
+    tools: Tools,
+) -> Options
     ensures { result ≡ joined asked featured targeted tools }
 {
     Options {
@@ -281,7 +286,7 @@ fn options_in(alloc: Global, value: &Value) -> Result<Options, BadSession>
     let three = with_next(two, targeted)?;
     let tools = default_tools(alloc);
     let (((asked, featured), targeted), tools) = with_next(three, tools)?;
-    Ok(joined(asked, featured, targeted, tools))
+    Ok(options_of_parts(asked, featured, targeted, tools))
 }
 
 /// Returns the options of a build.

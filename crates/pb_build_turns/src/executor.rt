@@ -258,7 +258,7 @@ impl<P: Place, O: Out> Executor<P, O, BadUnit, BuildFault> for UnitExecutor {
         StoryEnds P.is_modelled P.child fault asked first (moment (P.at first_place) (O.heard first_out))
         crew (moment (P.at place) (O.heard out)) (P.at place).still es };
 
-    fn flying(&self, alloc: Global) -> Result<Vec<usize>, AllocError> {
+    fn in_flight(&self, alloc: Global) -> Result<Vec<usize>, AllocError> {
         places_of(alloc, self.running.as_slice())
     }
 
@@ -290,7 +290,7 @@ impl<P: Place, O: Out> Executor<P, O, BadUnit, BuildFault> for UnitExecutor {
         }
     }
 
-    fn refused(&self) -> BuildFault {
+    fn out_of_memory(&self) -> BuildFault {
         BuildFault::OutOfMemory
     }
 }

@@ -24,7 +24,7 @@ use pb_unit::Planned;
 use std::alloc::{AllocError, Global};
 
 /// Returns a copy of these indices.
-fn copied(alloc: Global, places: &[usize]) -> Result<Items<usize>, AllocError>
+fn copy_indices(alloc: Global, places: &[usize]) -> Result<Items<usize>, AllocError>
     ensures { IfOk result (λ items. items ≡ places.now) }
 {
     let mut items = Items::new(alloc);
@@ -40,7 +40,7 @@ fn needs_of(alloc: Global, units: &[Planned]) -> Result<Items<Items<usize>>, All
 {
     let mut needs = Items::new(alloc);
     for unit in units {
-        needs.push(copied(alloc, unit.needs.as_slice())?)?;
+        needs.push(copy_indices(alloc, unit.needs.as_slice())?)?;
     }
     Ok(needs)
 }

@@ -139,7 +139,7 @@ fn surroundings_of(
 }
 
 /// Returns a command, made of its two parts.
-fn joined(asking: Asking, surroundings: Surroundings) -> Command
+fn command_of_parts(asking: Asking, surroundings: Surroundings) -> Command
     ensures { result ≡ record {
       program = asking.program;
       words = asking.words;
@@ -206,7 +206,7 @@ fn compile_of(
     let asking = compile_asking(alloc, setup, project, unit, done, owner)?;
     let surroundings = surroundings_of(alloc, setup, project, unit);
     let (asking, surroundings) = with_next(asking, surroundings)?;
-    Ok(joined(asking, surroundings))
+    Ok(command_of_parts(asking, surroundings))
 }
 
 /// Returns the path of the script that a run starts; it is empty if there is no script.
@@ -289,7 +289,7 @@ fn run_of(
     let asking = run_asking(alloc, setup, project, unit, done, owner, &script)?;
     let surroundings = surroundings_of(alloc, setup, project, unit);
     let (asking, surroundings) = with_next(asking, surroundings)?;
-    Ok(joined(asking, surroundings))
+    Ok(command_of_parts(asking, surroundings))
 }
 
 /// Returns the command of a unit of a package, by what the unit makes.

@@ -9,7 +9,7 @@ pub use commands::{command, query};
 pub use laws::{
     commands_are_absolute, judges_as_answered, last_values_count, libraries_in_order, pairs_rise,
 };
-pub use pb_command_reply::{answered, answered_at, ended_fault, inputs};
+pub use pb_command_reply::{check_reply, check_reply_at, ended_fault, inputs};
 pub use pb_command_types::{
     CheckedReply, Done, Project, Setup, UnitFault, crate_name_of, dep_info_path, made_file,
 };

@@ -8,7 +8,7 @@ ghost use Rattle.pb_command_types.specs.Targets.{library_file};
 ghost use Rattle.pb_command_types.specs.NamedTexts.{all_set, in_order};
 ghost use Rattle.pb_command_arguments.specs.Externs.{read_at, reads_of, folder_words, folder_words_at, dependency_words, leads, entry_name, extern, entry_extern, own_extern, externs, extern_key, extern_text, extern_word, extern_words, library_words};
 
-use crate::words::{joined, push_option};
+use crate::words::{join_two, push_option};
 use pb_command_types::{Project, is_library, library_file, library_name, unit_at};
 use pb_data::{Items, Text, TryCopy};
 use pb_manifest_types::crate_name;
@@ -68,7 +68,7 @@ pub fn reads_of(
 fn push_folder(alloc: Global, words: &mut Items<Text>, folder: &str) -> Result<(), AllocError>
     ensures { OnOk result (words.new ≡ words.old ++ folder_words folder.now) }
 {
-    let text = joined(alloc, "dependency=", folder)?;
+    let text = join_two(alloc, "dependency=", folder)?;
     push_option(alloc, words, "-L", text.as_str())
 }
 

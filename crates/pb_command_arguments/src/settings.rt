@@ -4,10 +4,10 @@ ghost use Rattle.std.specs.Prelude.{◌≡◌, ◌++◌, IfOk, OnOk, string_byte
 ghost use Rattle.std.specs.List.{flat_map};
 ghost use Rattle.pb_command_arguments.specs.Words.{setting, value_text, is_binary, is_value, is_untold, key_words, settings_words};
 
-use crate::words::{joined, push_option};
+use crate::words::{join_two, push_option};
 use pb_data::{Items, Text};
 use pb_profile::Settings;
-use pb_profile_keys::{ProfileKey, Setting, told};
+use pb_profile_keys::{ProfileKey, Setting, told_keys};
 use pb_unit::What;
 use std::alloc::{AllocError, Global};
 
@@ -21,7 +21,7 @@ pub(crate) fn push_setting(
 ) -> Result<(), AllocError>
     ensures { OnOk result (words.new ≡ words.old ++ setting key.now value.now) }
 {
-    let text = joined(alloc, key, value)?;
+    let text = join_two(alloc, key, value)?;
     push_option(alloc, words, "-C", text.as_str())?;
     Ok(())
 }
@@ -62,7 +62,7 @@ fn value_text(alloc: Global, shown: &str, value: Setting) -> Result<String, Allo
         Setting::Truth(true) => String::from_str(alloc, shown),
         Setting::Truth(false) => String::from_str(alloc, "off"),
         Setting::Number(number) => number.to_string(alloc),
-        Setting::Word(word) => String::from_str(alloc, word.spelled()),
+        Setting::Word(word) => String::from_str(alloc, word.spelling()),
     }
 }
 
@@ -113,5 +113,5 @@ pub fn push_settings(
 ) -> Result<(), AllocError>
     ensures { OnOk result (words.new ≡ words.old ++ settings_words what.now settings.now) }
 {
-    push_keys(alloc, words, what, settings, told())
+    push_keys(alloc, words, what, settings, told_keys())
 }

@@ -39,7 +39,7 @@ pub(crate) fn push_option(
 }
 
 /// Returns two texts as one.
-pub(crate) fn joined(alloc: Global, first: &str, last: &str) -> Result<String, AllocError>
+pub(crate) fn join_two(alloc: Global, first: &str, last: &str) -> Result<String, AllocError>
     ensures { IfOk result (λ made. string_bytes made ≡ first.now ++ last.now) }
 {
     let mut made = String::from_str(alloc, first)?;
@@ -79,7 +79,7 @@ fn push_name(
 fn edition_word(alloc: Global, edition: Edition) -> Result<String, AllocError>
     ensures { IfOk result (λ word. string_bytes word ≡ edition_word edition) }
 {
-    joined(alloc, "--edition=", edition.text())
+    join_two(alloc, "--edition=", edition.text())
 }
 
 /// Adds the edition.

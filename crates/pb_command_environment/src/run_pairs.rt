@@ -11,7 +11,7 @@ ghost use Rattle.pb_command_environment.specs.Pairs.{links_pairs, feature_name, 
 use crate::platform::{profile_word, triple_of};
 use pb_command_types::{Project, Setup, is_run, package_of, unit_at};
 use pb_data::{Items, Text, truth_text};
-use pb_directive::{Directives, dep_pairs, underscored};
+use pb_directive::{Directives, dep_pairs, with_underscores};
 use pb_manifest_types::Word;
 use pb_place_types::TextMap;
 use pb_profile::Settings;
@@ -38,7 +38,7 @@ fn feature_name(alloc: Global, feature: &str) -> Result<String, AllocError>
     ensures { IfOk result (λ name. string_bytes name ≡ feature_name feature.now) }
 {
     let upper = feature.to_uppercase(alloc)?;
-    let word = underscored(alloc, upper.as_str())?;
+    let word = with_underscores(alloc, upper.as_str())?;
     let mut name = String::from_str(alloc, "CARGO_FEATURE_")?;
     name.push_str(word.as_str())?;
     Ok(name)
@@ -93,7 +93,7 @@ fn set_settings(
     ensures { OnOk result (all.new ≡ all_set all.old (settings_pairs settings.now profile.now)) }
 {
     let debug = truth_text(is_debugged(settings.debug()));
-    all.insert(alloc, "OPT_LEVEL", settings.opt_level().spelled())?;
+    all.insert(alloc, "OPT_LEVEL", settings.opt_level().spelling())?;
     all.insert(alloc, "DEBUG", debug)?;
     all.insert(alloc, "PROFILE", profile)?;
     Ok(())
@@ -112,7 +112,7 @@ fn push_flags(text: &mut String, flags: &[Text]) -> Result<(), AllocError>
 }
 
 /// Returns arguments with byte 0x1f between them.
-fn encoded(alloc: Global, flags: &[Text]) -> Result<String, AllocError>
+fn encode_flags(alloc: Global, flags: &[Text]) -> Result<String, AllocError>
     ensures { IfOk result (λ text. string_bytes text ≡ encoded flags.now) }
 {
     let mut text = String::new(alloc);
@@ -130,7 +130,7 @@ fn encoded(alloc: Global, flags: &[Text]) -> Result<String, AllocError>
 fn set_compiler(alloc: Global, all: &mut TextMap, setup: &Setup) -> Result<(), AllocError>
     ensures { OnOk result (all.new ≡ all_set all.old (compiler_pairs setup.now)) }
 {
-    let flags = encoded(alloc, setup.flags.as_slice())?;
+    let flags = encode_flags(alloc, setup.flags.as_slice())?;
     all.insert(alloc, "RUSTC", setup.rustc.as_str())?;
     all.insert(alloc, "CARGO_ENCODED_RUSTFLAGS", flags.as_str())?;
     Ok(())

@@ -30,7 +30,7 @@ use Rattle.pb_unit.specs.declared.unit.What.{What}
 use Rattle.pb_unit.specs.declared.unit.What.TheVariants.{Lib, Bin, Script, Run}
 use Rattle.pb_command_laws.specs.Compiles.{asked}
 use Rattle.pb_command_laws.specs.Judged as words
-use Rattle.pb_command_laws.specs.Judged.{EndedWell, IsInfo, IsShort, IsTold, IsAnswer, AnswersSay, paths_said}
+use Rattle.pb_command_laws.specs.Judged.{EndedWell, HasInfo, IsShort, ReportsInputs, IsAnswer, AnswersSay, paths_said}
 use Rattle.pb_command_laws.proofs.Asking.{asked_errors, asked_none, errors_asked, none_asked, paths_asked, variables_asked}
 
 no_zero : (n : ℕ) → (suc n == 0) ≡ false
@@ -112,7 +112,7 @@ module _ (what : What) (c : Command) (folder : List ℕ) (e : Ended) (dep_info :
   run_so is = kind_so ∙ ap (λ b. if b then run_answered c folder e else compile_answered c dep_info) is
 
   -- what it tells
-  info_so : (info : DepInfo) → IsInfo dep_info info → read_info dep_info ≡ Ok info
+  info_so : (info : DepInfo) → HasInfo dep_info info → read_info dep_info ≡ Ok info
   info_so info (bytes, there, short, read) = ap read_info there ∙ ap (λ b. if b then Err unit_fault.NoDepInfo else info_in bytes) (short_so bytes short) ∙ ap read_or_none read
 
   said_so : (said : List Directive) → directives_of e.stdout ≡ Ok said → list_any is_error said ≡ false → said_in e ≡ Ok said
@@ -131,7 +131,7 @@ module _ (what : What) (c : Command) (folder : List ℕ) (e : Ended) (dep_info :
       ap (λ said. inputs_of c said (once names)) (paths_are folder (path ∷ paths))
       ∙ ap (λ b. inputs_of c (if b then folder ∷ [] else paths_said folder (path ∷ paths)) (once names)) (sym (no_zero (length (paths ++ names))))
 
-  told_so : (said : Option (List Directive)) (paths variables : List (List ℕ)) → IsTold what c folder e dep_info said paths variables → answered_by what c folder e dep_info ≡ with_inputs said paths variables
+  told_so : (said : Option (List Directive)) (paths variables : List (List ℕ)) → ReportsInputs what c folder e dep_info said paths variables → answered_by what c folder e dep_info ≡ with_inputs said paths variables
   told_so _ _ _ (words.compile is info read) =
       compile_so is ∙ ap (λ (r : Result DepInfo UnitFault). r >>= (λ i. info_inputs c i >>= (λ inputs. Ok record { directives = None; inputs = inputs }))) (info_so info read)
       ∙ ap (λ paths. inputs_of c paths (inherited c info.variables) >>= (λ inputs. Ok record { directives = None; inputs = inputs })) (paths_are c.folder info.words)
@@ -153,9 +153,9 @@ module _ (what : What) (c : Command) (folder : List ℕ) (e : Ended) (dep_info :
   foreign_so paths variables path foreign = ap (λ o. unless_foreign o (filter (λ path. not (is_at_or_below c.target path)) paths) >>= (λ sources. Ok (map Path sources ++ map Variable variables))) foreign
 
   abbrev InfoView : Type 0
-  InfoView = ((info : DepInfo) × IsInfo dep_info info) ⊎ ((read_info dep_info ≡ Err unit_fault.NoDepInfo) × ((info : DepInfo) → IsInfo dep_info info → ⊥))
+  InfoView = ((info : DepInfo) × HasInfo dep_info info) ⊎ ((read_info dep_info ≡ Err unit_fault.NoDepInfo) × ((info : DepInfo) → HasInfo dep_info info → ⊥))
 
-  same_bytes : (bytes : List ℕ) → dep_info ≡ Some bytes → (info : DepInfo) (is : IsInfo dep_info info) → bytes ≡ is.0
+  same_bytes : (bytes : List ℕ) → dep_info ≡ Some bytes → (info : DepInfo) (is : HasInfo dep_info info) → bytes ≡ is.0
   same_bytes bytes at info is = let both : Some bytes ≡ Some is.0 = sym at ∙ is.1 in cc
 
   info_view : InfoView
@@ -193,7 +193,7 @@ module _ (what : What) (c : Command) (folder : List ℕ) (e : Ended) (dep_info :
   answer_so _ (words.no_dep_info well is none) =
       well_so well ∙ compile_so is ∙ ap (λ (r : Result DepInfo UnitFault). r >>= (λ i. info_inputs c i >>= (λ inputs. Ok record { directives = None; inputs = inputs }))) (unread none)
     where
-      unread : ((info : DepInfo) → IsInfo dep_info info → ⊥) → read_info dep_info ≡ Err unit_fault.NoDepInfo
+      unread : ((info : DepInfo) → HasInfo dep_info info → ⊥) → read_info dep_info ≡ Err unit_fault.NoDepInfo
       unread none = elim info_view [ inl i ↦ absurd (none i.0 i.1) | inr bad ↦ bad.0 ]
   answer_so _ (words.bad_line well is fault read) =
       well_so well ∙ run_so is
@@ -215,7 +215,7 @@ module _ (what : What) (c : Command) (folder : List ℕ) (e : Ended) (dep_info :
   found : (a : Answer) → Is a → Is answer
   found a is = subst Is (sym (answer_so a is)) is
 
-  by_inputs : EndedWell e → (said : Option (List Directive)) (paths variables : List (List ℕ)) → IsTold what c folder e dep_info said paths variables → Is answer
+  by_inputs : EndedWell e → (said : Option (List Directive)) (paths variables : List (List ℕ)) → ReportsInputs what c folder e dep_info said paths variables → Is answer
   by_inputs well said paths variables told = by (find (words.is_foreign c) paths) refl
     where
       by : (o : Option (List ℕ)) → find (words.is_foreign c) paths ≡ o → Is answer

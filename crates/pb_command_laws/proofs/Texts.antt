@@ -12,7 +12,7 @@ use Rattle.pb_directive.specs.declared.directive.Directive.{Directive}
 use Rattle.pb_directive.specs.declared.fault.LineFault.{LineFault}
 use Rattle.pb_directive.specs.declared.fault.Problem.{Problem}
 use Rattle.pb_command_laws.specs.Texts as texts
-use Rattle.pb_command_laws.specs.Texts.{AreRead, InfosAreRead, OutputsAreRead}
+use Rattle.pb_command_laws.specs.Texts.{LinesAreRead, InfosAreRead, OutputsAreRead}
 
 -- the parts, one after another
 abbrev pub all_of : {T U : Type 0} → U → (T → U → U) → List T → U
@@ -26,13 +26,13 @@ module _ {T U : Type 0} (read : List ℕ → Result T Problem) where
     first : (place k : ℕ) (is : k ≡ place + number) (line : List ℕ) (problem : Problem) (there : slice_get lines place ≡ Some line) (wrong : read line ≡ Err problem)
         (before : (n : ℕ) (other : List ℕ) → n < place → slice_get lines n ≡ Some other → is_ok (read other) ≡ true) → From all number lines (Err (fault_at k problem))
 
-  from_one : (all : List T → U) (lines : List (List ℕ)) (answer : Result U LineFault) → From all 1 lines answer → AreRead read all lines answer
+  from_one : (all : List T → U) (lines : List (List ℕ)) (answer : Result U LineFault) → From all 1 lines answer → LinesAreRead read all lines answer
   from_one all lines _ (each parts are) = texts.each parts are
   from_one all lines _ (first place k is line problem there wrong before) =
-      subst (λ n. AreRead read all lines (Err (fault_at n problem))) (sym is) (texts.first place line problem there wrong before)
+      subst (λ n. LinesAreRead read all lines (Err (fault_at n problem))) (sym is) (texts.first place line problem there wrong before)
 
   -- put on the parts of the whole
-  put : {V : Type 0} (put_on : U → V) (all : List T → U) (lines : List (List ℕ)) (answer : Result U LineFault) → AreRead read all lines answer → AreRead read (λ parts. put_on (all parts)) lines (answer >>= (λ u. Ok (put_on u)))
+  put : {V : Type 0} (put_on : U → V) (all : List T → U) (lines : List (List ℕ)) (answer : Result U LineFault) → LinesAreRead read all lines answer → LinesAreRead read (λ parts. put_on (all parts)) lines (answer >>= (λ u. Ok (put_on u)))
   put put_on all lines _ (texts.each parts are) = texts.each parts are
   put put_on all lines _ (texts.first place line problem there wrong before) = texts.first place line problem there wrong before
 
@@ -62,13 +62,13 @@ module _ {T U : Type 0} (read : List ℕ → Result T Problem) where
         by rest (Err problem) wrong =
             subst (From all number (line ∷ lines)) (sym (step number line lines ∙ ap (onward number lines) wrong)) (first zero number (omega arith) line problem refl wrong (λ n other low at. absurd (omega arith)))
 
-    pub are_read : (lines : List (List ℕ)) → AreRead read all lines (fold 1 lines)
+    pub are_read : (lines : List (List ℕ)) → LinesAreRead read all lines (fold 1 lines)
     are_read lines = from_one all lines (fold 1 lines) (all_from 1 lines)
 
 -- all parts of an output, and of dep-info
 
-same_all : {T U : Type 0} (read : List ℕ → Result T Problem) (all other : List T → U) (lines : List (List ℕ)) (answer : Result U LineFault) → ((parts : List T) → all parts ≡ other parts) → AreRead read all lines answer → AreRead read other lines answer
-same_all read all other lines _ same (texts.each parts are) = subst (λ u. AreRead read other lines (Ok u)) (sym (same parts)) (texts.each parts are)
+same_all : {T U : Type 0} (read : List ℕ → Result T Problem) (all other : List T → U) (lines : List (List ℕ)) (answer : Result U LineFault) → ((parts : List T) → all parts ≡ other parts) → LinesAreRead read all lines answer → LinesAreRead read other lines answer
+same_all read all other lines _ same (texts.each parts are) = subst (λ u. LinesAreRead read other lines (Ok u)) (sym (same parts)) (texts.each parts are)
 same_all read all other lines _ same (texts.first place line problem there wrong before) = texts.first place line problem there wrong before
 
 said_all : (parts : List (List Directive)) → all_of [] (λ here more. here ++ more) parts ≡ flat_map (λ said. said) parts

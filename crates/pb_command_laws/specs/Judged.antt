@@ -42,8 +42,8 @@ abbrev pub paths_said : List ℕ → List (List ℕ) → List (List ℕ)
 paths_said folder texts = once (flat_map (path_said folder) texts)
 
 -- the dep-info of a compile exists, is short, and is read as `info`
-abbrev pub IsInfo : Option (List ℕ) → DepInfo → Type 0
-IsInfo file info = (bytes : List ℕ) × (file ≡ Some bytes) × IsShort bytes × (dep_info_of bytes ≡ Ok info)
+abbrev pub HasInfo : Option (List ℕ) → DepInfo → Type 0
+HasInfo file info = (bytes : List ℕ) × (file ≡ Some bytes) × IsShort bytes × (dep_info_of bytes ≡ Ok info)
 
 -- the path is in the target folder, but in no folder that the command may read
 abbrev pub is_foreign : Command → List ℕ → Bool
@@ -52,9 +52,9 @@ is_foreign c path = is_at_or_below c.target path && not (list_any (λ folder. is
 -- The paths and variables that a child reports as inputs.
 -- - A compile reports those of its dep-info, except variables that the command sets.
 -- - A run reports those of its lines, or its package's folder if no line names an input.
-pub data IsTold (what : What) (c : Command) (folder : List ℕ) (e : Ended) (dep_info : Option (List ℕ)) : Option (List Directive) → List (List ℕ) → List (List ℕ) → Type 0 where
-  compile : (is : is_run what ≡ false) (info : DepInfo) (read : IsInfo dep_info info) → IsTold what c folder e dep_info None (paths_said c.folder info.words) (inherited c info.variables)
-  run : (is : is_run what ≡ true) (said : List Directive) (read : directives_of e.stdout ≡ Ok said) (fine : asked (codes "error") said ≡ []) → IsTold what c folder e dep_info (Some said)
+pub data ReportsInputs (what : What) (c : Command) (folder : List ℕ) (e : Ended) (dep_info : Option (List ℕ)) : Option (List Directive) → List (List ℕ) → List (List ℕ) → Type 0 where
+  compile : (is : is_run what ≡ false) (info : DepInfo) (read : HasInfo dep_info info) → ReportsInputs what c folder e dep_info None (paths_said c.folder info.words) (inherited c info.variables)
+  run : (is : is_run what ≡ true) (said : List Directive) (read : directives_of e.stdout ≡ Ok said) (fine : asked (codes "error") said ≡ []) → ReportsInputs what c folder e dep_info (Some said)
       (if length (asked (codes "rerun-if-changed") said ++ asked (codes "rerun-if-env-changed") said) == 0 then folder ∷ [] else paths_said folder (asked (codes "rerun-if-changed") said)) (once (asked (codes "rerun-if-env-changed") said))
 
 -- The answer of a child. The way in which it ended is checked first, then a run's lines or a
@@ -63,12 +63,12 @@ pub data IsTold (what : What) (c : Command) (folder : List ℕ) (e : Ended) (dep
 pub data IsAnswer (what : What) (c : Command) (folder : List ℕ) (e : Ended) (dep_info : Option (List ℕ)) : Result CheckedReply UnitFault → Type 0 where
   too_long : (is : IsShort e.stdout × IsShort e.stderr → ⊥) → IsAnswer what c folder e dep_info (Err unit_fault.OutputTooLong)
   status : (short : IsShort e.stdout × IsShort e.stderr) (is : e.status ≢ pos 0) → IsAnswer what c folder e dep_info (Err (unit_fault.Status e.status))
-  no_dep_info : (well : EndedWell e) (is : is_run what ≡ false) (none : (info : DepInfo) → IsInfo dep_info info → ⊥) → IsAnswer what c folder e dep_info (Err unit_fault.NoDepInfo)
+  no_dep_info : (well : EndedWell e) (is : is_run what ≡ false) (none : (info : DepInfo) → HasInfo dep_info info → ⊥) → IsAnswer what c folder e dep_info (Err unit_fault.NoDepInfo)
   bad_line : (well : EndedWell e) (is : is_run what ≡ true) (fault : LineFault) (read : directives_of e.stdout ≡ Err fault) → IsAnswer what c folder e dep_info (Err (unit_fault.Directive fault))
   script_error : (well : EndedWell e) (is : is_run what ≡ true) (said : List Directive) (read : directives_of e.stdout ≡ Ok said) (some : asked (codes "error") said ≢ []) → IsAnswer what c folder e dep_info (Err unit_fault.ScriptError)
-  refused : (well : EndedWell e) (said : Option (List Directive)) (paths variables : List (List ℕ)) (told : IsTold what c folder e dep_info said paths variables) (path : List ℕ) (foreign : find (is_foreign c) paths ≡ Some path)
+  refused : (well : EndedWell e) (said : Option (List Directive)) (paths variables : List (List ℕ)) (told : ReportsInputs what c folder e dep_info said paths variables) (path : List ℕ) (foreign : find (is_foreign c) paths ≡ Some path)
       → IsAnswer what c folder e dep_info (Err (unit_fault.ForeignInput path))
-  good : (well : EndedWell e) (paths variables : List (List ℕ)) (answered : CheckedReply) (told : IsTold what c folder e dep_info answered.directives paths variables) (none : find (is_foreign c) paths ≡ None)
+  good : (well : EndedWell e) (paths variables : List (List ℕ)) (answered : CheckedReply) (told : ReportsInputs what c folder e dep_info answered.directives paths variables) (none : find (is_foreign c) paths ≡ None)
       (inputs : answered.inputs ≡ map Path (filter (λ path. not (is_at_or_below c.target path)) paths) ++ map Variable variables) → IsAnswer what c folder e dep_info (Ok answered)
 
 abbrev pub AnswersSay : Type 0

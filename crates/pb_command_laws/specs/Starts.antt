@@ -12,7 +12,7 @@ use Rattle.pb_command.specs.Command.{command_of}
 
 -- The command starts in this folder and writes into the unit's folder. In the target folder the
 -- command may read the folders of all units that the unit reaches, in plan order.
-pub record IsOfUnit (setup : Setup) (project : Project) (unit : Planned) (folder : List ℕ) (command : Command) : Type 0 where
+pub record StartsFor (setup : Setup) (project : Project) (unit : Planned) (folder : List ℕ) (command : Command) : Type 0 where
   pub folder_is : command.folder ≡ folder
   pub out : command.out ≡ Some unit.out
   pub target : command.target ≡ project.workspace.target
@@ -21,12 +21,12 @@ pub record IsOfUnit (setup : Setup) (project : Project) (unit : Planned) (folder
 
 -- a compile starts the compiler in the workspace's root
 abbrev pub StartsCompiler : Setup → Project → Planned → Command → Type 0
-StartsCompiler setup project unit command = (command.program ≡ setup.rustc) × IsOfUnit setup project unit project.workspace.root command
+StartsCompiler setup project unit command = (command.program ≡ setup.rustc) × StartsFor setup project unit project.workspace.root command
 
 -- The command starts a script in the package's folder. The words of the runner come first, if there
 -- is one, and then the script.
 abbrev pub StartsScript : Setup → Project → Planned → Package → Option (List ℕ) → Command → Type 0
-StartsScript setup project unit p file command = ((script : List ℕ) → file ≡ Some script → command.program ∷ command.words ≡ setup.runner ++ script ∷ []) × IsOfUnit setup project unit p.folder command
+StartsScript setup project unit p file command = ((script : List ℕ) → file ≡ Some script → command.program ∷ command.words ≡ setup.runner ++ script ∷ []) × StartsFor setup project unit p.folder command
 
 -- The laws of what a command starts.
 

@@ -18,16 +18,16 @@ LinesAreTrimmed = (line : List ℕ) → let rest = drop (prefix_len is_blank lin
 
 -- The result of reading lines is what each line yields, in order. If some line has a problem, it is
 -- the problem of the first such line, with the line's number. The first line has the number 1.
-pub data AreRead {T U : Type 0} (read : List ℕ → Result T Problem) (all : List T → U) (lines : List (List ℕ)) : Result U LineFault → Type 0 where
-  each : (parts : List T) (are : AllZip (λ line part. read line ≡ Ok part) lines parts) → AreRead read all lines (Ok (all parts))
+pub data LinesAreRead {T U : Type 0} (read : List ℕ → Result T Problem) (all : List T → U) (lines : List (List ℕ)) : Result U LineFault → Type 0 where
+  each : (parts : List T) (are : AllZip (λ line part. read line ≡ Ok part) lines parts) → LinesAreRead read all lines (Ok (all parts))
   first : (index : ℕ) (line : List ℕ) (problem : Problem) (there : slice_get lines index ≡ Some line) (wrong : read line ≡ Err problem)
-      (before : (n : ℕ) (other : List ℕ) → n < index → slice_get lines n ≡ Some other → is_ok (read other) ≡ true) → AreRead read all lines (Err (fault_at (index + 1) problem))
+      (before : (n : ℕ) (other : List ℕ) → n < index → slice_get lines n ≡ Some other → is_ok (read other) ≡ true) → LinesAreRead read all lines (Err (fault_at (index + 1) problem))
 
 -- The directives of an output are those of its lines, line after line.
 abbrev pub OutputsAreRead : Type 0
-OutputsAreRead = (bytes : List ℕ) → AreRead line_directives (flat_map (λ said. said)) (lines_of bytes) (directives_of bytes)
+OutputsAreRead = (bytes : List ℕ) → LinesAreRead line_directives (flat_map (λ said. said)) (lines_of bytes) (directives_of bytes)
 
 -- Dep-info names the words and variables that its lines name, each once, in order of first mention.
 abbrev pub InfosAreRead : Type 0
 InfosAreRead = (bytes : List ℕ)
-    → AreRead line_info (λ infos. record { words = once (flat_map (λ (info : DepInfo). info.words) infos); variables = once (flat_map (λ (info : DepInfo). info.variables) infos) }) (lines_of bytes) (dep_info_of bytes)
+    → LinesAreRead line_info (λ infos. record { words = once (flat_map (λ (info : DepInfo). info.words) infos); variables = once (flat_map (λ (info : DepInfo). info.variables) infos) }) (lines_of bytes) (dep_info_of bytes)

@@ -255,7 +255,7 @@ fn names_but(alloc: Global, names: &[Text], others: &OrderedSet) -> Result<Items
 }
 
 /// Returns the variables that a command does not set.
-pub(crate) fn inherited(
+pub(crate) fn variables_not_set(
     alloc: Global,
     command: &Command,
     names: &[Text],

@@ -8,7 +8,7 @@ ghost use Rattle.pb_command_types.specs.Targets.{folder_of};
 ghost use Rattle.pb_command_reply.specs.Answers.{is_too_long, ended_fault, info_in, read_info, inputs_of, info_inputs, compile_answered, changed_path, changed_variable, is_error, unless_error, said_in, marked_inputs, rerun_inputs, said_inputs, run_answered, answered_by, answered_of, named_in};
 ghost use Rattle.pb_command_types.specs.declared.fault.UnitFault.TheVariants as unit_fault;
 
-use crate::input_names::{inherited, inputs_of, once, paths_from};
+use crate::input_names::{inputs_of, once, paths_from, variables_not_set};
 use crate::meaning::{ByPlace, ByText, Meaning};
 use pb_command_types::{CheckedReply, Project, UnitFault, folder_of};
 use pb_data::{Bytes, Items, MAX_STREAM_BYTES, Text, TryCopy};
@@ -80,7 +80,7 @@ fn info_inputs<M: Meaning>(
         inputs) result (info_inputs command.now info.now) }
 {
     let paths = paths_from(alloc, meaning, &command.folder, info.words.as_slice())?;
-    let names = inherited(alloc, command, info.variables.as_slice())?;
+    let names = variables_not_set(alloc, command, info.variables.as_slice())?;
     inputs_of(alloc, command, paths, names)
 }
 
@@ -368,7 +368,7 @@ fn answered_with<M: Meaning>(
 /// - `ForeignInput`, with the first input at or below the target folder that is in no folder of a
 ///   reached unit.
 /// - `OutOfMemory`.
-pub fn answered(
+pub fn check_reply(
     alloc: Global,
     project: &Project,
     unit: &Planned,
@@ -386,7 +386,7 @@ pub fn answered(
 /// Returns what the reply of a unit's child yields, as `answered` does, and with its errors. A text
 /// means the path of the place (`Place::path_from`): on a machine, a `..` after a link leads to the
 /// folder that contains the link's target.
-pub fn answered_at<P: Place>(
+pub fn check_reply_at<P: Place>(
     alloc: Global,
     place: &P,
     project: &Project,
@@ -426,7 +426,7 @@ pub fn inputs(
         names) result (named_in (answered_of project.now unit.now command.now ended.now
         (option_map (λ bytes. bytes.now) dep_info.entry))) }
 {
-    match answered(alloc, project, unit, command, ended, dep_info) {
+    match check_reply(alloc, project, unit, command, ended, dep_info) {
         Ok(found) => Ok(found.inputs),
         Err(fault) => Err(fault),
     }

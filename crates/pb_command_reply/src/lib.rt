@@ -6,4 +6,4 @@ mod input_names;
 mod judging;
 mod meaning;
 
-pub use judging::{answered, answered_at, ended_fault, inputs};
+pub use judging::{check_reply, check_reply_at, ended_fault, inputs};

@@ -74,7 +74,7 @@ fn library_source(owner: &Package) -> &str
 fn source_of_binary<'a>(owner: &'a Package, name: &Text) -> &'a str
     ensures { result.now ≡ binary_source (binary_named name.now owner.now.binaries) }
 {
-    match owner.binaries.named(name) {
+    match owner.binaries.get_named(name) {
         Some(binary) => binary.source.as_str(),
         None => "",
     }

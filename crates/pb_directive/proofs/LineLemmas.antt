@@ -10,7 +10,7 @@ use Rattle.pb_directive.proofs.SettingLemmas.{plain_view, plain_so, filled_view,
 use Rattle.pb_directive.proofs.TextLemmas.{after_prefix-append}
 use Rattle.pb_directive.specs.Directives.{plain, key_of, new_key_of, one, directives_at, known, new_setting, metadata, or_metadata, old_setting, old_line, new_line, text_directives, line_directives}
 use Rattle.pb_directive.specs.LineWords as words
-use Rattle.pb_directive.specs.LineWords.{IsPlain, IsSaid, IsSaidNew, IsSaidOld, IsUnknown, IsOld, problem_at, IsSetting, IsLine, LinesSay}
+use Rattle.pb_directive.specs.LineWords.{IsPlain, IsSaid, IsSaidNew, IsSaidOld, IsUnknown, IsOld, problem_at, IsSetting, MeansLine, LinesSay}
 use Rattle.pb_directive.specs.Lines.{after_prefix, has_byte, split_first, text_of, trimmed}
 use Rattle.pb_directive.specs.declared.directive.Directive.{Directive}
 use Rattle.pb_directive.specs.declared.directive.Directive.TheVariants as says
@@ -128,11 +128,11 @@ old_there line key value at is_old =
     ∙ ap old_line (ap (after_prefix (codes "cargo:")) at.whole ∙ after_prefix-append (codes "cargo:") (key ++ 61 ∷ value)) ∙ ap old_setting (cut_there 61 key value at.first)
 
 -- what is read of a line is what it says
-line_view : (line : List ℕ) → IsLine line (line_directives line)
+line_view : (line : List ℕ) → MeansLine line (line_directives line)
 line_view line = by (is_utf8 (trimmed line)) refl
   where
     So : Answer → Type 0
-    So answer = IsLine line answer
+    So answer = MeansLine line answer
 
     silently : (read : line_directives line ≡ Ok []) → ((setting : List ℕ) → is_utf8 (trimmed line) ≡ true → trimmed line ≡ codes "cargo::" ++ setting → ⊥) → ((key value : List ℕ) → IsSetting line (codes "cargo:") key value → ⊥)
         → So (line_directives line)
@@ -193,7 +193,7 @@ line_view line = by (is_utf8 (trimmed line)) refl
         silently (ap (λ b. text_directives (if b then Some (trimmed line) else None)) raw) (λ setting text whole. (let no : true ≡ false = sym text ∙ raw in cc)) (λ key value is. (let no : true ≡ false = sym is.text ∙ raw in cc))
 
 -- and what it says is read
-line_so : (line : List ℕ) (answer : Answer) → IsLine line answer → line_directives line ≡ answer
+line_so : (line : List ℕ) (answer : Answer) → MeansLine line answer → line_directives line ≡ answer
 line_so line _ (words.new key value said at is) = let s = new_said_at key value said is in new_there line key value at ∙ ap (λ o. known o value) s.new ∙ s.read
 line_so line _ (words.new_unknown key value at unknown) = new_there line key value at ∙ ap (λ o. known o value) (none_new key unknown)
 line_so line _ (words.new_refused key value at some unsaid) = by (new_key_of key) refl
@@ -240,4 +240,4 @@ line_so line _ (words.silent no_new no_old) = by (is_utf8 (trimmed line)) refl
     by false raw = ap (λ b. text_directives (if b then Some (trimmed line) else None)) raw
 
 pub lines_say : LinesSay
-lines_say line answer = (λ read. subst (IsLine line) read (line_view line), line_so line answer)
+lines_say line answer = (λ read. subst (MeansLine line) read (line_view line), line_so line answer)

@@ -81,15 +81,15 @@ pub record IsSetting (line prefix key value : List ℕ) : Type 0 where
 
 -- What a line means. The line `cargo::KEY=VALUE` or `cargo:KEY=VALUE` means what its key means. A
 -- line with `cargo::` must have `=` and a value. Any other line means nothing.
-pub data IsLine (line : List ℕ) : Result (List Directive) Problem → Type 0 where
-  new : (key value : List ℕ) (said : List Directive) (at : IsSetting line (codes "cargo::") key value) (is : IsSaidNew key value said) → IsLine line (Ok said)
-  new_unknown : (key value : List ℕ) (at : IsSetting line (codes "cargo::") key value) (unknown : IsUnknown IsSaidNew key) → IsLine line (Err problem.UnknownKey)
-  new_refused : (key value : List ℕ) (at : IsSetting line (codes "cargo::") key value) (known : IsUnknown IsSaidNew key → ⊥) (unsaid : (said : List Directive) → IsSaidNew key value said → ⊥) → IsLine line (Err (problem_at key value))
-  new_without_value : (setting : List ℕ) (text : is_utf8 (trimmed line) ≡ true) (whole : trimmed line ≡ codes "cargo::" ++ setting) (first : IsUncut setting) → IsLine line (Err problem.BadValue)
-  old : (key value : List ℕ) (said : List Directive) (at : IsSetting line (codes "cargo:") key value) (is_old : IsOld key) (is : IsSaidOld key value said) → IsLine line (Ok said)
-  old_refused : (key value : List ℕ) (at : IsSetting line (codes "cargo:") key value) (is_old : IsOld key) (unsaid : (said : List Directive) → IsSaidOld key value said → ⊥) → IsLine line (Err (problem_at key value))
-  silent : (no_new : (setting : List ℕ) → is_utf8 (trimmed line) ≡ true → trimmed line ≡ codes "cargo::" ++ setting → ⊥) (no_old : (key value : List ℕ) → IsSetting line (codes "cargo:") key value → ⊥) → IsLine line (Ok [])
+pub data MeansLine (line : List ℕ) : Result (List Directive) Problem → Type 0 where
+  new : (key value : List ℕ) (said : List Directive) (at : IsSetting line (codes "cargo::") key value) (is : IsSaidNew key value said) → MeansLine line (Ok said)
+  new_unknown : (key value : List ℕ) (at : IsSetting line (codes "cargo::") key value) (unknown : IsUnknown IsSaidNew key) → MeansLine line (Err problem.UnknownKey)
+  new_refused : (key value : List ℕ) (at : IsSetting line (codes "cargo::") key value) (known : IsUnknown IsSaidNew key → ⊥) (unsaid : (said : List Directive) → IsSaidNew key value said → ⊥) → MeansLine line (Err (problem_at key value))
+  new_without_value : (setting : List ℕ) (text : is_utf8 (trimmed line) ≡ true) (whole : trimmed line ≡ codes "cargo::" ++ setting) (first : IsUncut setting) → MeansLine line (Err problem.BadValue)
+  old : (key value : List ℕ) (said : List Directive) (at : IsSetting line (codes "cargo:") key value) (is_old : IsOld key) (is : IsSaidOld key value said) → MeansLine line (Ok said)
+  old_refused : (key value : List ℕ) (at : IsSetting line (codes "cargo:") key value) (is_old : IsOld key) (unsaid : (said : List Directive) → IsSaidOld key value said → ⊥) → MeansLine line (Err (problem_at key value))
+  silent : (no_new : (setting : List ℕ) → is_utf8 (trimmed line) ≡ true → trimmed line ≡ codes "cargo::" ++ setting → ⊥) (no_old : (key value : List ℕ) → IsSetting line (codes "cargo:") key value → ⊥) → MeansLine line (Ok [])
 
 -- the reader returns this for a line if and only if it is what the line means
 abbrev pub LinesSay : Type 0
-LinesSay = (line : List ℕ) (answer : Result (List Directive) Problem) → (line_directives line ≡ answer) ↔ IsLine line answer
+LinesSay = (line : List ℕ) (answer : Result (List Directive) Problem) → (line_directives line ≡ answer) ↔ MeansLine line answer

@@ -20,6 +20,6 @@ pub mod words;
 pub use dep_info::DepInfo;
 pub use directive::{Directive, Directives};
 pub use fault::LineFault;
-pub use metadata::{add_dep_pairs, dep_pairs, underscored};
+pub use metadata::{add_dep_pairs, dep_pairs, with_underscores};
 pub use names::read_dep_info;
 pub use read::read_directives;

@@ -100,7 +100,7 @@ fn trimmed_end(bytes: &[u8]) -> &[u8]
 }
 
 /// Returns a line without the spaces, tabs and carriage returns at its ends.
-pub fn trimmed(line: &[u8]) -> &[u8]
+pub fn trim_line(line: &[u8]) -> &[u8]
     ensures { result.now ≡ trimmed line.now }
 {
     trimmed_end(trimmed_front(line))

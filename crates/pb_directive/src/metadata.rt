@@ -18,7 +18,7 @@ fn split_at_dash(text: &str) -> Option<(&str, &str)>
 }
 
 /// Returns a text with `_` for each `-`.
-pub fn underscored(alloc: Global, text: &str) -> Result<String, AllocError>
+pub fn with_underscores(alloc: Global, text: &str) -> Result<String, AllocError>
     ensures { IfOk result (λ made. string_bytes made ≡ underscored text.now) }
 {
     let mut made = String::new(alloc);
@@ -37,7 +37,7 @@ fn in_capitals(alloc: Global, text: &str) -> Result<String, AllocError>
     ensures { IfOk result (λ made. string_bytes made ≡ in_capitals text.now) }
 {
     let upper = text.to_uppercase(alloc)?;
-    let made = underscored(alloc, upper.as_str())?;
+    let made = with_underscores(alloc, upper.as_str())?;
     Ok(made)
 }
 

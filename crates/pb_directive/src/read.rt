@@ -8,9 +8,9 @@ use crate::directive::{Directive, Directives, Key};
 use crate::fault::{LineFault, Problem};
 use crate::flags::add_flags;
 use crate::keys::{key_of, new_key_of};
-use crate::lines::{lines_of, trimmed};
+use crate::lines::{lines_of, trim_line};
 use crate::texts::{after_prefix, has_nul, split_at_equals, text_of};
-use crate::values::{filled, halves, named_value, plain, variable};
+use crate::values::{halves, named_value, plain, unless_empty, variable};
 use crate::words::words_of;
 use pb_data::{Items, Text};
 use std::alloc::Global;
@@ -20,7 +20,7 @@ fn add_at(alloc: Global, key: Key, value: &str, found: &mut Directives) -> Resul
     ensures { Adds result found.old found.new (directives_at key value.now) }
 {
     let directive = match key {
-        Key::RerunIfChanged => Directive::RerunIfChanged(filled(alloc, value)?),
+        Key::RerunIfChanged => Directive::RerunIfChanged(unless_empty(alloc, value)?),
         Key::RerunIfEnvChanged => Directive::RerunIfEnvChanged(variable(alloc, value)?),
         Key::LinkArg => Directive::LinkArg(plain(alloc, value)?),
         Key::LinkArgBins => Directive::LinkArgBins(plain(alloc, value)?),
@@ -32,10 +32,10 @@ fn add_at(alloc: Global, key: Key, value: &str, found: &mut Directives) -> Resul
             let (name, flag) = halves(alloc, value)?;
             Directive::LinkArgBin(name, flag)
         }
-        Key::LinkLib => Directive::LinkLib(filled(alloc, value)?),
-        Key::LinkSearch => Directive::LinkSearch(filled(alloc, value)?),
-        Key::Cfg => Directive::Cfg(filled(alloc, value)?),
-        Key::CheckCfg => Directive::CheckCfg(filled(alloc, value)?),
+        Key::LinkLib => Directive::LinkLib(unless_empty(alloc, value)?),
+        Key::LinkSearch => Directive::LinkSearch(unless_empty(alloc, value)?),
+        Key::Cfg => Directive::Cfg(unless_empty(alloc, value)?),
+        Key::CheckCfg => Directive::CheckCfg(unless_empty(alloc, value)?),
         Key::Flags => {
             if has_nul(value) {
                 return Err(Problem::BadValue);
@@ -74,7 +74,7 @@ fn add_new(alloc: Global, setting: &str, found: &mut Directives) -> Result<(), P
 fn metadata(alloc: Global, name: &str, value: &str) -> Result<Directive, Problem>
     ensures { LineGives result (metadata name.now value.now) }
 {
-    let name = filled(alloc, name)?;
+    let name = unless_empty(alloc, name)?;
     let value = plain(alloc, value)?;
     Ok(Directive::Metadata(name, value))
 }
@@ -97,7 +97,7 @@ fn add_old(alloc: Global, setting: &str, found: &mut Directives) -> Result<(), P
 fn add_line(alloc: Global, line: &[u8], found: &mut Directives) -> Result<(), Problem>
     ensures { Adds result found.old found.new (line_directives line.now) }
 {
-    let Some(text) = text_of(trimmed(line)) else {
+    let Some(text) = text_of(trim_line(line)) else {
         return Ok(());
     };
     if let Some(setting) = after_prefix("cargo::", text) {

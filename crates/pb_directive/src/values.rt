@@ -19,7 +19,7 @@ pub fn plain(alloc: Global, value: &str) -> Result<Text, Problem>
 }
 
 /// Returns a value without byte 0 that is not empty.
-pub fn filled(alloc: Global, value: &str) -> Result<Text, Problem>
+pub fn unless_empty(alloc: Global, value: &str) -> Result<Text, Problem>
     ensures { LineGives result (filled value.now) }
 {
     if value.is_empty() {
@@ -36,7 +36,7 @@ pub fn variable(alloc: Global, value: &str) -> Result<Text, Problem>
     if value.as_bytes().contains(&b'=') {
         return Err(Problem::BadValue);
     }
-    let name = filled(alloc, value)?;
+    let name = unless_empty(alloc, value)?;
     Ok(name)
 }
 

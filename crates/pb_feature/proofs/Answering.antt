@@ -5,7 +5,7 @@ use Rattle.pb_workspace_types.specs.declared.options.Selection.{Selection}
 use Rattle.pb_workspace_types.specs.declared.workspace.Workspace.{Workspace}
 use Rattle.pb_feature.specs.declared.fault.FeatureFault.{FeatureFault}
 use Rattle.pb_feature.specs.declared.fault.FeatureFault.TheVariants.{OutOfMemory, NoSuchFeature}
-use Rattle.pb_feature.specs.Faults.{IsMissing, Refuses}
+use Rattle.pb_feature.specs.Faults.{LacksFeature, Refuses}
 use Rattle.pb_feature.specs.Answered.{is_answered, IsUnanswered}
 use Rattle.pb_feature.specs.Checked.{IsFirstBelow, IsSofar}
 use Rattle.pb_feature.proofs.Refusing.{refused_item, refused_asked, refused_missing, none_refused}
@@ -32,9 +32,9 @@ module _ (ws : Workspace) (selection asked : Selection) (qs rs : List Package) (
   asked_error right e (inl memory) = inl memory
   asked_error right e (inr (is, none)) = inr (subst (Refuses ws selection) (sym is) (refused_asked ws selection (right_is right) (subst (IsUnanswered ws.packages) same_asked (subst (λ q. IsUnanswered q asked) same_rs none))))
 
-  pub missing_error : Right → Answered → (e : FeatureFault) → (e ≡ OutOfMemory) ⊎ ((e ≡ NoSuchFeature) × IsMissing ws selection) → (e ≡ OutOfMemory) ⊎ Refuses ws selection e
+  pub missing_error : Right → Answered → (e : FeatureFault) → (e ≡ OutOfMemory) ⊎ ((e ≡ NoSuchFeature) × LacksFeature ws selection) → (e ≡ OutOfMemory) ⊎ Refuses ws selection e
   missing_error right each e (inl memory) = inl memory
   missing_error right each e (inr (is, missing)) = inr (subst (Refuses ws selection) (sym is) (refused_missing ws selection (right_is right) (answered_is each) missing))
 
-  pub nothing_refused : Right → Answered → (IsMissing ws selection → ⊥) → (fault : FeatureFault) → Refuses ws selection fault → ⊥
+  pub nothing_refused : Right → Answered → (LacksFeature ws selection → ⊥) → (fault : FeatureFault) → Refuses ws selection fault → ⊥
   nothing_refused right each complete = none_refused ws selection (right_is right) (answered_is each) complete

@@ -14,7 +14,7 @@ use Rattle.pb_feature.specs.declared.fault.FeatureFault.{FeatureFault}
 use Rattle.pb_feature.specs.declared.fault.FeatureFault.TheVariants.{OutOfMemory, NoSuchFeature}
 use Rattle.pb_feature_types.specs.declared.features.Features.{Features}
 use Rattle.pb_feature.specs.Facts.{Has}
-use Rattle.pb_feature.specs.Faults.{IsMissing}
+use Rattle.pb_feature.specs.Faults.{LacksFeature}
 use Rattle.pb_feature.specs.Numbers.{bases_from, end_from, slot}
 use Rattle.pb_feature.specs.Rules.{rules_of, seeds_of}
 use Rattle.pb_feature.specs.Resolved.{IsResolved}
@@ -53,7 +53,7 @@ module _ (ws : Workspace) (selection : Selection) (settled : IsSettled ws) (with
   Marked bases marks = IsLeast (Least (Contains (seeds_of ws.packages bases selection)) (joined_by (rules_of ws.packages bases))) (is_on marks)
 
   pub missing_of : (qs : List Package) (bases : List ℕ) (marks : List Bool) → qs ≡ ws.packages → bases ≡ bases_from 0 ws.packages → Marked bases marks
-      → IsMarkedMissing marks bases (length qs) → IsMissing ws selection
+      → IsMarkedMissing marks bases (length qs) → LacksFeature ws selection
   missing_of qs bases marks same_qs same_bases least missing =
       let its : Marked (bases_from 0 ws.packages) marks = subst (λ b. Marked b marks) same_bases least in
       let m : IsMarkedMissing marks (bases_from 0 ws.packages) (length ws.packages) = subst (λ b. IsMarkedMissing marks b (length ws.packages)) same_bases (subst (λ q. IsMarkedMissing marks bases (length q)) same_qs missing) in
@@ -85,7 +85,7 @@ module _ (ws : Workspace) (selection : Selection) (settled : IsSettled ws) (with
       exactly ws selection settled within marks (subst (λ b. Marked b marks) same_bases least) features (made_is qs bases marks features same_qs same_bases made) (complete_is qs bases marks same_qs same_bases complete)
 
   pub complete_of : (qs : List Package) (bases : List ℕ) (marks : List Bool) (features : Features) → qs ≡ ws.packages → bases ≡ bases_from 0 ws.packages → Marked bases marks
-      → Complete qs bases marks → features.packages ≡ placed (marked_sides marks bases) 0 qs → IsMissing ws selection → ⊥
+      → Complete qs bases marks → features.packages ≡ placed (marked_sides marks bases) 0 qs → LacksFeature ws selection → ⊥
   complete_of qs bases marks features same_qs same_bases least complete made m =
       let o = whole ws selection settled within (Has m.place m.side m.feature) m.holds in
       let some : slot o.0.features m.feature ≢ 0 =
@@ -94,7 +94,7 @@ module _ (ws : Workspace) (selection : Selection) (settled : IsSettled ws) (with
 
   -- the same, of marks that are passed on, and of the error that is answered
   pub missing_error : (qs : List Package) (bases : List ℕ) (marks passed : List Bool) (e : FeatureFault) → qs ≡ ws.packages → bases ≡ bases_from 0 ws.packages → Marked bases marks → passed ≡ marks
-      → (e ≡ OutOfMemory) ⊎ ((e ≡ NoSuchFeature) × IsMarkedMissing passed bases (length qs)) → (e ≡ OutOfMemory) ⊎ ((e ≡ NoSuchFeature) × IsMissing ws selection)
+      → (e ≡ OutOfMemory) ⊎ ((e ≡ NoSuchFeature) × IsMarkedMissing passed bases (length qs)) → (e ≡ OutOfMemory) ⊎ ((e ≡ NoSuchFeature) × LacksFeature ws selection)
   missing_error qs bases marks passed e same_qs same_bases least same (inl memory) = inl memory
   missing_error qs bases marks passed e same_qs same_bases least same (inr (is, missing)) = inr (is, missing_of qs bases marks same_qs same_bases least (subst (λ m. IsMarkedMissing m bases (length qs)) same missing))
 
@@ -104,6 +104,6 @@ module _ (ws : Workspace) (selection : Selection) (settled : IsSettled ws) (with
       exactly_of qs bases marks features same_qs same_bases least (subst (Complete qs bases) same complete) (made ∙ ap (λ m. placed (marked_sides m bases) 0 qs) same_other)
 
   pub complete_passed : (qs : List Package) (bases : List ℕ) (marks passed other : List Bool) (features : Features) → qs ≡ ws.packages → bases ≡ bases_from 0 ws.packages → Marked bases marks → passed ≡ marks → other ≡ marks
-      → Complete qs bases passed → features.packages ≡ placed (marked_sides other bases) 0 qs → IsMissing ws selection → ⊥
+      → Complete qs bases passed → features.packages ≡ placed (marked_sides other bases) 0 qs → LacksFeature ws selection → ⊥
   complete_passed qs bases marks passed other features same_qs same_bases least same same_other complete made =
       complete_of qs bases marks features same_qs same_bases least (subst (Complete qs bases) same complete) (made ∙ ap (λ m. placed (marked_sides m bases) 0 qs) same_other)

@@ -15,7 +15,7 @@ use Rattle.pb_workspace_types.specs.Workspace.{has_feature_named, HasFeature}
 use Rattle.pb_feature.specs.declared.fault.FeatureFault.{FeatureFault}
 use Rattle.pb_feature.specs.declared.fault.FeatureFault.TheVariants.{NoSuchFeature}
 use Rattle.pb_feature.specs.Facts.{of_package}
-use Rattle.pb_feature.specs.Faults.{package_fault, ItemsAreRight, IsAnswered, by_name, by_package, IsMissing, Refuses, by_item, by_asked, by_missing}
+use Rattle.pb_feature.specs.Faults.{package_fault, ItemsAreRight, HasRequested, by_name, by_package, LacksFeature, Refuses, by_item, by_asked, by_missing}
 use Rattle.pb_feature.specs.Rules.{is_text_of}
 use Rattle.pb_feature.specs.Answered.{is_owner_of, owner_is, is_owner_at, is_answered, IsUnanswered}
 use Rattle.pb_feature.specs.Checked.{IsFirstBelow, IsSofar}
@@ -47,7 +47,7 @@ module _ (ws : Workspace) (selection : Selection) where
   })
 
   -- a text is that of a package exactly where the test says so
-  owner_answers : (text : List ℕ) (p : ℕ) (o : Package) → slice_get ws.packages p ≡ Some o → Contains selection.packages p → is_owner_of o text ≡ true → IsAnswered ws selection text
+  owner_answers : (text : List ℕ) (p : ℕ) (o : Package) → slice_get ws.packages p ≡ Some o → Contains selection.packages p → is_owner_of o text ≡ true → HasRequested ws selection text
   owner_answers text p o at is e =
       let h = any_at (λ (f : Feature). is_text_of o.name f.name text) o.features e in
       let there : HasFeature ws p h.0.name = record { owner = o; package_at = at; is_there = any_of (λ (f : Feature). bytes_eq h.0.name f.name) o.features h.0 h.1 (its_name h.0.name) } in
@@ -56,11 +56,11 @@ module _ (ws : Workspace) (selection : Selection) where
         | inr long ↦ by_package p h.0.name is there (same_name text (of_package o.name h.0.name) long)
       ]
 
-  at_owner : (text : List ℕ) (p : ℕ) (w : Option Package) → slice_get ws.packages p ≡ w → Contains selection.packages p → owner_is w text ≡ true → IsAnswered ws selection text
+  at_owner : (text : List ℕ) (p : ℕ) (w : Option Package) → slice_get ws.packages p ≡ w → Contains selection.packages p → owner_is w text ≡ true → HasRequested ws selection text
   at_owner text p None at is e = absurd (false≢true e)
   at_owner text p (Some o) at is e = owner_answers text p o at is e
 
-  pub answered_from : (text : List ℕ) → is_answered ws.packages selection.packages text ≡ true → IsAnswered ws selection text
+  pub answered_from : (text : List ℕ) → is_answered ws.packages selection.packages text ≡ true → HasRequested ws selection text
   answered_from text e =
       let h = any_at (is_owner_at ws.packages text) selection.packages e in
       at_owner text h.0 (slice_get ws.packages h.0) refl h.1 h.2
@@ -73,7 +73,7 @@ module _ (ws : Workspace) (selection : Selection) where
   by_test text p o at is f f_is e =
       any_of (is_owner_at ws.packages text) selection.packages p is (ap (λ w. owner_is w text) at ∙ any_of (λ (g : Feature). is_text_of o.name g.name text) o.features f f_is e)
 
-  pub answered_to : (text : List ℕ) → IsAnswered ws selection text → is_answered ws.packages selection.packages text ≡ true
+  pub answered_to : (text : List ℕ) → HasRequested ws selection text → is_answered ws.packages selection.packages text ≡ true
   answered_to text (by_name p is there) =
       let h = its_feature there.owner text there.is_there in
       by_test text p there.owner there.package_at is h.0 h.1 (or_left (bytes_eq text h.0.name) (bytes_eq text (of_package there.owner.name h.0.name)) (subst (λ n. bytes_eq text n ≡ true) (sym h.2) (its_name text)))
@@ -85,17 +85,17 @@ module _ (ws : Workspace) (selection : Selection) where
   abbrev EachAnswered : Type 0
   EachAnswered = All (λ text. is_answered ws.packages selection.packages text ≡ true) selection.features
 
-  each_is : EachAnswered → (text : List ℕ) → Contains selection.features text → IsAnswered ws selection text
+  each_is : EachAnswered → (text : List ℕ) → Contains selection.features text → HasRequested ws selection text
   each_is each text is = answered_from text (All-contains (λ t. is_answered ws.packages selection.packages t ≡ true) selection.features text each is)
 
   pub refused_asked : IsSofar ws.packages (length ws.packages) None → IsUnanswered ws.packages selection → Refuses ws selection NoSuchFeature
   refused_asked sofar none = by_asked (right_is sofar) none.text none.asked (λ is. false≢true (sym none.none ∙ answered_to none.text is))
 
-  pub refused_missing : IsSofar ws.packages (length ws.packages) None → EachAnswered → IsMissing ws selection → Refuses ws selection NoSuchFeature
+  pub refused_missing : IsSofar ws.packages (length ws.packages) None → EachAnswered → LacksFeature ws selection → Refuses ws selection NoSuchFeature
   refused_missing sofar each missing = by_missing (right_is sofar) (each_is each) missing
 
   -- nothing is refused where each check passes
-  pub none_refused : IsSofar ws.packages (length ws.packages) None → EachAnswered → (IsMissing ws selection → ⊥) → (fault : FeatureFault) → Refuses ws selection fault → ⊥
+  pub none_refused : IsSofar ws.packages (length ws.packages) None → EachAnswered → (LacksFeature ws selection → ⊥) → (fault : FeatureFault) → Refuses ws selection fault → ⊥
   none_refused sofar each complete fault (by_item _ first) = some_none (package_fault first.owner) fault first.told (right_is sofar first.place first.owner first.package_at)
   none_refused sofar each complete _ (by_asked right text is none) = none (each_is each text is)
   none_refused sofar each complete _ (by_missing right answered missing) = complete missing

@@ -70,12 +70,12 @@ abbrev pub ItemsAreRight : Workspace → Type 0
 ItemsAreRight ws = (index : ℕ) (owner : Package) → slice_get ws.packages index ≡ Some owner → package_fault owner ≡ None
 
 -- some selected package has the requested feature
-pub data IsAnswered (ws : Workspace) (selection : Selection) (text : List ℕ) : Type 0 where
-  by_name : (p : ℕ) (selected : Contains selection.packages p) (there : HasFeature ws p text) → IsAnswered ws selection text
-  by_package : (p : ℕ) (feature : List ℕ) (selected : Contains selection.packages p) (there : HasFeature ws p feature) (is : text ≡ of_package there.owner.name feature) → IsAnswered ws selection text
+pub data HasRequested (ws : Workspace) (selection : Selection) (text : List ℕ) : Type 0 where
+  by_name : (p : ℕ) (selected : Contains selection.packages p) (there : HasFeature ws p text) → HasRequested ws selection text
+  by_package : (p : ℕ) (feature : List ℕ) (selected : Contains selection.packages p) (there : HasFeature ws p feature) (is : text ≡ of_package there.owner.name feature) → HasRequested ws selection text
 
 -- a package does not have this feature, although the feature is on for it
-pub record IsMissing (ws : Workspace) (selection : Selection) : Type 0 where
+pub record LacksFeature (ws : Workspace) (selection : Selection) : Type 0 where
   pub place : ℕ
   pub side : Side
   pub feature : List ℕ
@@ -87,5 +87,5 @@ pub record IsMissing (ws : Workspace) (selection : Selection) : Type 0 where
 -- not exist there.
 pub data Refuses (ws : Workspace) (selection : Selection) : FeatureFault → Type 0 where
   by_item : (fault : FeatureFault) (first : IsFirstFault ws fault) → Refuses ws selection fault
-  by_asked : (right : ItemsAreRight ws) (text : List ℕ) (asked : Contains selection.features text) (none : IsAnswered ws selection text → ⊥) → Refuses ws selection NoSuchFeature
-  by_missing : (right : ItemsAreRight ws) (answered : (text : List ℕ) → Contains selection.features text → IsAnswered ws selection text) (missing : IsMissing ws selection) → Refuses ws selection NoSuchFeature
+  by_asked : (right : ItemsAreRight ws) (text : List ℕ) (asked : Contains selection.features text) (none : HasRequested ws selection text → ⊥) → Refuses ws selection NoSuchFeature
+  by_missing : (right : ItemsAreRight ws) (answered : (text : List ℕ) → Contains selection.features text → HasRequested ws selection text) (missing : LacksFeature ws selection) → Refuses ws selection NoSuchFeature

@@ -38,7 +38,7 @@ fn is_lesser_at(packages: &[Package], place: usize, first: Option<First>) -> boo
 }
 
 /// Returns what has been found after one more package.
-fn picked(
+fn first_of(
     fault: Option<FeatureFault>,
     first: Option<First>,
     lesser: bool,
@@ -67,7 +67,7 @@ fn first_fault(packages: &[Package]) -> Option<First>
     for place in 0..packages.len() {
         let fault = package_fault(&packages[place]);
         let lesser = is_lesser_at(packages, place, first);
-        first = picked(fault, first, lesser, place);
+        first = first_of(fault, first, lesser, place);
     }
     first
 }

@@ -148,7 +148,7 @@ impl Ground<'_> {
 
     /// Returns the number of the fact that the entry is enabled. The numbers of entries come after
     /// those of features.
-    pub(crate) fn enabled(
+    pub(crate) fn number_of_entry(
         &self,
         place: usize,
         side: Side,
@@ -168,7 +168,12 @@ impl Ground<'_> {
     }
 
     /// Returns the number of the fact that the package has the feature of this name.
-    pub(crate) fn given(&self, place: usize, side: Side, name: &[u8]) -> Result<usize, AllocError>
+    pub(crate) fn number_of_feature(
+        &self,
+        place: usize,
+        side: Side,
+        name: &[u8],
+    ) -> Result<usize, AllocError>
         ensures { IfOk result (λ i. i
             ≡ has self.now.bases.now place side (slot_at self.now.packages.now place name.now)) }
     {

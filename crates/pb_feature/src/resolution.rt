@@ -6,7 +6,7 @@ ghost use Rattle.pb_workspace_types.specs.Settled.{IsSettled};
 ghost use Rattle.pb_graph.specs.Closure.{Least, IsLeast, is_on};
 ghost use Rattle.pb_graph.specs.Table.{joined_by};
 ghost use Rattle.pb_workspace_types.specs.declared.package.Side.TheVariants.{Target, Host};
-ghost use Rattle.pb_feature.specs.Faults.{IsMissing, Refuses};
+ghost use Rattle.pb_feature.specs.Faults.{LacksFeature, Refuses};
 ghost use Rattle.pb_feature.specs.declared.fault.FeatureFault.{FeatureFault};
 ghost use Rattle.pb_feature.specs.Numbers.{bases_from, end_from, has};
 ghost use Rattle.pb_feature.specs.Rules.{rules_of, seeds_of};
@@ -22,7 +22,7 @@ use crate::resolved::features_marked;
 use crate::rules::rules_of;
 use crate::seeds::seeds_of;
 use pb_feature_types::{Features, is_marked};
-use pb_graph::derived;
+use pb_graph::derive;
 use pb_workspace_types::{Package, SelectedWorkspace, Side};
 use std::alloc::{AllocError, Global};
 
@@ -57,7 +57,7 @@ fn marks_of(
     };
     let seeds = seeds_of(alloc, &ground, selection)?;
     let rules = rules_of(alloc, &ground)?;
-    match derived(alloc, count, seeds.as_slice(), rules.as_slice()) {
+    match derive(alloc, count, seeds.as_slice(), rules.as_slice()) {
         Ok(marks) => Ok(marks),
         Err(fault) => Err(fault),
     }
@@ -91,11 +91,14 @@ fn check_missing(ground: &Ground<'_>, marks: &[bool]) -> Result<(), FeatureFault
 }
 
 /// Returns what is on, if each feature that is requested of a package exists.
-fn resolved(alloc: Global, selected: &SelectedWorkspace<'_>) -> Result<Features, FeatureFault>
+fn resolve_checked(
+    alloc: Global,
+    selected: &SelectedWorkspace<'_>,
+) -> Result<Features, FeatureFault>
     ensures exactly { IfOk result (IsResolved selected.now.workspace selected.now.selection) }
-    ensures complete { OnOk result (IsMissing selected.now.workspace selected.now.selection → ⊥) }
+    ensures complete { OnOk result (LacksFeature selected.now.workspace selected.now.selection → ⊥) }
     ensures missing { IfErr result (λ e. (e ≡ OutOfMemory)
-        ⊎ ((e ≡ NoSuchFeature) × IsMissing selected.now.workspace selected.now.selection)) }
+        ⊎ ((e ≡ NoSuchFeature) × LacksFeature selected.now.workspace selected.now.selection)) }
 {
     let packages = packages_of(selected);
     let made = bases_of(alloc, packages)?;
@@ -123,6 +126,6 @@ pub fn resolve(alloc: Global, selected: &SelectedWorkspace<'_>) -> Result<Featur
     let packages = packages_of(selected);
     check_items(packages)?;
     check_asked(alloc, packages, selected.selection())?;
-    let features = resolved(alloc, selected)?;
+    let features = resolve_checked(alloc, selected)?;
     Ok(features)
 }

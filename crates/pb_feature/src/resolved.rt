@@ -77,7 +77,7 @@ fn add_mark(
     ensures { OnOk result (enabled.new ≡ enabled.old
         ++ is_on marks.now (enabled_at ground.now.bases.now place side features index) ∷ []) }
 {
-    let number = ground.enabled(place, side, features, index)?;
+    let number = ground.number_of_entry(place, side, features, index)?;
     enabled.push(is_marked(marks, number))?;
     Ok(())
 }

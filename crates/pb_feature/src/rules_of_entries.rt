@@ -70,7 +70,7 @@ fn add_given(
         features.now) }
 {
     for feature in features {
-        let gives = ground.given(place, side, feature.as_bytes())?;
+        let gives = ground.number_of_feature(place, side, feature.as_bytes())?;
         add_alone(rules, from, gives)?;
     }
     Ok(())
@@ -123,7 +123,7 @@ fn add_entry(
         ++ entry_rules ground.now.packages.now ground.now.bases.now side place features index
         entry.now) }
 {
-    let enabled = ground.enabled(place, side, features, index)?;
+    let enabled = ground.number_of_entry(place, side, features, index)?;
     if !entry.optional {
         let on = ground.on(place, side)?;
         add_alone(rules, on, enabled)?;

@@ -73,7 +73,7 @@ struct AtEntry<'a> {
 }
 
 /// Returns the number of the feature that lists an item, on a side.
-fn listing(ground: &Ground<'_>, side: Side, at: &AtEntry<'_>) -> Result<usize, AllocError>
+fn number_of_listing(ground: &Ground<'_>, side: Side, at: &AtEntry<'_>) -> Result<usize, AllocError>
     ensures { IfOk result (λ number. number
         ≡ has ground.now.bases.now at.now.place side at.now.feature) }
 {
@@ -81,12 +81,12 @@ fn listing(ground: &Ground<'_>, side: Side, at: &AtEntry<'_>) -> Result<usize, A
 }
 
 /// Returns the number of the entry that an item names, on a side.
-fn named(ground: &Ground<'_>, side: Side, at: &AtEntry<'_>) -> Result<usize, AllocError>
+fn number_of_named(ground: &Ground<'_>, side: Side, at: &AtEntry<'_>) -> Result<usize, AllocError>
     ensures { IfOk result (λ number. number
         ≡ enabled ground.now.bases.now at.now.place side
         (length at.now.features.now) at.now.index) }
 {
-    ground.enabled(at.place, side, at.features.as_slice().len(), at.index)
+    ground.number_of_entry(at.place, side, at.features.as_slice().len(), at.index)
 }
 
 /// Adds the rule of an item `dep:N` at an entry N.
@@ -101,8 +101,8 @@ fn add_dependency(
         (enabled ground.now.bases.now at.now.place side (length at.now.features.now) at.now.index)
         ∷ []) }
 {
-    let has = listing(ground, side, at)?;
-    let enabled = named(ground, side, at)?;
+    let has = number_of_listing(ground, side, at)?;
+    let enabled = number_of_named(ground, side, at)?;
     add_alone(rules, has, enabled)
 }
 
@@ -122,8 +122,8 @@ fn add_of(
         at.now.entry.now) }
 {
     let entry = at.entry;
-    let has = listing(ground, side, at)?;
-    let enabled = named(ground, side, at)?;
+    let has = number_of_listing(ground, side, at)?;
+    let enabled = number_of_named(ground, side, at)?;
     add_alone(rules, has, enabled)?;
     let gives = ground.has(entry.to, side_made(entry.kind, side), asked)?;
     add_alone(rules, has, gives)?;
@@ -145,8 +145,8 @@ fn add_of_enabled(
         ∷ []) }
 {
     let entry = at.entry;
-    let first = listing(ground, side, at)?;
-    let second = named(ground, side, at)?;
+    let first = number_of_listing(ground, side, at)?;
+    let second = number_of_named(ground, side, at)?;
     let gives = ground.has(entry.to, side_made(entry.kind, side), asked)?;
     rules.push(Rule {
         first,

@@ -1,7 +1,7 @@
 -- What is found with a list of what is still to be looked at is the least set, once the list is empty.
 use Rattle.std.proofs.Common.{◌≡◌, ◌⊎◌, inl, inr, Bool, IsTrue, sym, subst}
 use Rattle.std.specs.Prelude.{List, Contains}
-use Rattle.pb_graph.specs.Closure.{Least, seed, joined, IsGiven, IsLeast}
+use Rattle.pb_graph.specs.Closure.{Least, seed, joined, IsYielded, IsLeast}
 
 -- nothing is found that does not belong there; and what is found and not waiting has given what it gives
 pub record Sofar {X : Type 0} (Seed : X → Type 0) (Joins : X → X → X → Type 0) (found : X → Bool) (Waits : X → Type 0) : Type 0 where
@@ -21,7 +21,7 @@ module _ {X : Type 0} (Seed : X → Type 0) (Joins : X → X → X → Type 0) w
   pub one_more : (found now : X → Bool) (Waits Waits' : X → Type 0) (thing : X) (given : List X)
       → Sofar Seed Joins found Waits → IsTrue (found thing)
       → ((z : X) → Waits z → Waits' z ⊎ (thing ≡ z))
-      → IsGiven Joins found thing given → Grows found now given Waits' → Sofar Seed Joins now Waits'
+      → IsYielded Joins found thing given → Grows found now given Waits' → Sofar Seed Joins now Waits'
   one_more found now Waits Waits' thing given so is_found rest is_given grows = record {
     sound = λ x on. elim (grows.only x on) [
       | inl before ↦ so.sound x before

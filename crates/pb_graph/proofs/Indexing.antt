@@ -7,9 +7,9 @@ use Rattle.std.proofs.lemmas.List.{length-replicate, get_or-replicate, get_or_pa
 use Rattle.std.proofs.lemmas.List.Elements.{Contains-append_left, Contains-append_cases, Contains-push, Contains-get_or}
 use Rattle.pb_graph.specs.declared.index.Link.{Link}
 use Rattle.pb_graph.specs.declared.table.Rule.{Rule}
-use Rattle.pb_graph.specs.Closure.{is_on, IsGiven}
+use Rattle.pb_graph.specs.Closure.{is_on, IsYielded}
 use Rattle.pb_graph.specs.Table.{joined_by, IsInRange}
-use Rattle.pb_graph.specs.Index.{link_at, IsRead, at_once, behind, head_at, HasLink, with_link, with_rule, either_way, IsLinked, IsWalked, IsIndex}
+use Rattle.pb_graph.specs.Index.{link_at, IsRead, at_once, behind, head_at, HasLink, with_link, with_rule, either_way, IsIndexed, IsWalked, IsIndex}
 use Rattle.pb_graph.proofs.Membership.{none, single}
 use Rattle.pb_graph.proofs.Marking.{on-below}
 use Rattle.pb_graph.proofs.Linking.{read_cases, read_at, still_read, was_read, newest_read, new_at, old_at, at_within}
@@ -47,7 +47,7 @@ module _ (n : ℕ) (Says : ℕ → ℕ → ℕ → Type 0) (heads : List ℕ) (l
     | inr le ↦ inl (old_at links added k l le at)
   ]
 
-  linked' : IsLinked n links'
+  linked' : IsIndexed n links'
   linked' = record {
     with = λ k l at. elim (link_cases k l at) [ inl was ↦ index.linked.with k l was | inr (past, same) ↦ subst (λ w. w.with < n) same lt_y ];
     gives = λ k l at. elim (link_cases k l at) [ inl was ↦ index.linked.gives k l was | inr (past, same) ↦ subst (λ w. w.gives < n) same lt_z ];
@@ -193,7 +193,7 @@ index_step n rules heads heads' links links' i d index lt fits is =
 -- what is walked is what is given
 pub given_walked : (n : ℕ) (rules : List Rule) (heads : List ℕ) (links : List Link) (known : List Bool) (thing head : ℕ) (given : List ℕ)
     → IsIndex n (either_way rules) heads links → IsTrue (is_on known thing) → head ≡ head_at heads thing → IsWalked (is_on known) links head given
-    → IsGiven (joined_by rules) (is_on known) thing given
+    → IsYielded (joined_by rules) (is_on known) thing given
 given_walked n rules heads links known thing head given index on is walked = record {
   sound = λ z has.
       (let h = walked.sound z has in
@@ -209,7 +209,7 @@ given_walked n rules heads links known thing head given index on is walked = rec
 }
 
 -- and in range
-pub given_within : (n : ℕ) (links : List Link) (known : ℕ → Bool) (head : ℕ) (given : List ℕ) → IsLinked n links → IsWalked known links head given → All (λ z. z < n) given
+pub given_within : (n : ℕ) (links : List Link) (known : ℕ → Bool) (head : ℕ) (given : List ℕ) → IsIndexed n links → IsWalked known links head given → All (λ z. z < n) given
 given_within n links known head given linked walked k d lt =
     let h = walked.sound (get_or given k d) (Contains-get_or given k d lt) in
     let at = read_at links head h.0 h.1 in

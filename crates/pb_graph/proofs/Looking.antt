@@ -1,7 +1,7 @@
 -- Things that are looked at one after another, each once, until none is left.
 use Rattle.std.proofs.Common.{◌≡◌, inl, inr, ℕ, ◌+◌, ◌<◌, Bool, true, false, List, [], ◌∷◌, All, Contains, IsTrue, length, replicate, sym, ◌∙◌, ap, subst, arith}
 use Rattle.std.proofs.lemmas.List.{length-replicate}
-use Rattle.pb_graph.specs.Closure.{Least, seed, is_on, with_marks, IsGiven, IsLeast}
+use Rattle.pb_graph.specs.Closure.{Least, seed, is_on, with_marks, IsYielded, IsLeast}
 use Rattle.pb_graph.proofs.Closing.{Sofar, Grows, one_more, at_end}
 use Rattle.pb_graph.proofs.Marking.{Marked, marked_all, unmarked, none_on}
 use Rattle.pb_graph.proofs.Membership.{none, head, tail, cases}
@@ -31,10 +31,10 @@ begun n Joins marks seeds t clear in_range is =
 
 -- at each turn, with the measure
 pub turned : (n : ℕ) (Seed : ℕ → Type 0) (Joins : ℕ → ℕ → ℕ → Type 0) (marks : List Bool) (todo rest : List ℕ) (thing : ℕ) (known : List Bool) (given passed : List ℕ) (t : List Bool × List ℕ)
-    → Looking n Seed Joins (marks, todo) → todo ≡ thing ∷ rest → known ≡ marks → IsGiven Joins (is_on known) thing given → All (λ z. z < n) given
+    → Looking n Seed Joins (marks, todo) → todo ≡ thing ∷ rest → known ≡ marks → IsYielded Joins (is_on known) thing given → All (λ z. z < n) given
     → passed ≡ given → t ≡ with_marks (marks, rest) passed → Looking n Seed Joins t × (unmarked t.0 + length t.1 < unmarked marks + length todo)
 turned n Seed Joins marks todo rest thing known given passed t looking last same_marks known_given in_range same_given is_passed =
-    let is_given : IsGiven Joins (is_on marks) thing given = subst (λ w. IsGiven Joins (is_on w) thing given) same_marks known_given in
+    let is_given : IsYielded Joins (is_on marks) thing given = subst (λ w. IsYielded Joins (is_on w) thing given) same_marks known_given in
     let is : t ≡ with_marks (marks, rest) given = is_passed ∙ ap (with_marks (marks, rest)) same_given in
     let back : Looking n Seed Joins (marks, thing ∷ rest) = subst (λ w. Looking n Seed Joins (marks, w)) last looking in
     let m : Marked (marks, rest) t given = subst (λ w. Marked (marks, rest) w given) (sym is) (marked_all (marks, rest) given (subst (λ m. All (λ z. z < m) given) (sym back.long) in_range)) in

@@ -38,7 +38,7 @@ abbrev pub links_of : Rule → ℕ
 links_of r = if r.first == r.second then 1 else 2
 
 -- each link is about things below `n`, and its `next` is lower than its own number
-pub record IsLinked (n : ℕ) (links : List Link) : Type 0 where
+pub record IsIndexed (n : ℕ) (links : List Link) : Type 0 where
   pub with : (k : ℕ) (l : Link) → link_at links k ≡ Some l → l.with < n
   pub gives : (k : ℕ) (l : Link) → link_at links k ≡ Some l → l.gives < n
   pub lower : (k : ℕ) (l : Link) → link_at links k ≡ Some l → l.next < k
@@ -56,5 +56,5 @@ either_way rules x y z = joined_by rules x y z ⊎ joined_by rules y x z
 pub record IsIndex (n : ℕ) (Says : ℕ → ℕ → ℕ → Type 0) (heads : List ℕ) (links : List Link) : Type 0 where
   pub long : length heads ≡ n
   pub within : (x : ℕ) → head_at heads x ≤ length links
-  pub linked : IsLinked n links
+  pub linked : IsIndexed n links
   pub says : (x y z : ℕ) → HasLink heads links x y z ↔ Says x y z

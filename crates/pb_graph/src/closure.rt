@@ -1,7 +1,7 @@
 //! The least set that rules yield. A list has the things that are still to be looked at.
 
 ghost use Rattle.std.specs.Prelude.{◌≡◌, ℕ, ◌+◌, ◌<◌, IfOk, OnOk, All, Contains, IsTrue, length};
-ghost use Rattle.pb_graph.specs.Closure.{Least, IsGiven, IsLeast, is_on, with_mark, with_marks};
+ghost use Rattle.pb_graph.specs.Closure.{Least, IsYielded, IsLeast, is_on, with_mark, with_marks};
 
 use std::alloc::{AllocError, Global};
 use std::collections::VecDeque;
@@ -34,7 +34,7 @@ pub trait Rules {
         requires fit { is_fit self.now }
         ensures within { OnOk result (All (λ z. z < count self.now) given.new.items) }
         ensures given { OnOk result
-            (IsGiven (joins self.now) (is_on known.now) thing given.new.items) };
+            (IsYielded (joins self.now) (is_on known.now) thing given.new.items) };
 }
 
 /// Marks a thing and puts it on the list, unless it is marked already.

@@ -5,7 +5,7 @@ ghost use Rattle.std.specs.Prelude.{◌≡◌, ◌<◌, IfOk, OnOk, All, length}
 ghost use Rattle.std.specs.List.{sum_by};
 ghost use Rattle.pb_graph.specs.Closure.{is_on};
 ghost use Rattle.pb_graph.specs.Table.{IsInRange};
-ghost use Rattle.pb_graph.specs.Index.{link_at, with_link, with_rule, either_way, links_of, IsLinked, IsWalked, IsIndex};
+ghost use Rattle.pb_graph.specs.Index.{link_at, with_link, with_rule, either_way, links_of, IsIndexed, IsWalked, IsIndex};
 
 use crate::table::Rule;
 use std::alloc::{AllocError, Global};
@@ -46,7 +46,7 @@ pub(crate) fn put_linked(
     head: usize,
     given: &mut Vec<usize>,
 ) -> Result<(), AllocError>
-    requires { IsLinked (length known.now) links.now }
+    requires { IsIndexed (length known.now) links.now }
     ensures { OnOk result (IsWalked (is_on known.now) links.now head given.new.items) }
 {
     given.clear();

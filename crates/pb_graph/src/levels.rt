@@ -67,7 +67,7 @@ pub fn extents_of(
 }
 
 /// Returns the nodes that reach themselves.
-pub fn turning(alloc: Global, extents: &[Extent]) -> Result<Vec<usize>, AllocError>
+pub fn nodes_in_circles(alloc: Global, extents: &[Extent]) -> Result<Vec<usize>, AllocError>
     ensures { IfOk result (λ nodes. nodes.items ≡ map node_of (filter (λ e. e.turns) extents.now)) }
 {
     extents

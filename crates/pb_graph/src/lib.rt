@@ -17,4 +17,4 @@ pub mod table;
 pub use closure::{Rules, least};
 pub use graph::{Node, OrderFault, Step};
 pub use ranks::sort_once;
-pub use table::{Rule, derived};
+pub use table::{Rule, derive};

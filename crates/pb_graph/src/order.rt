@@ -8,8 +8,8 @@ ghost use Rattle.pb_graph.specs.Working.{AreRising, node_of, AreClear, AreRanked
 ghost use Rattle.pb_graph.specs.declared.graph.OrderFault.TheVariants.{OutOfMemory, TooMany};
 
 use crate::graph::{Node, OrderFault, Step};
-use crate::levels::{Extent, extents_of, levels_of, turning, zeros};
-use crate::ranks::{Rank, ranked, sort_once};
+use crate::levels::{Extent, extents_of, levels_of, nodes_in_circles, zeros};
+use crate::ranks::{Rank, rank_nodes, sort_once};
 use crate::reach::{needs_at, no_marks, reached_from};
 use pb_data::{Items, TryCopy};
 use std::alloc::{AllocError, Global};
@@ -29,7 +29,7 @@ fn places_of(alloc: Global, nodes: &[Node], ranks: &[Rank]) -> Result<Vec<usize>
 }
 
 /// Returns the indices of a list's nodes, ascending, without repeats.
-fn placed(alloc: Global, places: &[usize], list: &[usize]) -> Result<Items<usize>, AllocError>
+fn indices_of(alloc: Global, places: &[usize], list: &[usize]) -> Result<Items<usize>, AllocError>
     requires { All (λ v. v < length places.now) list.now }
     ensures { IfOk result (ArePlacesBy places.now list.now) }
 {
@@ -59,8 +59,8 @@ fn step_of(
     ensures clear { OnOk result (AreClear marks.new.items) }
 {
     let reached = reached_from(alloc, nodes, marks, needs_at(nodes, rank.node))?;
-    let needs = placed(alloc, places, needs_at(nodes, rank.node))?;
-    let reaches = placed(alloc, places, &reached)?;
+    let needs = indices_of(alloc, places, needs_at(nodes, rank.node))?;
+    let reaches = indices_of(alloc, places, &reached)?;
     let key = rank.key.copy(alloc)?;
     Ok(Step {
         node: rank.node,
@@ -101,7 +101,7 @@ fn by_key(alloc: Global, nodes: &[Node], list: &[usize]) -> Result<Items<usize>,
     ensures { IfOk result (AreByKey nodes.now list.now) }
 {
     let levels = zeros(alloc, nodes.len())?;
-    let ranks = ranked(alloc, nodes, &levels, list)?;
+    let ranks = rank_nodes(alloc, nodes, &levels, list)?;
     let found = ranked_nodes(alloc, &ranks)?;
     Ok(Items::from_vec(found))
 }
@@ -164,7 +164,7 @@ fn within(
 }
 
 /// Returns the order of some nodes. None of them reaches itself.
-fn ordered(
+fn order_nodes(
     alloc: Global,
     nodes: &[Node],
     marks: &mut Vec<bool>,
@@ -188,7 +188,7 @@ fn ordered(
         Ok(list) => list,
     };
     let levels = levels_of(alloc, nodes, extents)?;
-    let ranks = ranked(alloc, nodes, &levels, list.as_slice())?;
+    let ranks = rank_nodes(alloc, nodes, &levels, list.as_slice())?;
     let plan = steps_of(alloc, nodes, marks, &ranks)?;
     Ok(plan)
 }
@@ -212,12 +212,12 @@ pub fn order(
 {
     let mut marks = no_marks(alloc, nodes.len())?;
     let extents = survey(alloc, nodes, &mut marks, roots)?;
-    let circle = turning(alloc, &extents)?;
+    let circle = nodes_in_circles(alloc, &extents)?;
     if !circle.is_empty() {
         let nodes = by_key(alloc, nodes, &circle)?;
         return Err(OrderFault::Circle(nodes));
     }
-    let plan = match ordered(alloc, nodes, &mut marks, &extents, most) {
+    let plan = match order_nodes(alloc, nodes, &mut marks, &extents, most) {
         Err(fault) => return Err(fault),
         Ok(plan) => plan,
     };

@@ -65,7 +65,7 @@ fn ranks_of(
 }
 
 /// Returns the nodes of a list in order, without repeats.
-pub fn ranked(
+pub fn rank_nodes(
     alloc: Global,
     nodes: &[Node],
     levels: &[usize],

@@ -54,7 +54,7 @@ impl<'a> Rules for Indexed<'a> {
 /// 0 up to a count. Each rule is looked at once for each of its premises.
 ///
 /// Errors: out of memory.
-pub fn derived(
+pub fn derive(
     alloc: Global,
     count: usize,
     seeds: &[usize],

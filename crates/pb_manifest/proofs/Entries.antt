@@ -8,7 +8,7 @@ use Rattle.std.specs.List.Sorted.{IsStrictlySortedBy}
 use Rattle.std.specs.Ordering.{ordering_reverse}
 use Rattle.toml.specs.Data.{Data, Members, no_members, member}
 use Rattle.pb_data.specs.UnlessOom.{◌>>=◌}
-use Rattle.pb_manifest.specs.FirstFaults.{told, HasEntry, here, further, IsOfLowestEntry, TellsLowestEntry}
+use Rattle.pb_manifest.specs.FirstFaults.{told, TableHas, here, further, IsOfLowestEntry, TellsLowestEntry}
 use Rattle.pb_manifest.specs.Promises.{Ascend}
 use Rattle.pb_manifest_types.specs.Values.{Text, Read}
 use Rattle.pb_manifest.specs.Values.{each_entry, keys_of}
@@ -32,7 +32,7 @@ less_of Equal is = cc
 less_of Greater is = cc
 
 -- what holds of each key holds of that of an entry
-of_entry : (P : Text → Type 0) (name : Text) (d : Data) (ms : Members) → AllByRecursion P (keys_of ms) → HasEntry name d ms → P name
+of_entry : (P : Text → Type 0) (name : Text) (d : Data) (ms : Members) → AllByRecursion P (keys_of ms) → TableHas name d ms → P name
 of_entry P name d _ all (here ms) = all.0
 of_entry P name d _ all (further other e ms rest) = of_entry P name d ms all.1 rest
 
@@ -47,19 +47,19 @@ module _ {A : Type 0} (read : Text → Data → Read A) where
   told_rest (Ok x) (Err f) e = absurd (none-some f (sym e))
   told_rest (Err f) rest e = absurd (none-some f (sym e))
 
-  taken : (name : Text) (d : Data) (ms : Members) → HasEntry name d ms → told (each_entry read ms) ≡ None → told (read name d) ≡ None
+  taken : (name : Text) (d : Data) (ms : Members) → TableHas name d ms → told (each_entry read ms) ≡ None → told (read name d) ≡ None
   taken name d _ (here ms) none = told_first (read name d) (each_entry read ms) none
   taken name d _ (further other e ms rest) none = taken name d ms rest (told_rest (read other e) (each_entry read ms) none)
 
   -- an entry of a lower key is not the lowest itself, nor one behind it
   none_lower : (name : Text) (d : Data) (ms : Members) → AllByRecursion (λ l. slice_cmp nat_cmp name l ≡ Less) (keys_of ms)
-      → (other : Text) (e : Data) → HasEntry other e (member name d ms) → is_lt (slice_cmp nat_cmp other name) ≡ true → told (read other e) ≡ None
+      → (other : Text) (e : Data) → TableHas other e (member name d ms) → is_lt (slice_cmp nat_cmp other name) ≡ true → told (read other e) ≡ None
   none_lower name d ms above _ _ (here _) below = absurd (not_below_itself name (less_of (slice_cmp nat_cmp name name) below))
   none_lower name d ms above other e (further _ _ _ rest) below =
       absurd (not_both name other (of_entry (λ l. slice_cmp nat_cmp name l ≡ Less) other e ms above rest) (less_of (slice_cmp nat_cmp other name) below))
 
-  lower_behind : (name : Text) (d : Data) (ms : Members) (lowest : Text) → told (read name d) ≡ None → ((other : Text) (e : Data) → HasEntry other e ms → is_lt (slice_cmp nat_cmp other lowest) ≡ true → told (read other e) ≡ None)
-      → (other : Text) (e : Data) → HasEntry other e (member name d ms) → is_lt (slice_cmp nat_cmp other lowest) ≡ true → told (read other e) ≡ None
+  lower_behind : (name : Text) (d : Data) (ms : Members) (lowest : Text) → told (read name d) ≡ None → ((other : Text) (e : Data) → TableHas other e ms → is_lt (slice_cmp nat_cmp other lowest) ≡ true → told (read other e) ≡ None)
+      → (other : Text) (e : Data) → TableHas other e (member name d ms) → is_lt (slice_cmp nat_cmp other lowest) ≡ true → told (read other e) ≡ None
   lower_behind name d ms lowest fine rest _ _ (here _) below = fine
   lower_behind name d ms lowest fine rest other e (further _ _ _ there) below = rest other e there below
 

@@ -136,20 +136,20 @@ faults_of_workspace ms =
     ∷ []
 
 -- the table has an entry with this name and this value
-pub data HasEntry (name : Text) (value : Data) : Members → Type 0 where
-  here : (ms : Members) → HasEntry name value (member name value ms)
-  further : (other : Text) (d : Data) (ms : Members) (rest : HasEntry name value ms) → HasEntry name value (member other d ms)
+pub data TableHas (name : Text) (value : Data) : Members → Type 0 where
+  here : (ms : Members) → TableHas name value (member name value ms)
+  further : (other : Text) (d : Data) (ms : Members) (rest : TableHas name value ms) → TableHas name value (member other d ms)
 
 -- an entry has this fault, and no entry with a lower key has a fault
 pub record IsOfLowestEntry {A : Type 0} (read : Text → Data → Read A) (ms : Members) (fault : ManifestFault) : Type 0 where
   pub name : Text
   pub value : Data
-  pub stands : HasEntry name value ms
+  pub stands : TableHas name value ms
   pub tells : told (read name value) ≡ Some fault
-  pub lower : (other : Text) (d : Data) → HasEntry other d ms → is_lt (slice_cmp nat_cmp other name) ≡ true → told (read other d) ≡ None
+  pub lower : (other : Text) (d : Data) → TableHas other d ms → is_lt (slice_cmp nat_cmp other name) ≡ true → told (read other d) ≡ None
 
 -- For a table whose keys the user chooses, the fault of its lowest bad entry is reported. If no
 -- fault is reported, all entries can be read.
 pub record TellsLowestEntry {A : Type 0} (read : Text → Data → Read A) : Type 0 where
   pub refused : (ms : Members) (fault : ManifestFault) → Ascend (keys_of ms) → told (each_entry read ms) ≡ Some fault → IsOfLowestEntry read ms fault
-  pub taken : (ms : Members) → told (each_entry read ms) ≡ None → (name : Text) (d : Data) → HasEntry name d ms → told (read name d) ≡ None
+  pub taken : (ms : Members) → told (each_entry read ms) ≡ None → (name : Text) (d : Data) → TableHas name d ms → told (read name d) ≡ None

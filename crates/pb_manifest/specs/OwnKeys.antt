@@ -15,8 +15,8 @@ SameAt keys ms ns = AllByRecursion (λ k. value_at k ms ≡ value_at k ns) keys
 
 -- Reading a table looks at these keys only. So two tables that have the same values at these keys
 -- are read with the same result.
-abbrev pub LooksAt : {A : Type 0} → List Key → (Members → Read A) → Type 0
-LooksAt keys read = (ms ns : Members) → SameAt keys ms ns → read ms ≡ read ns
+abbrev pub DependsOnlyOn : {A : Type 0} → List Key → (Members → Read A) → Type 0
+DependsOnlyOn keys read = (ms ns : Members) → SameAt keys ms ns → read ms ≡ read ns
 
 -- the keys of `[package]`
 abbrev pub of_package : List Key

@@ -41,7 +41,7 @@ struct Tables {
 }
 
 /// Refuses unsupported tables.
-fn supported(table: &Table) -> Result<(), ManifestFault>
+fn check_tables(table: &Table) -> Result<(), ManifestFault>
     ensures { result ≡ supported (table_view table.now) }
 {
     if has(table, Key::Patch) || has(table, Key::Replace) || has(table, Key::Target) {
@@ -168,7 +168,7 @@ fn tables_of(alloc: Global, table: &Table) -> Result<Tables, ManifestFault>
 fn document_of(alloc: Global, table: &Table) -> Result<Manifest, ManifestFault>
     ensures { UnlessOom result (document_of (table_view table.now)) }
 {
-    supported(table)?;
+    check_tables(table)?;
     not_old(table)?;
     let targets = targets_of(alloc, table)?;
     let (targets, tables) = with_next(targets, tables_of(alloc, table))?;

@@ -9,7 +9,7 @@ ghost use Rattle.pb_manifest.specs.Laws.{OrdersTables, OrdersInnerTables, Orders
 ghost use Rattle.pb_manifest.specs.FirstFaults.{TellsLowest, TellsLowestEntry, faults_of_package, faults_of_library, faults_of_binary, faults_of_dependency, faults_of_shared_dependency, faults_of_inherited, faults_of_workspace};
 ghost use Rattle.pb_manifest.specs.Features.{feature_of};
 ghost use Rattle.pb_manifest.specs.Library.{library_of};
-ghost use Rattle.pb_manifest.specs.OwnKeys.{LooksAt, of_package, of_library, of_binary, of_dependency, of_settings, of_profile, of_workspace, of_inherited, of_document};
+ghost use Rattle.pb_manifest.specs.OwnKeys.{DependsOnlyOn, of_package, of_library, of_binary, of_dependency, of_settings, of_profile, of_workspace, of_inherited, of_document};
 ghost use Rattle.pb_manifest.specs.Package.{package_of};
 ghost use Rattle.pb_manifest.specs.Profiles.{override_of, profile_keys, profile_of, profile_of_table};
 ghost use Rattle.pb_manifest_types.specs.Values.{Text};
@@ -34,17 +34,17 @@ pub fn unnamed_keys_change_nothing()
 /// Reading a table looks only at the table's own keys. So two tables with the same values at these
 /// keys are read with the same result.
 pub fn tables_look_at_their_own_keys()
-    ensures package { LooksAt of_package package_of }
-    ensures library { LooksAt of_library library_of }
-    ensures binary { LooksAt of_binary binary_keys }
-    ensures dependency { (name : Text) → LooksAt of_dependency (dependency_keys name) }
+    ensures package { DependsOnlyOn of_package package_of }
+    ensures library { DependsOnlyOn of_library library_of }
+    ensures binary { DependsOnlyOn of_binary binary_keys }
+    ensures dependency { (name : Text) → DependsOnlyOn of_dependency (dependency_keys name) }
     ensures shared_dependency { (name : Text)
-        → LooksAt of_dependency (shared_dependency_keys name) }
-    ensures profile { (name : Text) → LooksAt of_profile (profile_of_table name) }
-    ensures settings { LooksAt of_settings profile_keys }
-    ensures workspace { LooksAt of_workspace workspace_of }
-    ensures inherited { LooksAt of_inherited workspace_package_of }
-    ensures document { LooksAt of_document document_of }
+        → DependsOnlyOn of_dependency (shared_dependency_keys name) }
+    ensures profile { (name : Text) → DependsOnlyOn of_profile (profile_of_table name) }
+    ensures settings { DependsOnlyOn of_settings profile_keys }
+    ensures workspace { DependsOnlyOn of_workspace workspace_of }
+    ensures inherited { DependsOnlyOn of_inherited workspace_package_of }
+    ensures document { DependsOnlyOn of_document document_of }
 {}
 
 /// A manifest over the size limit is refused, whatever it contains.

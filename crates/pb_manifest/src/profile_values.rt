@@ -23,7 +23,7 @@ fn number_in(number: i64) -> Option<Setting>
 
 /// Returns a written value: a truth value, a number, or a word.
 #[tactic(auto, unfolding(crate::specs::Profiles::written))]
-fn written(value: &Value) -> Option<Setting>
+fn setting_of(value: &Value) -> Option<Setting>
     ensures { result ≡ written (view value.now) }
 {
     if let Some(truth) = value.as_bool() {
@@ -46,7 +46,7 @@ fn written(value: &Value) -> Option<Setting>
 fn setting_in(key: ProfileKey, value: &Value) -> Option<Setting>
     ensures { result ≡ setting_in key (view value.now) }
 {
-    match written(value) {
+    match setting_of(value) {
         Some(written) => meaning(key.row().choices, written),
         None => None,
     }

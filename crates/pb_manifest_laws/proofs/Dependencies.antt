@@ -17,7 +17,7 @@ use Rattle.pb_manifest_types.specs.declared.key.Key.TheVariants as key
 use Rattle.pb_manifest.proofs.Came.{came}
 use Rattle.pb_manifest_laws.specs.Dependencies.{IsSource, IsDependencyEntry}
 use Rattle.pb_manifest_laws.specs.Laws.{ReadsDependencies}
-use Rattle.pb_manifest_laws.specs.Values.{IsPath, Holds, HoldsValid, HoldsOr, Lists, OfTable}
+use Rattle.pb_manifest_laws.specs.Values.{IsPath, OptionalMeans, HoldsValid, HoldsOr, Lists, OfTable}
 use Rattle.pb_manifest_laws.proofs.Chains.{three, five, then_back}
 use Rattle.pb_manifest_laws.proofs.Packages.{all_any, some_any}
 use Rattle.pb_manifest_laws.proofs.Reading.{IsWrittenAs, Any, text_written, truth_written, path_written, spelled_so, table_is, truly, optional_only, optional_back, or_from, or_to, lists_only, lists_back}
@@ -66,7 +66,7 @@ pub untaken_so : (found : Option Data) → found ≡ None → is_true (truth_in 
 untaken_so found is = ap (λ f. is_true (truth_in f)) is
 
 -- where an entry comes from
-source_only : (ms : Members) (df : Option Bool) (name version written path : Option (List ℕ)) (u : Unit {0}) → Holds (λ b. boolean b) (get_member (codes "default-features") ms) df → Holds (λ t. string t) (get_member (codes "package") ms) name
+source_only : (ms : Members) (df : Option Bool) (name version written path : Option (List ℕ)) (u : Unit {0}) → OptionalMeans (λ b. boolean b) (get_member (codes "default-features") ms) df → OptionalMeans (λ t. string t) (get_member (codes "package") ms) name
     → HoldsRequirement (get_member (codes "version") ms) version → HoldsPath (get_member (codes "path") ms) written → workspace_at ms ≡ Ok u → own_path (takes_workspace ms) written ≡ Ok path → IsSource ms (source_of df name version path)
 unfolding spelled
 source_only ms df name version written path u df_is name_is version_is written_is workspace h = by (takes_workspace ms) refl written written_is h
@@ -144,7 +144,7 @@ dependency_only k name d x h = by (is_name name) refl h
 -- and back
 module _ (name : List ℕ) (ms : Members) (features : List (List ℕ)) (optional : Bool) (no_git : value_at key.Git ms ≡ None) (no_registry : value_at key.Registry ms ≡ None)
     (optional_is : HoldsOr false (λ b. boolean b) (value_at key.Optional ms) optional) (features_are : Lists (λ t. string t) (value_at key.Features ms) features) where
-  keys_back : (df : Option Bool) (renamed version written path : Option (List ℕ)) → Holds (λ b. boolean b) (value_at key.DefaultFeatures ms) df → Holds (λ t. string t) (value_at key.Package ms) renamed
+  keys_back : (df : Option Bool) (renamed version written path : Option (List ℕ)) → OptionalMeans (λ b. boolean b) (value_at key.DefaultFeatures ms) df → OptionalMeans (λ t. string t) (value_at key.Package ms) renamed
       → HoldsRequirement (value_at key.Version ms) version → HoldsPath (value_at key.Path ms) written → own_path (takes_workspace ms) written ≡ Ok path → workspace_at ms ≡ Ok tt
       → dependency_keys name ms ≡ Ok record { key = name; source = source_of df renamed version path; optional = optional; features = features }
   keys_back df renamed version written path df_is renamed_is version_is written_is own_is workspace_is =

@@ -32,7 +32,7 @@ use Rattle.pb_manifest_types.specs.declared.package.Readme.TheVariants as readme
 use Rattle.pb_manifest.proofs.Came.{came}
 use Rattle.pb_manifest_laws.specs.Laws.{ReadsPackages}
 use Rattle.pb_manifest_laws.specs.Packages.{edition, IsBuild, readme_value, IsVersion, IsResolver, IsPackageTable}
-use Rattle.pb_manifest_laws.specs.Values.{texts, Holds, HoldsOrTakes}
+use Rattle.pb_manifest_laws.specs.Values.{texts, OptionalMeans, HoldsOrTakes}
 use Rattle.pb_manifest_laws.proofs.Chains.{three, five, then_back}
 use Rattle.pb_manifest_laws.proofs.Reading.{IsWrittenAs, Any, text_written, truth_written, path_written, list_written, spelled_so, chosen, optional_only, optional_back, or_from, or_to, taken_only, taken_back, IfWritten, IfOwn, inherited_only, inherited_back}
 
@@ -115,7 +115,7 @@ name_only found x h =
     letters text true on there h = let same : text ≡ x = cc in (there ∙ ap (λ t. Some (string t)) same, ap is_name (sym same) ∙ on)
     letters text false on there h = cc
 
-    by : (o : Option (List ℕ)) → Holds (λ t. string t) found o → name_in o ≡ Ok x → (found ≡ Some (string x)) × (is_name x ≡ true)
+    by : (o : Option (List ℕ)) → OptionalMeans (λ t. string t) found o → name_in o ≡ Ok x → (found ≡ Some (string x)) × (is_name x ≡ true)
     by None holds h = cc
     by (Some text) holds h = letters text (is_name text) refl holds h
 
@@ -140,7 +140,7 @@ resolver_only found u h =
     which text false true two three there h = (2, omega arith, sym (there ∙ ap (λ t. Some (string t)) ((bytes_eq-Decides text (codes "3")).0 three)))
     which text false false two three there h = cc
 
-    by : (o : Option (List ℕ)) → Holds (λ t. string t) found o → resolver_in o ≡ Ok u → IsResolver found
+    by : (o : Option (List ℕ)) → OptionalMeans (λ t. string t) found o → resolver_in o ≡ Ok u → IsResolver found
     by None holds h = (0, omega arith, sym holds)
     by (Some text) holds h = which text (bytes_eq text (codes "2")) (bytes_eq text (codes "3")) refl refl holds h
 

@@ -18,7 +18,7 @@ use Rattle.pb_manifest_types.specs.declared.inherited.Inherited.TheVariants as i
 use Rattle.pb_manifest_types.specs.declared.key.Key.{Key}
 use Rattle.pb_manifest_types.specs.declared.key.Key.TheVariants as key
 use Rattle.pb_manifest.proofs.Came.{came}
-use Rattle.pb_manifest_laws.specs.Values.{IsPath, Holds, HoldsOr, Lists, HoldsOrTakes, HasOrTakes}
+use Rattle.pb_manifest_laws.specs.Values.{IsPath, OptionalMeans, HoldsOr, Lists, HoldsOrTakes, HasOrTakes}
 
 -- a value is read just where it stands, written so
 pub record IsWrittenAs {A : Type 0} (read : Data → Read A) (write : A → Data) (Valid : A → Type 0) : Type 0 where
@@ -95,24 +95,24 @@ says_so ms h = truly (value_at key.Workspace ms) h
 
 module _ {A : Type 0} (read : Data → Read A) (write : A → Data) (Valid : A → Type 0) (w : IsWrittenAs read write Valid) where
   -- a value that may be left out
-  pub optional_only : (found : Option Data) (o : Option A) → optional read found ≡ Ok o → Holds write found o × IfSome o Valid
-  optional_only None o h = let same : None ≡ o = cc in subst (λ q. Holds write None q × IfSome q Valid) same (refl, tt)
+  pub optional_only : (found : Option Data) (o : Option A) → optional read found ≡ Ok o → OptionalMeans write found o × IfSome o Valid
+  optional_only None o h = let same : None ≡ o = cc in subst (λ q. OptionalMeans write None q × IfSome q Valid) same (refl, tt)
   optional_only (Some d) o h =
       let c = came (read d) (λ x. Ok (Some x)) o h in
       let v = w.only d c.value c.was in
       let same : Some c.value ≡ o = cc (c.more) in
-      subst (λ q. Holds write (Some d) q × IfSome q Valid) same (ap (λ e. Some e) v.0, v.1)
+      subst (λ q. OptionalMeans write (Some d) q × IfSome q Valid) same (ap (λ e. Some e) v.0, v.1)
 
-  pub optional_back : (found : Option Data) (o : Option A) → Holds write found o → IfSome o Valid → optional read found ≡ Ok o
+  pub optional_back : (found : Option Data) (o : Option A) → OptionalMeans write found o → IfSome o Valid → optional read found ≡ Ok o
   optional_back found None holds valid = ap (optional read) holds
   optional_back found (Some x) holds valid = ap (optional read) holds ∙ ap (λ r. r >>= (λ y. Ok (Some y))) (w.back x valid)
 
   -- a default
-  pub or_from : (default : A) (found : Option Data) (o : Option A) → Holds write found o → HoldsOr default write found (unwrap_or o default)
+  pub or_from : (default : A) (found : Option Data) (o : Option A) → OptionalMeans write found o → HoldsOr default write found (unwrap_or o default)
   or_from default found None holds = subst (λ f. HoldsOr default write f default) (sym holds) refl
   or_from default found (Some x) holds = subst (λ f. HoldsOr default write f x) (sym holds) refl
 
-  pub or_to : (default : A) (found : Option Data) (x : A) → HoldsOr default write found x → (o : Option A) × Holds write found o × (unwrap_or o default ≡ x)
+  pub or_to : (default : A) (found : Option Data) (x : A) → HoldsOr default write found x → (o : Option A) × OptionalMeans write found o × (unwrap_or o default ≡ x)
   or_to default None x h = (None, refl, sym h)
   or_to default (Some d) x h = (Some x, ap (λ e. Some e) h, refl)
 

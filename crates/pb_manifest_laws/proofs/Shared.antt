@@ -17,7 +17,7 @@ use Rattle.pb_manifest_types.specs.declared.key.Key.TheVariants as key
 use Rattle.pb_manifest.proofs.Came.{came}
 use Rattle.pb_manifest_laws.specs.Dependencies.{HasIdleKeys, IsSharedSource, IsSharedTable, IsSharedVersion, IsSharedEntry}
 use Rattle.pb_manifest_laws.specs.Laws.{ReadsSharedDependencies}
-use Rattle.pb_manifest_laws.specs.Values.{IsPath, Holds, Lists, OfTable}
+use Rattle.pb_manifest_laws.specs.Values.{IsPath, OptionalMeans, Lists, OfTable}
 use Rattle.pb_manifest_laws.proofs.Chains.{five, then_back}
 use Rattle.pb_manifest_laws.proofs.Dependencies.{HoldsPath, HoldsRequirement, requirement_only, requirement_written, workspace_only, taken_so, untaken_so}
 use Rattle.pb_manifest_laws.proofs.Packages.{all_any, some_any}
@@ -45,7 +45,7 @@ taken_back ms (inl none) = λ i. workspace_in (none i) (untaken_so (value_at key
 taken_back ms (inr on) = λ i. workspace_in (on i) (taken_so (value_at key.Workspace ms) on i)
 
 -- where it comes from
-source_only : (ms : Members) (df : Option Bool) (name version written : Option (List ℕ)) → Holds (λ b. boolean b) (get_member (codes "default-features") ms) df → Holds (λ t. string t) (get_member (codes "package") ms) name
+source_only : (ms : Members) (df : Option Bool) (name version written : Option (List ℕ)) → OptionalMeans (λ b. boolean b) (get_member (codes "default-features") ms) df → OptionalMeans (λ t. string t) (get_member (codes "package") ms) name
     → HoldsRequirement (get_member (codes "version") ms) version → HoldsPath (get_member (codes "path") ms) written → IsSharedSource ms (shared_source_of df name version (supported_path ms written))
 unfolding spelled
 source_only ms df name version written df_is name_is version_is written_is = by (value_at key.Git ms) (value_at key.Registry ms) written refl refl written_is
@@ -136,7 +136,7 @@ none_written None h = refl
 none_written (Some t) h = cc
 
 keys_back : (name : List ℕ) (ms : Members) (features : List (List ℕ)) (df optional : Option Bool) (renamed version written path : Option (List ℕ)) → Lists (λ t. string t) (value_at key.Features ms) features
-    → Holds (λ b. boolean b) (value_at key.Optional ms) optional → Holds (λ b. boolean b) (value_at key.DefaultFeatures ms) df → Holds (λ t. string t) (value_at key.Package ms) renamed
+    → OptionalMeans (λ b. boolean b) (value_at key.Optional ms) optional → OptionalMeans (λ b. boolean b) (value_at key.DefaultFeatures ms) df → OptionalMeans (λ t. string t) (value_at key.Package ms) renamed
     → HoldsRequirement (value_at key.Version ms) version → HoldsPath (value_at key.Path ms) written → supported_path ms written ≡ path → workspace_at ms ≡ Ok tt
     → shared_dependency_keys name ms ≡ Ok record { key = name; source = shared_source_of df renamed version path; features = features }
 keys_back name ms features df optional renamed version written path features_are optional_is df_is renamed_is version_is written_is path_is workspace_is =
@@ -156,7 +156,7 @@ keys_back name ms features df optional renamed version written path features_are
     ∙ (λ i. Ok record { path = path_is i; version = version }))
     refl)
 
-source_back : (name : List ℕ) (ms : Members) (features : List (List ℕ)) (optional : Option Bool) (source : WorkspaceSource) → Lists (λ t. string t) (value_at key.Features ms) features → Holds (λ b. boolean b) (value_at key.Optional ms) optional
+source_back : (name : List ℕ) (ms : Members) (features : List (List ℕ)) (optional : Option Bool) (source : WorkspaceSource) → Lists (λ t. string t) (value_at key.Features ms) features → OptionalMeans (λ b. boolean b) (value_at key.Optional ms) optional
     → Taken ms → IsSharedSource ms source → shared_dependency_keys name ms ≡ Ok record { key = name; source = source; features = features }
 unfolding spelled
 source_back name ms features optional (shared.Path s) features_are optional_is taken is =

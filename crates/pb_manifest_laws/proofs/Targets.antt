@@ -25,7 +25,7 @@ use Rattle.pb_manifest.proofs.Items.{item_spelled}
 use Rattle.pb_manifest.proofs.Spelled.{spelling_read}
 use Rattle.pb_manifest_laws.specs.Laws.{ReadsLibraries, ReadsBinaries, ReadsFeatures}
 use Rattle.pb_manifest_laws.specs.Packages.{IsLibraryTable, IsBinaryTable, IsFeatureEntry}
-use Rattle.pb_manifest_laws.specs.Values.{IsPath, Holds, HoldsOr}
+use Rattle.pb_manifest_laws.specs.Values.{IsPath, OptionalMeans, HoldsOr}
 use Rattle.pb_manifest_laws.proofs.Chains.{three, four}
 use Rattle.pb_manifest_laws.proofs.Packages.{name_only, name_back, all_any}
 use Rattle.pb_manifest_laws.proofs.Reading.{IsWrittenAs, Any, text_written, truth_written, path_written, list_written, spelled_so, chosen, optional_only, optional_back, lists_only, lists_back}
@@ -47,21 +47,21 @@ type_written = spelled_so key.CrateType crate_type_in crate_type_text Any type_o
 abbrev Named : Option (List ℕ) → Type 0
 Named o = IfSome o (λ name. is_crate_name name ≡ true)
 
-crate_only : (found : Option Data) (x : Option (List ℕ)) → (optional (text_of key.Name) found >>= crate_name_in) ≡ Ok x → Holds (λ t. string t) found x × Named x
+crate_only : (found : Option Data) (x : Option (List ℕ)) → (optional (text_of key.Name) found >>= crate_name_in) ≡ Ok x → OptionalMeans (λ t. string t) found x × Named x
 crate_only found x h =
     let c = came (optional (text_of key.Name) found) crate_name_in x h in
     let v = optional_only (text_of key.Name) (λ t. string t) Any (text_written key.Name) found c.value c.was in
     by c.value v.0 c.more
   where
-    letters : (text : List ℕ) (b : Bool) → is_crate_name text ≡ b → Holds (λ t. string t) found (Some text) → (if b then Ok (Some text) else Err BadName) ≡ Ok x → Holds (λ t. string t) found x × Named x
-    letters text true on holds h = let same : Some text ≡ x = cc in subst (λ o. Holds (λ t. string t) found o × Named o) same (holds, on)
+    letters : (text : List ℕ) (b : Bool) → is_crate_name text ≡ b → OptionalMeans (λ t. string t) found (Some text) → (if b then Ok (Some text) else Err BadName) ≡ Ok x → OptionalMeans (λ t. string t) found x × Named x
+    letters text true on holds h = let same : Some text ≡ x = cc in subst (λ o. OptionalMeans (λ t. string t) found o × Named o) same (holds, on)
     letters text false on holds h = cc
 
-    by : (o : Option (List ℕ)) → Holds (λ t. string t) found o → crate_name_in o ≡ Ok x → Holds (λ t. string t) found x × Named x
-    by None holds h = let same : None ≡ x = cc in subst (λ o. Holds (λ t. string t) found o × Named o) same (holds, tt)
+    by : (o : Option (List ℕ)) → OptionalMeans (λ t. string t) found o → crate_name_in o ≡ Ok x → OptionalMeans (λ t. string t) found x × Named x
+    by None holds h = let same : None ≡ x = cc in subst (λ o. OptionalMeans (λ t. string t) found o × Named o) same (holds, tt)
     by (Some text) holds h = letters text (is_crate_name text) refl holds h
 
-crate_back : (found : Option Data) (x : Option (List ℕ)) → Holds (λ t. string t) found x → Named x → (optional (text_of key.Name) found >>= crate_name_in) ≡ Ok x
+crate_back : (found : Option Data) (x : Option (List ℕ)) → OptionalMeans (λ t. string t) found x → Named x → (optional (text_of key.Name) found >>= crate_name_in) ≡ Ok x
 crate_back found None holds is = ap (λ f. optional (text_of key.Name) f >>= crate_name_in) holds
 crate_back found (Some text) holds is = ap (λ f. optional (text_of key.Name) f >>= crate_name_in) holds ∙ ap (λ b. if b then Ok (Some text) else Err BadName) is
 
@@ -72,7 +72,7 @@ macro_only found u h =
     let v = optional_only (truth_of key.ProcMacro) (λ b. boolean b) Any (truth_written key.ProcMacro) found c.value c.was in
     by c.value v.0 c.more
   where
-    by : (o : Option Bool) → Holds (λ b. boolean b) found o → proc_macro_in o ≡ Ok u → HoldsOr false (λ b. boolean b) found false
+    by : (o : Option Bool) → OptionalMeans (λ b. boolean b) found o → proc_macro_in o ≡ Ok u → HoldsOr false (λ b. boolean b) found false
     by None holds h = subst (λ f. HoldsOr false (λ b. boolean b) f false) (sym holds) refl
     by (Some false) holds h = subst (λ f. HoldsOr false (λ b. boolean b) f false) (sym holds) refl
     by (Some true) holds h = cc

@@ -19,7 +19,7 @@ use Rattle.pb_manifest.proofs.Came.{came}
 use Rattle.pb_manifest_laws.specs.Dependencies.{IsSharedEntry}
 use Rattle.pb_manifest_laws.specs.Laws.{ReadsWorkspaces}
 use Rattle.pb_manifest_laws.specs.Packages.{edition, readme_value}
-use Rattle.pb_manifest_laws.specs.Values.{texts, IsPath, Holds}
+use Rattle.pb_manifest_laws.specs.Values.{texts, IsPath, OptionalMeans}
 use Rattle.pb_manifest_laws.specs.Workspaces.{IsInheritedTable, IsWorkspaceTable}
 use Rattle.pb_manifest_laws.proofs.Chains.{four_on, five, then_back}
 use Rattle.pb_manifest_laws.proofs.Packages.{edition_written, version_written, readme_written, resolver_only, resolver_back, all_any, some_any}
@@ -28,10 +28,10 @@ use Rattle.pb_manifest_laws.proofs.Shared.{shared_read}
 use Rattle.pb_manifest_laws.proofs.Tables.{entries_at_only, entries_at_back, table_at_only, table_at_back}
 
 -- texts, and lists of texts and of paths
-text_only : (k : Key) (ms : Members) (o : Option (List ℕ)) → text_at k ms ≡ Ok o → Holds (λ t. string t) (value_at k ms) o
+text_only : (k : Key) (ms : Members) (o : Option (List ℕ)) → text_at k ms ≡ Ok o → OptionalMeans (λ t. string t) (value_at k ms) o
 text_only k ms o h = (optional_only (text_of k) (λ t. string t) Any (text_written k) (value_at k ms) o h).0
 
-text_back : (k : Key) (ms : Members) (o : Option (List ℕ)) → Holds (λ t. string t) (value_at k ms) o → text_at k ms ≡ Ok o
+text_back : (k : Key) (ms : Members) (o : Option (List ℕ)) → OptionalMeans (λ t. string t) (value_at k ms) o → text_at k ms ≡ Ok o
 text_back k ms o is = optional_back (text_of k) (λ t. string t) Any (text_written k) (value_at k ms) o is (some_any o)
 
 texts_written : (k : Key) → IsWrittenAs (texts_of k) texts (AllByRecursion Any)

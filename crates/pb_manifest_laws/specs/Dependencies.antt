@@ -12,21 +12,21 @@ use Rattle.pb_manifest_types.specs.declared.dependency.Source.TheVariants as own
 use Rattle.pb_manifest_types.specs.declared.dependency.WorkspaceDependency.{WorkspaceDependency}
 use Rattle.pb_manifest_types.specs.declared.dependency.WorkspaceSource.{WorkspaceSource}
 use Rattle.pb_manifest_types.specs.declared.dependency.WorkspaceSource.TheVariants as shared
-use Rattle.pb_manifest_laws.specs.Values.{IsPath, Holds, HoldsValid, HoldsOr, Lists, OfTable}
+use Rattle.pb_manifest_laws.specs.Values.{IsPath, OptionalMeans, HoldsValid, HoldsOr, Lists, OfTable}
 
 -- An entry's keys name a package at a path. The package's feature `default` is requested unless the
 -- entry says `default-features = false`.
 pub record IsPathSource (ms : Members) (s : PathSource) : Type 0 where
   pub path : get_member (codes "path") ms ≡ Some (string s.path)
   pub path_is : IsPath s.path
-  pub name : Holds string (get_member (codes "package") ms) s.package
+  pub name : OptionalMeans string (get_member (codes "package") ms) s.package
   pub version : HoldsValid (λ text. is_requirement text ≡ true) string (get_member (codes "version") ms) s.version
   pub default_features : HoldsOr true boolean (get_member (codes "default-features") ms) s.default_features
 
 -- The keys `path`, `package` and `version` may be there, but have no effect. Each value must be of
 -- the right kind. That of `version` must be a requirement.
 abbrev pub HasIdleKeys : Members → Type 0
-HasIdleKeys ms = ((path : Option (List ℕ)) × HoldsValid IsPath string (get_member (codes "path") ms) path) × ((name : Option (List ℕ)) × Holds string (get_member (codes "package") ms) name)
+HasIdleKeys ms = ((path : Option (List ℕ)) × HoldsValid IsPath string (get_member (codes "path") ms) path) × ((name : Option (List ℕ)) × OptionalMeans string (get_member (codes "package") ms) name)
     × ((version : Option (List ℕ)) × HoldsValid (λ text. is_requirement text ≡ true) string (get_member (codes "version") ms) version)
 
 -- The source of a package's entry is a path, or the workspace if the entry says `workspace = true`.
@@ -51,7 +51,7 @@ pub record IsDependencyEntry (name : List ℕ) (ms : Members) (x : Dependency) :
 abbrev pub IsSharedSource : Members → WorkspaceSource → Type 0
 IsSharedSource ms (shared.Path s) = IsPathSource ms s × (get_member (codes "git") ms ≡ None) × (get_member (codes "registry") ms ≡ None)
 IsSharedSource ms shared.Unsupported =
-    HasIdleKeys ms × ((default : Option Bool) × Holds boolean (get_member (codes "default-features") ms) default) × (get_member (codes "git") ms ≡ None → get_member (codes "registry") ms ≡ None → get_member (codes "path") ms ≡ None)
+    HasIdleKeys ms × ((default : Option Bool) × OptionalMeans boolean (get_member (codes "default-features") ms) default) × (get_member (codes "git") ms ≡ None → get_member (codes "registry") ms ≡ None → get_member (codes "path") ms ≡ None)
 
 -- an entry of `[workspace.dependencies]` that is a table means this dependency
 pub record IsSharedTable (name : List ℕ) (ms : Members) (x : WorkspaceDependency) : Type 0 where
@@ -59,7 +59,7 @@ pub record IsSharedTable (name : List ℕ) (ms : Members) (x : WorkspaceDependen
   pub letters : is_name name ≡ true
   pub source : IsSharedSource ms x.source
   pub features : Lists string (get_member (codes "features") ms) x.features
-  pub optional : (optional : Option Bool) × Holds boolean (get_member (codes "optional") ms) optional
+  pub optional : (optional : Option Bool) × OptionalMeans boolean (get_member (codes "optional") ms) optional
   pub taken : (get_member (codes "workspace") ms ≡ None) ⊎ (get_member (codes "workspace") ms ≡ Some (boolean true))
 
 -- an entry of `[workspace.dependencies]` that is only a version means a dependency without a path

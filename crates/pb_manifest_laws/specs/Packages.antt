@@ -23,7 +23,7 @@ use Rattle.pb_manifest_types.specs.declared.package.Readme.{Readme}
 use Rattle.pb_manifest_types.specs.declared.package.Readme.TheVariants as readme
 use Rattle.pb_manifest_types.specs.declared.target.Binary.{Binary}
 use Rattle.pb_manifest_types.specs.declared.target.Library.{Library}
-use Rattle.pb_manifest_laws.specs.Values.{texts, IsPath, Holds, HoldsValid, HoldsOr, Lists, HoldsOrTakes, HasOrTakes}
+use Rattle.pb_manifest_laws.specs.Values.{texts, IsPath, OptionalMeans, HoldsValid, HoldsOr, Lists, HoldsOrTakes, HasOrTakes}
 
 abbrev pub edition : Edition → Data
 edition e = string (edition_text e)
@@ -60,7 +60,7 @@ pub record IsPackageTable (ms : Members) (p : Package) : Type 0 where
   pub autobins : HoldsOr true boolean (get_member (codes "autobins") ms) p.autobins
   pub script : IsBuild (get_member (codes "build") ms) p.build
   pub edition_is : HasOrTakes E2015 edition (get_member (codes "edition") ms) p.edition
-  pub links : Holds string (get_member (codes "links") ms) p.links
+  pub links : OptionalMeans string (get_member (codes "links") ms) p.links
   pub name : get_member (codes "name") ms ≡ Some (string p.name)
   pub letters : is_name p.name ≡ true
   pub readme_is : HoldsOrTakes readme_value (get_member (codes "readme") ms) p.readme

@@ -13,7 +13,7 @@ use Rattle.pb_profile_keys.specs.declared.setting.Setting.TheVariants.{Truth, Nu
 use Rattle.pb_profile_keys.specs.declared.setting.Word.TheVariants as word
 use Rattle.pb_manifest_types.specs.declared.profile.ProfileOverride.{ProfileOverride}
 use Rattle.pb_manifest_types.specs.declared.profile.Profile.{Profile}
-use Rattle.pb_manifest_laws.specs.Values.{Holds, OfTable, IsTableAt, AreEntriesAt}
+use Rattle.pb_manifest_laws.specs.Values.{OptionalMeans, OfTable, IsTableAt, AreEntriesAt}
 
 -- the name of a key, as a manifest spells it
 abbrev pub name_of : ProfileKey → List ℕ
@@ -75,7 +75,7 @@ pub record IsOverrideEntry (name : List ℕ) (ms : Members) (o : ProfileOverride
 pub record IsProfileEntry (name : List ℕ) (ms : Members) (p : Profile) : Type 0 where
   pub name_is : p.name ≡ name
   pub keys : AreSettings ms p.keys
-  pub inherits : Holds string (get_member (codes "inherits") ms) p.inherits
+  pub inherits : OptionalMeans string (get_member (codes "inherits") ms) p.inherits
   pub may_be : may_be_profile name p.inherits ≡ true
   pub packages : AreEntriesAt (λ name. OfTable (IsOverrideEntry name)) (get_member (codes "package") ms) p.packages
   pub build_override : IsTableAt AreSettings (get_member (codes "build-override") ms) p.build_override

@@ -18,12 +18,12 @@ abbrev pub IsPath : List ℕ → Type 0
 IsPath text = has_byte_0 text ≡ false
 
 -- If an optional key is there, this value is written at it. No value is read if and only if the key is missing.
-abbrev pub Holds : {A : Type 0} → (A → Data) → Option Data → Option A → Type 0
-Holds write found value = found ≡ option_map write value
+abbrev pub OptionalMeans : {A : Type 0} → (A → Data) → Option Data → Option A → Type 0
+OptionalMeans write found value = found ≡ option_map write value
 
--- `Holds` is true, and a value that was read is valid
+-- `OptionalMeans` is true, and a value that was read is valid
 abbrev pub HoldsValid : {A : Type 0} → (A → Type 0) → (A → Data) → Option Data → Option A → Type 0
-HoldsValid Valid write found value = Holds write found value × IfSome value Valid
+HoldsValid Valid write found value = OptionalMeans write found value × IfSome value Valid
 
 -- this value is written at a key, or the key is missing and the value is the default
 abbrev pub HoldsOr : {A : Type 0} → A → (A → Data) → Option Data → A → Type 0

@@ -7,7 +7,7 @@ use Rattle.pb_manifest_types.specs.declared.manifest.WorkspacePackage.{Workspace
 use Rattle.pb_manifest_types.specs.declared.manifest.WorkspaceTable.{WorkspaceTable}
 use Rattle.pb_manifest_laws.specs.Dependencies.{IsSharedEntry}
 use Rattle.pb_manifest_laws.specs.Packages.{edition, readme_value, IsResolver}
-use Rattle.pb_manifest_laws.specs.Values.{texts, IsPath, Holds, HoldsValid, Lists, IsTableAt, AreEntriesAt}
+use Rattle.pb_manifest_laws.specs.Values.{texts, IsPath, OptionalMeans, HoldsValid, Lists, IsTableAt, AreEntriesAt}
 
 -- the texts that members may inherit, each with its key
 abbrev pub shared_texts : WorkspacePackage → List (List ℕ × Option (List ℕ))
@@ -16,10 +16,10 @@ shared_texts w = (codes "description", w.description) ∷ (codes "homepage", w.h
 
 -- a table `[workspace.package]` means these keys
 pub record IsInheritedTable (ms : Members) (w : WorkspacePackage) : Type 0 where
-  pub authors : Holds texts (get_member (codes "authors") ms) w.authors
-  pub edition_is : Holds edition (get_member (codes "edition") ms) w.edition
-  pub readme_is : Holds readme_value (get_member (codes "readme") ms) w.readme
-  pub texts_are : AllByRecursion (λ (row : List ℕ × Option (List ℕ)). Holds string (get_member row.0 ms) row.1) (shared_texts w)
+  pub authors : OptionalMeans texts (get_member (codes "authors") ms) w.authors
+  pub edition_is : OptionalMeans edition (get_member (codes "edition") ms) w.edition
+  pub readme_is : OptionalMeans readme_value (get_member (codes "readme") ms) w.readme
+  pub texts_are : AllByRecursion (λ (row : List ℕ × Option (List ℕ)). OptionalMeans string (get_member row.0 ms) row.1) (shared_texts w)
   pub version : HoldsValid (λ text. is_version text ≡ true) string (get_member (codes "version") ms) w.version
 
 -- a table `[workspace]` means this workspace

@@ -122,7 +122,7 @@ impl Requirement {
 
     /// Returns the requirement as `semver` reads it: the comparators, all of which a version must
     /// match.
-    pub fn parsed(&self) -> &semver::VersionReq
+    pub fn as_semver(&self) -> &semver::VersionReq
         ensures { ∥ req_of self.now ≡ Ok (map comparator_view result.now.comparators.items) ∥₁ }
     {
         &self.parsed

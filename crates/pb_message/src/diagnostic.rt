@@ -6,7 +6,7 @@ ghost use Rattle.serde_json.specs.Read.{read};
 ghost use Rattle.pb_message.specs.Diagnostics.{reads_as_object, diagnostic_in, and_more, diagnostics_of, plain_in, plain_lines_of};
 
 use pb_data::{Bytes, Items, Text};
-use pb_directive::lines::{lines_of, trimmed};
+use pb_directive::lines::{lines_of, trim_line};
 use pb_directive::texts::text_of;
 use serde_json::Value;
 use std::alloc::{AllocError, Global};
@@ -34,7 +34,7 @@ fn reads_as_object(alloc: Global, text: &str) -> Result<bool, AllocError>
 fn diagnostic_in(alloc: Global, line: &[u8]) -> Result<Option<&str>, AllocError>
     ensures { IfOk result (λ found. option_map (λ text. text.now) found ≡ diagnostic_in line.now) }
 {
-    match text_of(trimmed(line)) {
+    match text_of(trim_line(line)) {
         Some(text) => {
             if reads_as_object(alloc, text)? {
                 Ok(Some(text))
@@ -75,7 +75,7 @@ pub fn diagnostics(alloc: Global, stderr: &[u8]) -> Result<Items<Text>, AllocErr
 fn add_plain(alloc: Global, plain: &mut Vec<u8>, line: &[u8]) -> Result<(), AllocError>
     ensures { OnOk result (plain.new.items ≡ plain.old.items ++ plain_in line.now) }
 {
-    match trimmed(line) {
+    match trim_line(line) {
         [] => return Ok(()),
         [_, ..] => {}
     }

@@ -21,7 +21,7 @@ pub(crate) fn push_all(out: &mut String, parts: &[&str]) -> Result<(), AllocErro
 }
 
 /// Returns the texts one after another.
-pub(crate) fn joined(alloc: Global, parts: &[&str]) -> Result<String, AllocError>
+pub(crate) fn join_texts(alloc: Global, parts: &[&str]) -> Result<String, AllocError>
     ensures { IfOk result (λ text. string_bytes text ≡ concat (map (λ part. part.now) parts.now)) }
 {
     let mut text = String::new(alloc);

@@ -4,7 +4,7 @@ ghost use Rattle.std.specs.Prelude.{◌≡◌, ◌++◌, ◌∷◌, Bool, IfOk, 
 ghost use Rattle.std.specs.List.{ends_with};
 ghost use Rattle.pb_message.specs.Message.{package_id, required_list, required_text, target_object, target_text, id_text, subject_object, subject_text, debug_info_json, profile_text, executable_text, diagnostic_line, artifact_object, artifact_line, level_text, note_object, note_line, executed_object, executed_line, line_from, lines_from, line_of, lines_of, finish_line};
 
-use crate::json::{joined, json_pairs, json_texts, push_all};
+use crate::json::{join_texts, json_pairs, json_texts, push_all};
 use crate::message::{Artifact, Executed, Level, Message};
 use crate::subject::{Subject, Target};
 use pb_data::{Text, truth_text};
@@ -31,9 +31,9 @@ fn package_id(alloc: Global, subject: &Subject) -> Result<String, AllocError>
     let name = subject.name.as_str();
     let version = subject.version.as_str();
     if ends_in(alloc, &subject.folder, name)? {
-        return joined(alloc, &["path+file://", folder, "#", version]);
+        return join_texts(alloc, &["path+file://", folder, "#", version]);
     }
-    joined(alloc, &["path+file://", folder, "#", name, "@", version])
+    join_texts(alloc, &["path+file://", folder, "#", name, "@", version])
 }
 
 /// Returns the member for the package of a line.
@@ -43,7 +43,7 @@ fn id_text(alloc: Global, subject: &Subject) -> Result<String, AllocError>
 {
     let id = package_id(alloc, subject)?;
     let id = json_string(alloc, id.as_str())?;
-    joined(alloc, &["\"package_id\":", id.as_str()])
+    join_texts(alloc, &["\"package_id\":", id.as_str()])
 }
 
 /// Returns the member for required features.
@@ -52,7 +52,7 @@ fn required_list(alloc: Global, features: &[Text]) -> Result<String, AllocError>
     ensures { IfOk result (λ text. string_bytes text ≡ required_list features.now) }
 {
     let list = json_texts(alloc, features)?;
-    joined(alloc, &[",\"required-features\":", list.as_str()])
+    join_texts(alloc, &[",\"required-features\":", list.as_str()])
 }
 
 /// Returns the member for required features, or nothing if there are none.
@@ -79,7 +79,7 @@ fn target_object(
     ensures { IfOk result (λ text. string_bytes text
         ≡ target_object kinds.now crate_types.now name.now source.now edition.now required.now) }
 {
-    joined(
+    join_texts(
         alloc,
         &[
             "{\"kind\":",
@@ -131,7 +131,7 @@ fn subject_object(
     ensures { IfOk result (λ text. string_bytes text
         ≡ subject_object id.now manifest.now target.now) }
 {
-    joined(
+    join_texts(
         alloc,
         &[id, ",\"manifest_path\":", manifest, ",\"target\":", target],
     )
@@ -155,7 +155,7 @@ fn debug_info_json(alloc: Global, debug: Word) -> Result<String, AllocError>
         Word::Zero => String::from_str(alloc, "0"),
         Word::One => String::from_str(alloc, "1"),
         Word::Two => String::from_str(alloc, "2"),
-        word => json_string(alloc, word.spelled()),
+        word => json_string(alloc, word.spelling()),
     }
 }
 
@@ -163,9 +163,9 @@ fn debug_info_json(alloc: Global, debug: Word) -> Result<String, AllocError>
 fn profile_text(alloc: Global, settings: &Settings) -> Result<String, AllocError>
     ensures { IfOk result (λ text. string_bytes text ≡ profile_text settings.now) }
 {
-    let level = json_string(alloc, settings.opt_level().spelled())?;
+    let level = json_string(alloc, settings.opt_level().spelling())?;
     let debug = debug_info_json(alloc, settings.debug())?;
-    joined(
+    join_texts(
         alloc,
         &[
             "{\"opt_level\":",

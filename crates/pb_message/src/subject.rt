@@ -42,7 +42,7 @@ pub struct Subject {
 }
 
 /// Returns owned copies of texts.
-fn owned(alloc: Global, texts: &[&str]) -> Result<Items<Text>, AllocError>
+fn copy_texts(alloc: Global, texts: &[&str]) -> Result<Items<Text>, AllocError>
     ensures { IfOk result (λ made. made ≡ map (λ t. t.now) texts.now) }
 {
     let mut made = Items::new(alloc);
@@ -57,7 +57,7 @@ fn library_types(alloc: Global, crate_types: &[CrateType]) -> Result<Items<Text>
     ensures { IfOk result (λ made. made ≡ crate_type_texts crate_types.now) }
 {
     let texts = crate_type_texts(alloc, crate_types)?;
-    owned(alloc, texts.as_slice())
+    copy_texts(alloc, texts.as_slice())
 }
 
 impl Target {
@@ -98,8 +98,8 @@ impl Target {
     ) -> Result<Target, AllocError>
         ensures { IfOk result (λ made. made ≡ binary_target name source edition required_features) }
     {
-        let kinds = owned(alloc, &["bin"])?;
-        let crate_types = owned(alloc, &["bin"])?;
+        let kinds = copy_texts(alloc, &["bin"])?;
+        let crate_types = copy_texts(alloc, &["bin"])?;
         Ok(Target {
             kinds,
             crate_types,
@@ -116,8 +116,8 @@ impl Target {
     pub fn script(alloc: Global, source: PathText, edition: Edition) -> Result<Target, AllocError>
         ensures { IfOk result (λ made. made ≡ script_target source edition) }
     {
-        let kinds = owned(alloc, &["custom-build"])?;
-        let crate_types = owned(alloc, &["bin"])?;
+        let kinds = copy_texts(alloc, &["custom-build"])?;
+        let crate_types = copy_texts(alloc, &["bin"])?;
         let name = Text::from_str(alloc, "build-script-build")?;
         Ok(Target {
             kinds,

@@ -36,7 +36,7 @@ fn is_binary(what: &What) -> bool
 }
 
 /// Returns copies of texts.
-fn copied(alloc: Global, texts: &[Text]) -> Result<Items<Text>, AllocError>
+fn copy_texts(alloc: Global, texts: &[Text]) -> Result<Items<Text>, AllocError>
     ensures { IfOk result (λ made. made ≡ texts.now) }
 {
     let mut made = Items::new(alloc);
@@ -65,7 +65,7 @@ fn add_artifact(
         .features_of(unit.unit.owner, unit.unit.side);
     messages.push(Message::CompilerArtifact(Artifact {
         settings: unit.settings,
-        features: copied(alloc, features)?,
+        features: copy_texts(alloc, features)?,
         file,
         is_executable: is_binary(&unit.unit.what),
     }))?;
@@ -198,7 +198,11 @@ fn variables_in(alloc: Global, directives: &[Directive]) -> Result<Items<(Text, 
 }
 
 /// Returns the message for what a script passes to the compiler.
-fn executed(alloc: Global, unit: &Planned, directives: &[Directive]) -> Result<Message, AllocError>
+fn script_message(
+    alloc: Global,
+    unit: &Planned,
+    directives: &[Directive],
+) -> Result<Message, AllocError>
     ensures { IfOk result (λ made. made ≡ executed unit.now directives.now) }
 {
     let linked_libraries = libraries_in(alloc, directives)?;
@@ -237,7 +241,7 @@ pub fn good_messages(
         }
         Some(directives) => {
             add_notes(alloc, &mut messages, directives.as_slice())?;
-            messages.push(executed(alloc, unit, directives.as_slice())?)?;
+            messages.push(script_message(alloc, unit, directives.as_slice())?)?;
         }
     }
     Ok(messages)

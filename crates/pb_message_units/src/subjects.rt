@@ -40,7 +40,7 @@ fn binary_of(alloc: Global, name: &Text, owner: &Package) -> Result<Option<Targe
     ensures { IfOk result (λ made. made
         ≡ binary_of owner.now (find (λ b. bytes_eq name.now b.name) owner.now.binaries)) }
 {
-    match owner.binaries.named(name) {
+    match owner.binaries.get_named(name) {
         None => Ok(None),
         Some(binary) => {
             let target = Target::binary(

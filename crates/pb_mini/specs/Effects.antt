@@ -58,5 +58,5 @@ abbrev pub names_once : Effects → Effects
 names_once done = followed_by no_effects done
 
 -- the new effects are the old ones followed by `effect`, whatever effects come later
-abbrev pub Does : Effects → Effects → Effects → Type 0
-Does new old effect = (later : Effects) → followed_by new later ≡ followed_by old (joined effect later)
+abbrev pub AddsEffect : Effects → Effects → Effects → Type 0
+AddsEffect new old effect = (later : Effects) → followed_by new later ≡ followed_by old (joined effect later)

@@ -247,7 +247,7 @@ fn add_words(
 }
 
 /// Fails with `Bad` if an option waits for its value.
-fn ended(waiting: Option<Role>) -> Result<(), CommandLineFault>
+fn require_complete(waiting: Option<Role>) -> Result<(), CommandLineFault>
     ensures { UnlessOom fault.OutOfMemory (λ _. no_arguments) result (arguments_after waiting []) }
 {
     if waiting.is_some() {
@@ -273,7 +273,7 @@ fn arguments_of(alloc: Global, words: &[Text]) -> Result<Arguments, CommandLineF
     };
     let waiting = add_words(alloc, &mut said, words);
     let (said, waiting) = with_next(said, waiting)?;
-    let (said, ()) = with_next(said, ended(waiting))?;
+    let (said, ()) = with_next(said, require_complete(waiting))?;
     Ok(said)
 }
 

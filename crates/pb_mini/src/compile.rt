@@ -1,7 +1,7 @@
 //! A compile: its source, its image and its reply.
 
 ghost use Rattle.std.specs.Prelude.{◌≡◌, ◌++◌, [], IfOk, OnOk, IfErr, IsTrue, ℕ, List};
-ghost use Rattle.pb_mini.specs.Effects.{Does, followed_by, joined, names_once, no_effects, reads};
+ghost use Rattle.pb_mini.specs.Effects.{AddsEffect, followed_by, joined, names_once, no_effects, reads};
 ghost use Rattle.pb_mini.specs.Lines.{lines_of};
 ghost use Rattle.pb_mini.specs.Verbs.{effects_from};
 ghost use Rattle.pb_mini.specs.Compile.{text_of, text_at, no_source, source_of, source_effects, effects_of, title, image_text, replied, files_of, compiled};
@@ -133,7 +133,7 @@ fn source_of<V: View>(alloc: Global, line: &CommandLine, view: &V) -> Result<Sou
 
 /// Returns the effects of reading a source.
 fn read_effects(alloc: Global, source: &Option<PathText>) -> Result<Effects, AllocError>
-    ensures { IfOk result (λ effects. Does effects no_effects (reads source.now)) }
+    ensures { IfOk result (λ effects. AddsEffect effects no_effects (reads source.now)) }
 {
     let path = source.copy(alloc)?;
     let mut effects = Effects::new(alloc);
@@ -278,7 +278,7 @@ fn files_by(
 }
 
 /// Returns the reply to a compile with these effects.
-fn replied(alloc: Global, line: &CommandLine, effects: Effects) -> Result<Reply, AllocError>
+fn compile_reply(alloc: Global, line: &CommandLine, effects: Effects) -> Result<Reply, AllocError>
     ensures { IfOk result (λ reply. reply ≡ replied line.now effects) }
 {
     let is_bad = has_error(effects.diagnostics.as_slice());
@@ -310,6 +310,6 @@ pub(crate) fn compile<V: View>(
     ensures failed { IfErr result (λ e. e ≡ ViewFault.Failed → V.fails view.now) }
 {
     let effects = effects_of(alloc, line, pairs, view)?;
-    let reply = replied(alloc, line, effects)?;
+    let reply = compile_reply(alloc, line, effects)?;
     Ok(reply)
 }

@@ -1,7 +1,7 @@
 //! The effects of lines: they add bytes to the image, report diagnostics, and name what they read.
 
 ghost use Rattle.std.specs.Prelude.{◌≡◌, IfOk, OnOk, Some};
-ghost use Rattle.pb_mini.specs.Effects.{no_effects, joined, followed_by, Does, copied, copied_file, diagnosed, reads, asks};
+ghost use Rattle.pb_mini.specs.Effects.{no_effects, joined, followed_by, AddsEffect, copied, copied_file, diagnosed, reads, asks};
 
 use crate::buffer::Buffer;
 use crate::dep_info::Names;
@@ -45,7 +45,7 @@ pub(crate) fn add_diagnostic(
     message: Text,
     number: u64,
 ) -> Result<(), AllocError>
-    ensures { OnOk result (Does effects.new effects.old (diagnosed level message number)) }
+    ensures { OnOk result (AddsEffect effects.new effects.old (diagnosed level message number)) }
 {
     effects.diagnostics.push(Diagnostic {
         level,
@@ -63,14 +63,14 @@ pub(crate) fn add_said(
     message: &str,
     number: u64,
 ) -> Result<(), AllocError>
-    ensures { OnOk result (Does effects.new effects.old (diagnosed level message.now number)) }
+    ensures { OnOk result (AddsEffect effects.new effects.old (diagnosed level message.now number)) }
 {
     add_diagnostic(effects, level, Text::from_str(alloc, message)?, number)
 }
 
 /// Adds a line of the image.
 pub(crate) fn add_copied(effects: &mut Effects, line: &str) -> Result<(), AllocError>
-    ensures { OnOk result (Does effects.new effects.old (copied line.now)) }
+    ensures { OnOk result (AddsEffect effects.new effects.old (copied line.now)) }
 {
     push_line(&mut effects.image, line.as_bytes())?;
     Ok(())
@@ -83,7 +83,7 @@ pub(crate) fn add_file(
     mark: &[u8],
     bytes: &[u8],
 ) -> Result<(), AllocError>
-    ensures { OnOk result (Does effects.new effects.old (copied_file mark.now bytes.now)) }
+    ensures { OnOk result (AddsEffect effects.new effects.old (copied_file mark.now bytes.now)) }
 {
     push_quoted(alloc, &mut effects.image, mark, bytes)?;
     Ok(())
@@ -91,7 +91,7 @@ pub(crate) fn add_file(
 
 /// Names a file that is read, if there is a path for it.
 pub(crate) fn add_path(effects: &mut Effects, path: Option<PathText>) -> Result<(), AllocError>
-    ensures { OnOk result (Does effects.new effects.old (reads path)) }
+    ensures { OnOk result (AddsEffect effects.new effects.old (reads path)) }
 {
     if let Some(path) = path {
         effects.names.paths.insert(path.into_text())?;
@@ -105,7 +105,7 @@ pub(crate) fn add_variable(
     name: Text,
     value: Option<Text>,
 ) -> Result<(), AllocError>
-    ensures { OnOk result (Does effects.new effects.old (asks name value)) }
+    ensures { OnOk result (AddsEffect effects.new effects.old (asks name value)) }
 {
     effects.names.variables.insert(name, value)?;
     Ok(())

@@ -3,7 +3,7 @@
 ghost use Rattle.std.specs.Prelude.{◌≡◌, ◌≢◌, ◌==◌, ℕ, List, MatchOption, ◌∷◌, ◌++◌, [], codes, IfOk, OnOk, IfErr, IsTrue, string_bytes};
 ghost use Rattle.std.specs.List.{before_first};
 ghost use Rattle.std.specs.Option.{option_map, option_map_or};
-ghost use Rattle.pb_mini.specs.Effects.{Does, diagnosed};
+ghost use Rattle.pb_mini.specs.Effects.{AddsEffect, diagnosed};
 ghost use Rattle.pb_mini.specs.Lookups.{path_from, file_at};
 ghost use Rattle.pb_mini.specs.Verbs.{from_slash, variable_in, variable_of, expanded, asks_for, included_lines, included, include_effect};
 
@@ -81,7 +81,7 @@ fn with_first_part(alloc: Global, value: &str, path: &str) -> Result<String, All
 
 /// Returns the path, in which the variable's value replaces the first part. The value is empty if
 /// the variable is not set.
-fn expanded(
+fn expand_path(
     alloc: Global,
     path: &str,
     variable: &Option<(Text, Option<Text>)>,
@@ -100,7 +100,7 @@ fn add_variable_of(
     effects: &mut Effects,
     variable: Option<(Text, Option<Text>)>,
 ) -> Result<(), AllocError>
-    ensures { OnOk result (Does effects.new effects.old (asks_for variable)) }
+    ensures { OnOk result (AddsEffect effects.new effects.old (asks_for variable)) }
 {
     if let Some((name, value)) = variable {
         add_variable(effects, name, value)?;
@@ -123,7 +123,7 @@ fn add_no_file(
     number: u64,
     written: &str,
 ) -> Result<(), AllocError>
-    ensures { OnOk result (Does effects.new effects.old (diagnosed Level.Error (codes "no file "
+    ensures { OnOk result (AddsEffect effects.new effects.old (diagnosed Level.Error (codes "no file "
         ++ written.now) number)) }
 {
     let message = no_file(alloc, written)?;
@@ -138,7 +138,7 @@ fn add_lines_of(
     written: &str,
     found: &Option<Bytes>,
 ) -> Result<(), AllocError>
-    ensures { OnOk result (Does effects.new effects.old
+    ensures { OnOk result (AddsEffect effects.new effects.old
         (included_lines number written.now found.now)) }
 {
     match found {
@@ -157,7 +157,7 @@ fn add_included(
     path: Option<PathText>,
     found: &Option<Bytes>,
 ) -> Result<(), AllocError>
-    ensures { OnOk result (Does effects.new effects.old
+    ensures { OnOk result (AddsEffect effects.new effects.old
         (included number written.now variable path found.now)) }
 {
     add_variable_of(effects, variable)?;
@@ -176,7 +176,7 @@ fn path_included(
     ensures { IfOk result (λ path. path
         ≡ path_from folder.now (expanded written.now variable.now)) }
 {
-    let text = expanded(alloc, written, variable)?;
+    let text = expand_path(alloc, written, variable)?;
     path_from(alloc, folder, text.as_str())
 }
 
@@ -212,7 +212,7 @@ pub(crate) fn add_include<V: View>(
     written: &str,
 ) -> Result<(), ViewFault>
     ensures done { IsTrue V.is_modelled →
-        OnOk result (Does effects.new effects.old
+        OnOk result (AddsEffect effects.new effects.old
         (include_effect scope.now (V.shown view.now) number written.now)) }
     ensures failed { IfErr result (λ e. e ≡ ViewFault.Failed → V.fails view.now) }
 {

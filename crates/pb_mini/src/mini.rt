@@ -13,7 +13,7 @@ use pb_place_types::{Child, Command, Reply, View, ViewFault};
 use std::alloc::{AllocError, Global};
 
 /// Returns a reply without files.
-fn said(alloc: Global, status: i32, stdout: &[u8], stderr: &[u8]) -> Result<Reply, AllocError>
+fn reply_with(alloc: Global, status: i32, stdout: &[u8], stderr: &[u8]) -> Result<Reply, AllocError>
     ensures { IfOk result (λ reply. reply ≡ record {
       status = status;
       stdout = stdout.now;
@@ -34,7 +34,7 @@ fn version(alloc: Global) -> Result<Reply, ViewFault>
     ensures reply { IfOk result (λ reply. reply ≡ version) }
     ensures err { IfErr result (λ e. e ≡ ViewFault.OutOfMemory) }
 {
-    let reply = said(alloc, 0, b"mini 0.1.0\nhost: mini-unknown-none\n", b"")?;
+    let reply = reply_with(alloc, 0, b"mini 0.1.0\nhost: mini-unknown-none\n", b"")?;
     Ok(reply)
 }
 
@@ -43,7 +43,7 @@ fn bad_command_line(alloc: Global) -> Result<Reply, ViewFault>
     ensures reply { IfOk result (λ reply. reply ≡ bad_command_line) }
     ensures err { IfErr result (λ e. e ≡ ViewFault.OutOfMemory) }
 {
-    let reply = said(alloc, 2, b"", b"mini: bad command line\n")?;
+    let reply = reply_with(alloc, 2, b"", b"mini: bad command line\n")?;
     Ok(reply)
 }
 

@@ -3,7 +3,7 @@
 ghost use Rattle.std.specs.Prelude.{◌≡◌, ◌<◌, ◌++◌, codes, map, IfOk, OnOk, IfErr, IfSome, IsTrue, length, ℕ, List};
 ghost use Rattle.std.specs.Option.{option_map};
 ghost use Rattle.pb_data.specs.OrderedSet.{is_mentioned};
-ghost use Rattle.pb_mini.specs.Effects.{Does, followed_by, joined, copied, copied_file, diagnosed};
+ghost use Rattle.pb_mini.specs.Effects.{AddsEffect, followed_by, joined, copied, copied_file, diagnosed};
 ghost use Rattle.pb_mini.specs.Lines.{word_in};
 ghost use Rattle.pb_mini.specs.Verbs.{line_meant, meant_at, library_path, used, use_effect, env_line, told, env_effect, verb_of, is_passed_over, effect_by, effect_of, effects_from};
 
@@ -134,7 +134,7 @@ fn add_no_library(
     number: u64,
     name: &str,
 ) -> Result<(), AllocError>
-    ensures { OnOk result (Does effects.new effects.old (diagnosed Level.Error (codes "no library "
+    ensures { OnOk result (AddsEffect effects.new effects.old (diagnosed Level.Error (codes "no library "
         ++ name.now) number)) }
 {
     let message = no_library(alloc, name)?;
@@ -148,7 +148,7 @@ fn add_library(
     line: &str,
     file: &[u8],
 ) -> Result<(), AllocError>
-    ensures { OnOk result (Does effects.new effects.old
+    ensures { OnOk result (AddsEffect effects.new effects.old
         (joined (copied line.now) (copied_file (codes "> ") file.now))) }
 {
     add_copied(effects, line)?;
@@ -166,7 +166,7 @@ fn add_used(
     name: &str,
     file: &Option<Bytes>,
 ) -> Result<(), AllocError>
-    ensures { OnOk result (Does effects.new effects.old (used number line.now name.now file.now)) }
+    ensures { OnOk result (AddsEffect effects.new effects.old (used number line.now name.now file.now)) }
 {
     match file {
         Some(bytes) => add_library(alloc, effects, line, bytes.as_slice()),
@@ -185,7 +185,7 @@ fn add_use<V: View>(
     name: &str,
 ) -> Result<(), ViewFault>
     ensures done { IsTrue V.is_modelled →
-        OnOk result (Does effects.new effects.old
+        OnOk result (AddsEffect effects.new effects.old
         (use_effect scope.now (V.shown view.now) number line.now name.now)) }
     ensures failed { IfErr result (λ e. e ≡ ViewFault.Failed → V.fails view.now) }
 {
@@ -216,7 +216,7 @@ fn add_told(
     name: &str,
     value: Option<Text>,
 ) -> Result<(), AllocError>
-    ensures { OnOk result (Does effects.new effects.old (told name.now value)) }
+    ensures { OnOk result (AddsEffect effects.new effects.old (told name.now value)) }
 {
     let line = env_line(alloc, name, &value)?;
     let name = Text::from_str(alloc, name)?;
@@ -234,7 +234,7 @@ fn add_env<V: View>(
     name: &str,
 ) -> Result<(), ViewFault>
     ensures done { IsTrue V.is_modelled →
-        OnOk result (Does effects.new effects.old
+        OnOk result (AddsEffect effects.new effects.old
         (env_effect scope.now (V.shown view.now) name.now)) }
     ensures failed { IfErr result (λ e. e ≡ ViewFault.Failed → V.fails view.now) }
 {
@@ -255,7 +255,7 @@ fn add_by<V: View>(
     rest: &str,
 ) -> Result<(), ViewFault>
     ensures done { IsTrue V.is_modelled →
-        OnOk result (Does effects.new effects.old
+        OnOk result (AddsEffect effects.new effects.old
         (effect_by verb scope.now (V.shown view.now) number line.now rest.now)) }
     ensures failed { IfErr result (λ e. e ≡ ViewFault.Failed → V.fails view.now) }
 {
@@ -281,7 +281,7 @@ fn add_line<V: View>(
     line: &str,
 ) -> Result<(), ViewFault>
     ensures done { IsTrue V.is_modelled →
-        OnOk result (Does effects.new effects.old
+        OnOk result (AddsEffect effects.new effects.old
         (effect_of scope.now (V.shown view.now) number line.now)) }
     ensures failed { IfErr result (λ e. e ≡ ViewFault.Failed → V.fails view.now) }
 {

@@ -16,7 +16,7 @@ use Rattle.pb_place_types.specs.Paths.{below, folder_of, is_path}
 use Rattle.pb_place_types.specs.World.{World, from_nothing, FilesHavePaths}
 use Rattle.pb_place_types.proofs.PathLemmas.{folder_is_path}
 use Rattle.pb_workspace.specs.ByFolder.{folders_of, values_of}
-use Rattle.pb_workspace.specs.Readings.{IsPut}
+use Rattle.pb_workspace.specs.Readings.{IsStoredAt}
 use Rattle.pb_workspace_package.specs.Drafts.{draft_of}
 use Rattle.pb_workspace.specs.Frames.{frame_of, is_member}
 use Rattle.pb_workspace.specs.Globs.{is_glob}
@@ -103,7 +103,7 @@ module _ (sources : World) (files : FilesHavePaths sources) (manifest : List ℕ
   folder_at _ (start x seed) = first_at x seed
   folder_at _ (onward x y before leads) = led_at x y (folder_at x before) leads
 
-  all_put : (es : List (List ℕ × UnresolvedPackage)) → AllByRecursion (λ e. package_in sources f e.0 ≡ Ok e.1) es → ((x : List ℕ) → Contains (folders_of es) x → At x) → AllByRecursion IsPut es
+  all_put : (es : List (List ℕ × UnresolvedPackage)) → AllByRecursion (λ e. package_in sources f e.0 ≡ Ok e.1) es → ((x : List ℕ) → Contains (folders_of es) x → At x) → AllByRecursion IsStoredAt es
   all_put [] all at = tt
   all_put (e ∷ es) all at =
       let whole = whole_in e.0 e.1 (at e.0 (contains_head e.0 (folders_of es))) all.0 in
@@ -113,7 +113,7 @@ module _ (sources : World) (files : FilesHavePaths sources) (manifest : List ℕ
   record IsRead (r : LoadState) : Type 0 where
     few : length r.found ≤ 256
     rises : IsAscending (folders_of r.found)
-    puts : AllByRecursion IsPut r.found
+    puts : AllByRecursion IsStoredAt r.found
 
   root_rises : (r : LoadState) → root_read sources f parts.tables parts.found ≡ Ok r → IsAscending (folders_of r.found)
   unfolding root_read IsStrictlySortedBy

@@ -16,7 +16,7 @@ use Rattle.pb_mini.specs.declared.request.Request.{Request}
 use Rattle.pb_mini.specs.declared.request.Request.TheVariants.{Version, Run, Compile}
 use Rattle.pb_mini_program.specs.Faults.{of_place}
 use Rattle.pb_mini_program.specs.OutFolder.{folder_for, out_folder, out_dir_variable}
-use Rattle.pb_mini_program.specs.Writing.{FailsAt, FailsToPut, IsFolder, IsReply, Kept, Outside, Puts, PutsIn, WriteFails, Writes}
+use Rattle.pb_mini_program.specs.Writing.{SinkFailsAt, FailsToPut, IsFolder, IsReply, Kept, Outside, Puts, PutsIn, WriteFails, Writes}
 use Rattle.pb_mini_program.specs.declared.fault.Fault.TheVariants.{Write, OutOfMemory}
 
 -- what holds of the error that is known
@@ -72,7 +72,7 @@ files_put shows tells words shown reply files old new is has put =
     (put.0, (λ told. put.1 (has ∙ ap (λ r. r.files) (is told)) told), subst (λ fs. PutsIn tells put.0 fs old new) has put.2)
 
 -- a sink failed at these bytes
-pub sink_fails : (told bytes : List ℕ) (old new : SinkState) → told ≡ bytes → TakesPart told old.taken new.taken → new.faults ≡ up old.faults → FailsAt bytes old new
+pub sink_fails : (told bytes : List ℕ) (old new : SinkState) → told ≡ bytes → TakesPart told old.taken new.taken → new.faults ≡ up old.faults → SinkFailsAt bytes old new
 sink_fails told bytes old new is part rose = (subst (λ b. TakesPart b old.taken new.taken) is part, rose)
 
 -- a sink took them all

@@ -20,8 +20,8 @@ abbrev pub Writes : List ℕ → SinkState → SinkState → Type 0
 Writes bytes old new = Appends old.taken new.taken bytes × (new.faults ≡ old.faults)
 
 -- the sink failed while these bytes were written: it took a first part of them, but not all
-abbrev pub FailsAt : List ℕ → SinkState → SinkState → Type 0
-FailsAt bytes old new = TakesPart bytes old.taken new.taken × (new.faults ≡ up old.faults)
+abbrev pub SinkFailsAt : List ℕ → SinkState → SinkState → Type 0
+SinkFailsAt bytes old new = TakesPart bytes old.taken new.taken × (new.faults ≡ up old.faults)
 
 -- the world of a place, and its counters
 pub record Kept : Type 0 where
@@ -102,8 +102,8 @@ WritesAll shows is_modelled words shown reply old new = Puts shows is_modelled w
 abbrev pub WriteFails : Bool → Bool → List (List ℕ) → World → Reply → Outside → Outside → Type 0
 WriteFails shows is_modelled words shown reply old new =
     ((folder : List ℕ) × IsFolder shows words shown (Some folder) × FailsToPut is_modelled folder reply.files old.kept new.kept × (new.out ≡ old.out) × (new.err ≡ old.err))
-    ⊎ ((Puts shows is_modelled words shown reply old.kept new.kept × FailsAt reply.stdout old.out new.out × (new.err ≡ old.err))
-    ⊎ (Puts shows is_modelled words shown reply old.kept new.kept × Writes reply.stdout old.out new.out × FailsAt reply.stderr old.err new.err))
+    ⊎ ((Puts shows is_modelled words shown reply old.kept new.kept × SinkFailsAt reply.stdout old.out new.out × (new.err ≡ old.err))
+    ⊎ (Puts shows is_modelled words shown reply old.kept new.kept × Writes reply.stdout old.out new.out × SinkFailsAt reply.stderr old.err new.err))
 
 -- Memory ran out before a file was put, or at one of the files. No call failed, and nothing was
 -- written to a sink.

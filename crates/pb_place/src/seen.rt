@@ -339,8 +339,8 @@ impl<P: Place> Place for Seen<P> {
         self.place.stood_still(command)
     }
 
-    fn moved(&self) -> &[Moved] {
-        self.place.moved()
+    fn moved_paths(&self) -> &[Moved] {
+        self.place.moved_paths()
     }
 
     fn files_have_paths(&self) {

@@ -110,7 +110,7 @@ impl Tally {
 
     /// Returns a call that is made next, as a value. If memory ran out for it, counts a call that
     /// did not fail.
-    pub fn kept(&mut self, call: Result<Call, AllocError>) -> Result<Call, PlaceFault>
+    pub fn note_call(&mut self, call: Result<Call, AllocError>) -> Result<Call, PlaceFault>
         ensures same { IfOk result (λ it. call ≡ Ok it) }
         ensures keeps { IfOk call (λ it. result ≡ Ok it) }
         ensures ok { OnOk result (self.new ≡ self.old) }

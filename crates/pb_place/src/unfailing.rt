@@ -130,7 +130,7 @@ impl<C: Child> Place for Unfailing<C> {
         self.inside.finish(alloc, ticket)
     }
 
-    fn moved(&self) -> &[Moved] {
+    fn moved_paths(&self) -> &[Moved] {
         &[]
     }
 

@@ -33,7 +33,7 @@ pub(crate) struct Running<K> {
 }
 
 /// Starts the child of a command, and returns it with the time at which it started.
-pub(crate) fn begun<R: Files + Env + Processes + AllocGlobal>(
+pub(crate) fn start_child<R: Files + Env + Processes + AllocGlobal>(
     runtime: &R,
     alloc: Global,
     command: &Command,

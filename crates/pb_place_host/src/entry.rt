@@ -27,7 +27,7 @@ fn standing_in_circle<R: Files + AllocGlobal>(
 
 /// Returns the metadata of an entry of a folder, links
 /// followed, or `None` if it is a link into a target folder.
-fn followed<R: Files + AllocGlobal>(
+fn metadata_of<R: Files + AllocGlobal>(
     runtime: &R,
     alloc: Global,
     folder: &PathText,
@@ -53,7 +53,7 @@ pub(crate) fn standing_in<R: Files + AllocGlobal>(
     path: &PathText,
     name: &str,
 ) -> io::Result<Standing> {
-    match followed(runtime, alloc, folder, path) {
+    match metadata_of(runtime, alloc, folder, path) {
         Ok(Some(metadata)) => Ok(standing_of(&metadata)),
         Ok(None) => Ok(Standing::Nothing),
         Err(error) if error.kind() == io::ErrorKind::FilesystemLoop => {

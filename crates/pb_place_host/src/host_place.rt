@@ -8,8 +8,8 @@ ghost use Rattle.pb_place.specs.InFlight.{children_in};
 ghost use Rattle.pb_place.specs.Tallies.{flown};
 ghost use Rattle.pb_place_host.specs.Flying.{silent_child};
 
-use crate::children::{Running, Spawned, add_child, begun, child_in_flight, parts_of};
-use crate::known::{Known, answered, answered_variable, finished, started};
+use crate::children::{Running, Spawned, add_child, child_in_flight, parts_of, start_child};
+use crate::known::{Known, answered_variable, note_answer, note_end, note_start};
 use crate::leading_out::links_out;
 use crate::listing::{files_below, files_directly, files_outside, folders_directly};
 use crate::meaning::path_from;
@@ -113,8 +113,8 @@ impl<'a, R: Files + Env + Processes + AllocGlobal> HostPlace<'a, R> {
         // Space is reserved before the process starts, so a running process is always known.
         self.flying.reserve(1)?;
         let child = child_in_flight(alloc, command, ticket)?;
-        let answer = begun(self.runtime, alloc, command);
-        let answer = started(alloc, &mut self.known, command, answer);
+        let answer = start_child(self.runtime, alloc, command);
+        let answer = note_start(alloc, &mut self.known, command, answer);
         let (child, kept) = with_next(child, answer)?;
         self.most = add_child(&mut self.flying, self.most, Flying { child, kept });
         Ok(ticket)
@@ -136,7 +136,7 @@ impl<'a, R: Files + Env + Processes + AllocGlobal> HostPlace<'a, R> {
         let (command, Running { process, spawned }) = parts_of(flying);
         self.ended = spawned;
         let output = process.wait_with_output(alloc);
-        let answer = finished(alloc, &mut self.known, &command, output);
+        let answer = note_end(alloc, &mut self.known, &command, output);
         let links = match &answer {
             Ok(ended) => links_out(self.runtime, alloc, &command, ended.stdout.as_slice()),
             Err(_) => Report::new(alloc),
@@ -227,9 +227,9 @@ impl<'a, R: Files + Env + Processes + AllocGlobal> Place for HostPlace<'a, R> {
     ghost fails = { λ _. Unit {0} };
 
     fn read(&mut self, alloc: Global, path: &PathText) -> Result<Option<Bytes>, PlaceFault> {
-        let call = self.tally.kept(Call::read(alloc, path))?;
+        let call = self.tally.note_call(Call::read(alloc, path))?;
         let answer = file_at(self.runtime, path.as_str());
-        let answer = answered(alloc, &mut self.known, path, PlaceFault::Read, answer);
+        let answer = note_answer(alloc, &mut self.known, path, PlaceFault::Read, answer);
         self.tally.count(call, answer)
     }
 
@@ -239,23 +239,23 @@ impl<'a, R: Files + Env + Processes + AllocGlobal> Place for HostPlace<'a, R> {
         path: &PathText,
         most: usize,
     ) -> Result<Option<Bytes>, PlaceFault> {
-        let call = self.tally.kept(Call::read(alloc, path))?;
+        let call = self.tally.note_call(Call::read(alloc, path))?;
         let answer = first_of(self.runtime, path.as_str(), most);
-        let answer = answered(alloc, &mut self.known, path, PlaceFault::Read, answer);
+        let answer = note_answer(alloc, &mut self.known, path, PlaceFault::Read, answer);
         self.tally.count(call, answer)
     }
 
     fn is_file(&mut self, alloc: Global, path: &PathText) -> Result<bool, PlaceFault> {
-        let call = self.tally.kept(Call::is_file(alloc, path))?;
+        let call = self.tally.note_call(Call::is_file(alloc, path))?;
         let answer = is_file(self.runtime, path.as_str());
-        let answer = answered(alloc, &mut self.known, path, PlaceFault::Read, answer);
+        let answer = note_answer(alloc, &mut self.known, path, PlaceFault::Read, answer);
         self.tally.count(call, answer)
     }
 
     fn list(&mut self, alloc: Global, folder: &PathText) -> Result<Items<PathText>, PlaceFault> {
-        let call = self.tally.kept(Call::list(alloc, folder))?;
+        let call = self.tally.note_call(Call::list(alloc, folder))?;
         let answer = files_below(self.runtime, alloc, folder);
-        let answer = answered(alloc, &mut self.known, folder, PlaceFault::List, answer);
+        let answer = note_answer(alloc, &mut self.known, folder, PlaceFault::List, answer);
         self.tally.count(call, answer)
     }
 
@@ -267,9 +267,9 @@ impl<'a, R: Files + Env + Processes + AllocGlobal> Place for HostPlace<'a, R> {
     ) -> Result<Items<PathText>, PlaceFault> {
         let call = self
             .tally
-            .kept(Call::list_outside(alloc, folder, left_out))?;
+            .note_call(Call::list_outside(alloc, folder, left_out))?;
         let answer = files_outside(self.runtime, alloc, folder, left_out);
-        let answer = answered(alloc, &mut self.known, folder, PlaceFault::List, answer);
+        let answer = note_answer(alloc, &mut self.known, folder, PlaceFault::List, answer);
         self.tally.count(call, answer)
     }
 
@@ -278,9 +278,9 @@ impl<'a, R: Files + Env + Processes + AllocGlobal> Place for HostPlace<'a, R> {
         alloc: Global,
         folder: &PathText,
     ) -> Result<Items<PathText>, PlaceFault> {
-        let call = self.tally.kept(Call::list_directly(alloc, folder))?;
+        let call = self.tally.note_call(Call::list_directly(alloc, folder))?;
         let answer = files_directly(self.runtime, alloc, folder);
-        let answer = answered(alloc, &mut self.known, folder, PlaceFault::List, answer);
+        let answer = note_answer(alloc, &mut self.known, folder, PlaceFault::List, answer);
         self.tally.count(call, answer)
     }
 
@@ -292,16 +292,16 @@ impl<'a, R: Files + Env + Processes + AllocGlobal> Place for HostPlace<'a, R> {
     ) -> Result<Items<PathText>, PlaceFault> {
         let call = self
             .tally
-            .kept(Call::list_folders(alloc, folder, left_out))?;
+            .note_call(Call::list_folders(alloc, folder, left_out))?;
         let answer = folders_directly(self.runtime, alloc, folder, left_out);
-        let answer = answered(alloc, &mut self.known, folder, PlaceFault::List, answer);
+        let answer = note_answer(alloc, &mut self.known, folder, PlaceFault::List, answer);
         self.tally.count(call, answer)
     }
 
     fn write(&mut self, alloc: Global, path: &PathText, bytes: &[u8]) -> Result<(), PlaceFault> {
-        let call = self.tally.kept(Call::write(alloc, path))?;
+        let call = self.tally.note_call(Call::write(alloc, path))?;
         let answer = write_file(self.runtime, alloc, path, bytes);
-        let answer = answered(alloc, &mut self.known, path, PlaceFault::Write, answer);
+        let answer = note_answer(alloc, &mut self.known, path, PlaceFault::Write, answer);
         self.tally.count(call, answer)
     }
 
@@ -311,21 +311,21 @@ impl<'a, R: Files + Env + Processes + AllocGlobal> Place for HostPlace<'a, R> {
         path: &PathText,
         pieces: &[Bytes],
     ) -> Result<(), PlaceFault> {
-        let call = self.tally.kept(Call::write(alloc, path))?;
+        let call = self.tally.note_call(Call::write(alloc, path))?;
         let written = write_file_pieces(self.runtime, alloc, path, pieces);
-        let answer = answered(alloc, &mut self.known, path, PlaceFault::Write, written);
+        let answer = note_answer(alloc, &mut self.known, path, PlaceFault::Write, written);
         self.tally.count(call, answer)
     }
 
     fn remove_tree(&mut self, alloc: Global, path: &PathText) -> Result<(), PlaceFault> {
-        let call = self.tally.kept(Call::remove(alloc, path))?;
+        let call = self.tally.note_call(Call::remove(alloc, path))?;
         let answer = remove_tree(self.runtime, path.as_str());
-        let answer = answered(alloc, &mut self.known, path, PlaceFault::Remove, answer);
+        let answer = note_answer(alloc, &mut self.known, path, PlaceFault::Remove, answer);
         self.tally.count(call, answer)
     }
 
     fn variable(&mut self, alloc: Global, name: &str) -> Result<Option<Text>, PlaceFault> {
-        let call = self.tally.kept(Call::variable(alloc, name))?;
+        let call = self.tally.note_call(Call::variable(alloc, name))?;
         let answer = variable_of(self.runtime, name);
         let answer = answered_variable(alloc, &mut self.known, name, answer);
         self.tally.count(call, answer)
@@ -368,7 +368,7 @@ impl<'a, R: Files + Env + Processes + AllocGlobal> Place for HostPlace<'a, R> {
             || reads.contains(&moved.out))
     }
 
-    fn moved(&self) -> &[Moved] {
+    fn moved_paths(&self) -> &[Moved] {
         self.moved.as_slice()
     }
 

@@ -6,7 +6,7 @@ ghost use Rattle.pb_place_host.specs.Reports.{AreReported};
 
 use crate::failed::{Failed, reason_of};
 use crate::report::Report;
-use crate::starting::ended;
+use crate::starting::end_of;
 use pb_data::Text;
 use pb_place_types::{Command, Ended, PathText, PlaceFault, StartFault, ViewFault};
 use std::alloc::{AllocError, Global};
@@ -149,7 +149,7 @@ fn call_text(
 
 /// Returns what a call on a path answered, and remembers its failure. A failure becomes the call's
 /// own fault; out of memory stays out of memory.
-pub(crate) fn answered<T>(
+pub(crate) fn note_answer<T>(
     alloc: Global,
     known: &mut Known,
     path: &PathText,
@@ -235,7 +235,7 @@ fn remember_start(alloc: Global, known: &mut Known, command: &Command, failed: &
 }
 
 /// Returns what the start of a child answered, and remembers its failure.
-pub(crate) fn started<T>(
+pub(crate) fn note_start<T>(
     alloc: Global,
     known: &mut Known,
     command: &Command,
@@ -328,7 +328,7 @@ fn capture_text(alloc: Global, command: &Command, error: &io::Error) -> Result<S
 
 /// Returns what the end of a child answered. How the child ended is remembered if the child did not
 /// answer or has no output folder.
-pub(crate) fn finished(
+pub(crate) fn note_end(
     alloc: Global,
     known: &mut Known,
     command: &Command,
@@ -340,7 +340,7 @@ pub(crate) fn finished(
     match output {
         Ok(output) => {
             remember_end(alloc, known, command, &output);
-            ended(output)
+            end_of(output)
         }
         Err(error) if error.kind() == ErrorKind::OutOfMemory => Err(StartFault::OutOfMemory),
         Err(error) => {

@@ -1,7 +1,7 @@
 //! What a place reports of a failure.
 
 ghost use Rattle.std.specs.Prelude.{◌≡◌, ◌<◌, [], All, IsTrue, ◌↔◌};
-ghost use Rattle.pb_place_host.specs.Reports.{IsPlain};
+ghost use Rattle.pb_place_host.specs.Reports.{IsPrintable};
 
 use pb_data::{Items, Text};
 use std::alloc::{AllocError, Global};
@@ -30,7 +30,7 @@ fn plain_text(alloc: Global, text: &str) -> Result<String, AllocError> {
 
 /// Returns whether a text has no byte below 32, so no line feed.
 fn is_plain(text: &str) -> bool
-    ensures { IsTrue result ↔ All IsPlain text.now }
+    ensures { IsTrue result ↔ All IsPrintable text.now }
 {
     text.as_bytes().iter().all(|byte| *byte > 31)
 }

@@ -137,7 +137,7 @@ pub(crate) fn spawn<R: Files + Env + Processes + AllocGlobal>(
 /// Returns how a child ended: its status code and both its streams, as they were written.
 ///
 /// Errors: `Died`, if it has no status code.
-pub(crate) fn ended(output: Output) -> Result<Ended, StartFault>
+pub(crate) fn end_of(output: Output) -> Result<Ended, StartFault>
     ensures ended { IfOk result (λ e. (exit_code output.status ≡ Some e.status)
         × (e.stdout ≡ output.stdout.items) × (e.stderr ≡ output.stderr.items)) }
     ensures fault { IfErr result (λ e. (exit_code output.status ≡ None) × (e ≡ StartFault.Died)) }

@@ -16,7 +16,7 @@ const OWNED: u32 = 0o700;
 
 /// Returns an empty file for n bytes, and makes the folders above it. If n is more than a file may
 /// have, nothing is done.
-fn created<R: Files>(
+fn create_file<R: Files>(
     runtime: &R,
     alloc: Global,
     path: &PathText,
@@ -38,7 +38,7 @@ pub(crate) fn write_file<R: Files>(
     path: &PathText,
     bytes: &[u8],
 ) -> Result<(), Failed> {
-    let mut file = created(runtime, alloc, path, bytes.len() as u64)?;
+    let mut file = create_file(runtime, alloc, path, bytes.len() as u64)?;
     file.write_all(bytes)?;
     Ok(())
 }
@@ -50,7 +50,7 @@ pub(crate) fn write_file_pieces<R: Files>(
     path: &PathText,
     pieces: &[Bytes],
 ) -> Result<(), Failed> {
-    let mut file = created(runtime, alloc, path, length_of(pieces))?;
+    let mut file = create_file(runtime, alloc, path, length_of(pieces))?;
     for piece in pieces {
         file.write_all(piece.as_slice())?;
     }

@@ -254,7 +254,7 @@ impl FileMap {
 }
 
 /// Returns a folder's stem with an end appended.
-fn bound(alloc: Global, folder: &str, end: &str) -> Result<Text, AllocError>
+fn stem_with(alloc: Global, folder: &str, end: &str) -> Result<Text, AllocError>
     ensures { IfOk result (λ text. text ≡ stem folder.now ++ end.now) }
 {
     let mut text = String::from_str(alloc, stem(folder))?;
@@ -301,8 +301,8 @@ fn names_below(
         ≡ map.keys (map.retain_keys (files_of files.now) (is_below folder.now))) }
     ensures ordered { OnOk result (IsOrdered (slice_cmp nat_cmp) files.now) }
 {
-    let low = bound(alloc, folder, "/")?;
-    let high = bound(alloc, folder, "0")?;
+    let low = stem_with(alloc, folder, "/")?;
+    let high = stem_with(alloc, folder, "0")?;
     let names = names_between(alloc, files, &low, &high)?;
     Ok(names)
 }

@@ -29,7 +29,7 @@ pub use laws::{
 };
 pub use moved::Moved;
 pub use path::{PathFault, PathText};
-pub use pieces::{joined, length_of};
+pub use pieces::{join_pieces, length_of};
 pub use place::{Failure, Place, PlaceFault, StartFault};
 pub use relative::RelativePath;
 pub use sink::{Out, Over};

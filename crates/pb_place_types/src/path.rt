@@ -124,7 +124,7 @@ fn names_of(alloc: Global, text: &str) -> Result<Vec<&str>, AllocError>
 }
 
 /// Returns the names, each after a slash.
-fn slashed(alloc: Global, names: &[&str]) -> Result<String, AllocError>
+fn with_slashes(alloc: Global, names: &[&str]) -> Result<String, AllocError>
     ensures { IfOk result (λ text. string_bytes text ≡ slashed (map (λ name. name.now) names.now)) }
 {
     let mut text = String::new(alloc);
@@ -142,7 +142,7 @@ fn path_of(alloc: Global, names: &[&str]) -> Result<String, AllocError>
     if names.is_empty() {
         return String::from_str(alloc, "/");
     }
-    slashed(alloc, names)
+    with_slashes(alloc, names)
 }
 
 /// Returns the text before the slash in each path below a folder.

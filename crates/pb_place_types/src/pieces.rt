@@ -20,7 +20,7 @@ pub fn length_of(pieces: &[Bytes]) -> u64
 /// Returns the bytes of some pieces, joined in order. Memory for the result is taken once.
 ///
 /// Errors: out of memory only.
-pub fn joined(alloc: Global, pieces: &[Bytes]) -> Result<Bytes, AllocError>
+pub fn join_pieces(alloc: Global, pieces: &[Bytes]) -> Result<Bytes, AllocError>
     ensures { IfOk result (λ whole. whole ≡ concat pieces.now) }
 {
     let mut whole = Vec::with_capacity(alloc, length_of(pieces) as usize)?;

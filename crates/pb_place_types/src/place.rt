@@ -366,7 +366,7 @@ pub trait Place {
 
     /// Returns what has moved, at most one path per child, in the order in which it was found. It
     /// takes no memory.
-    fn moved(&self) -> &[Moved]
+    fn moved_paths(&self) -> &[Moved]
         ensures all { result.now ≡ (at self.now).moved }
         ensures none { IsTrue is_modelled → result.now ≡ [] };
 

@@ -33,7 +33,7 @@ pub fn folder_of(profile: &str) -> &str
 }
 
 /// Returns the table with this name, if there is one.
-fn named<'a>(profiles: &'a [Profile], name: &str) -> Option<&'a Profile>
+fn find_profile<'a>(profiles: &'a [Profile], name: &str) -> Option<&'a Profile>
     ensures { option_map (λ p. p.now) result ≡ named profiles.now name.now }
 {
     profiles
@@ -47,7 +47,7 @@ fn ancestor_at<'a>(profiles: &'a [Profile], name: &'a str) -> Ancestor<'a>
 {
     Ancestor {
         name,
-        table: named(profiles, name),
+        table: find_profile(profiles, name),
     }
 }
 
@@ -99,7 +99,7 @@ pub fn line_of<'a>(
     ensures { UnlessOom profile_fault.OutOfMemory (λ line.
         map seen line.items) result (checked_line profiles.now profile.now) }
 {
-    let line = walked(alloc, profiles, profile)?;
+    let line = ancestors_of(alloc, profiles, profile)?;
     if all_allow(line.as_slice()) {
         Ok(line)
     } else {
@@ -115,7 +115,7 @@ fn all_allow(line: &[Ancestor]) -> bool
 }
 
 /// Returns the line of a profile, whatever its overrides set.
-fn walked<'a>(
+fn ancestors_of<'a>(
     alloc: Global,
     profiles: &'a [Profile],
     profile: &'a str,

@@ -113,7 +113,7 @@ impl Settings {
 }
 
 /// Returns what a value is in a role.
-fn fixed(role: Side, key: ProfileKey, value: Setting) -> Setting
+fn fix_by_role(role: Side, key: ProfileKey, value: Setting) -> Setting
     ensures { result ≡ fixed role key value }
 {
     match role {
@@ -127,7 +127,7 @@ fn setting_of(owner: &Package, role: Side, line: &[Ancestor], key: ProfileKey) -
     ensures { result ≡ setting_of owner.now role (map seen line.now) key }
 {
     let found = looked_up(owner, role, line, key);
-    fixed(role, key, found.unwrap_or(key.row().dev))
+    fix_by_role(role, key, found.unwrap_or(key.row().dev))
 }
 
 /// Returns the settings of a package in a role along a line. No memory is used, so a caller that

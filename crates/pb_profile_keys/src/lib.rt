@@ -12,4 +12,4 @@ pub use key::{COUNT, ProfileKey};
 pub use keys::ProfileKeys;
 pub use laws::{keys_are_at_their_index, keys_are_told_once};
 pub use setting::{Choice, Setting, Word, meaning};
-pub use table::{Row, told};
+pub use table::{Row, told_keys};

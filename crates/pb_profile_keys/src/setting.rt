@@ -70,7 +70,7 @@ const WORDS: [Word; 18] = [
 
 impl Word {
     /// Returns the word as it is spelled.
-    pub fn spelled(self) -> &'static str
+    pub fn spelling(self) -> &'static str
         ensures { result.now ≡ spelled self }
     {
         match self {
@@ -108,7 +108,7 @@ impl Word {
 fn if_spelled(text: &str, word: Word) -> Option<Word>
     ensures { result ≡ if_spelled text.now word }
 {
-    if word.spelled() == text {
+    if word.spelling() == text {
         Some(word)
     } else {
         None
@@ -148,7 +148,7 @@ impl Setting {
         match (self, other) {
             (Setting::Truth(a), Setting::Truth(b)) => a == b,
             (Setting::Number(a), Setting::Number(b)) => a == b,
-            (Setting::Word(a), Setting::Word(b)) => a.spelled() == b.spelled(),
+            (Setting::Word(a), Setting::Word(b)) => a.spelling() == b.spelling(),
             _ => false,
         }
     }
@@ -170,7 +170,7 @@ pub fn meaning(choices: &[Choice], written: Setting) -> Option<Setting>
 {
     let mut left = choices;
     while let [choice, after @ ..] = left {
-        match choice.accepted(written) {
+        match choice.value_for(written) {
             Some(meant) => return Some(meant),
             None => left = after,
         }
@@ -191,7 +191,7 @@ pub enum Choice {
 
 impl Choice {
     /// Returns what a written value means by the choice, if it is one of its values.
-    pub fn accepted(self, written: Setting) -> Option<Setting>
+    pub fn value_for(self, written: Setting) -> Option<Setting>
         ensures { result ≡ accepted written self }
     {
         match self {

@@ -112,7 +112,7 @@ const TOLD: &[ProfileKey] = &[
 ];
 
 /// Returns the keys in the order of the compiler's options.
-pub fn told() -> &'static [ProfileKey]
+pub fn told_keys() -> &'static [ProfileKey]
     ensures { result.now ≡ told }
 {
     TOLD

@@ -4,7 +4,7 @@ use Rattle.std.specs.Prelude.{MatchOption}
 use Rattle.std.proofs.lemmas.List.{append_assoc}
 use Rattle.pb_record.specs.Grammar.{number, block}
 use Rattle.pb_record.specs.Parts.{IsNumber, IsAny}
-use Rattle.pb_record.specs.Reading.{Stands, StandsNone, IsSpelling}
+use Rattle.pb_record.specs.Reading.{BeginsWith, StandsNone, IsSpelling}
 use Rattle.pb_record.proofs.NumberLemmas.{number_spelling}
 
 fronts_same : {A : Type 0} (xs ys rest more : List A) → length xs ≡ length ys → xs ++ rest ≡ ys ++ more → (xs ≡ ys) × (rest ≡ more)
@@ -34,7 +34,7 @@ block_spelling = record {
       (parts.0, cc (parts.1));
 }
 
-pub stands_block : {Q : ℕ → Type 0} {text mid : List ℕ} {n : ℕ} (bytes rest : List ℕ) → Stands Q number text n mid → length bytes ≡ n → mid ≡ bytes ++ 10 ∷ rest → Stands IsAny block text bytes rest
+pub stands_block : {Q : ℕ → Type 0} {text mid : List ℕ} {n : ℕ} (bytes rest : List ℕ) → BeginsWith Q number text n mid → length bytes ≡ n → mid ≡ bytes ++ 10 ∷ rest → BeginsWith IsAny block text bytes rest
 stands_block {mid = mid} bytes rest count len e = record {
   is = tt;
   here = count.here ∙ ap (λ k. number k ++ mid) (sym len) ∙ ap (λ t. number (length bytes) ++ t) e ∙ sym (block_cut bytes rest);
@@ -49,7 +49,7 @@ no_block_count {text = text} small none = record {
       none.never (length bytes) (bytes ++ 10 ∷ rest) (record { is = is; here = here });
 }
 
-pub no_block_bytes : {Q : ℕ → Type 0} {text mid : List ℕ} {n : ℕ} → Stands Q number text n mid → ((bytes rest : List ℕ) → length bytes ≡ n → mid ≡ bytes ++ 10 ∷ rest → ⊥) → StandsNone IsAny block text
+pub no_block_bytes : {Q : ℕ → Type 0} {text mid : List ℕ} {n : ℕ} → BeginsWith Q number text n mid → ((bytes rest : List ℕ) → length bytes ≡ n → mid ≡ bytes ++ 10 ∷ rest → ⊥) → StandsNone IsAny block text
 no_block_bytes {mid = mid} {n = n} count bad = record {
   never = λ bytes rest stands.
       let parts = number_spelling.apart (length bytes) n (bytes ++ 10 ∷ rest) mid (sym (block_cut bytes rest) ∙ sym stands.here ∙ count.here) in
@@ -64,9 +64,9 @@ pub no_feed_there : {mid : List ℕ} {n : ℕ} (front after : List ℕ) → mid 
     → (bytes rest : List ℕ) → length bytes ≡ n → mid ≡ bytes ++ 10 ∷ rest → ⊥
 no_feed_there front after cut len bad bytes rest len' e = bad rest (fronts_same front bytes after (10 ∷ rest) (len ∙ sym len') (sym cut ∙ e)).1
 
-pub block_cuts : {text mid : List ℕ} {n : ℕ} (o : Option (Bor (List ℕ) × Bor (List ℕ))) → Stands IsNumber number text n mid
+pub block_cuts : {text mid : List ℕ} {n : ℕ} (o : Option (Bor (List ℕ) × Bor (List ℕ))) → BeginsWith IsNumber number text n mid
     → MatchOption o ((bytes rest : List ℕ) → length bytes ≡ n → mid ≡ bytes ++ 10 ∷ rest → ⊥) (λ p. (length p.0.now ≡ n) × (mid ≡ p.0.now ++ 10 ∷ p.1.now))
-    → MatchOption o (StandsNone IsAny block text) (λ p. Stands IsAny block text p.0.now p.1.now)
+    → MatchOption o (StandsNone IsAny block text) (λ p. BeginsWith IsAny block text p.0.now p.1.now)
 block_cuts None count told = no_block_bytes count told
 block_cuts (Some (bytes, rest)) count told = stands_block bytes.now rest.now count told.0 told.1
 

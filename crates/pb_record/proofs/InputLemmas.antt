@@ -6,7 +6,7 @@ use Rattle.std.specs.List.{AllByRecursion}
 use Rattle.pb_record.specs.Grammar.{line, block, listed, both, files, perhaps, input_bytes}
 use Rattle.pb_record.specs.Parts.{IsAny, IsPlace, AreFiles, AreBoth, IsPerhaps, ArePairs, IsInput}
 use Rattle.pb_record.specs.Sorted.{are_sorted}
-use Rattle.pb_record.specs.Reading.{Stands, StandsNone, IsSpelling}
+use Rattle.pb_record.specs.Reading.{BeginsWith, StandsNone, IsSpelling}
 use Rattle.pb_record.specs.declared.record.Input.{Input}
 use Rattle.pb_record.specs.declared.record.Input.TheVariants.{File, Tree, Value}
 use Rattle.pb_record.proofs.BlockLemmas.{block_spelling}
@@ -43,10 +43,10 @@ perhaps_apart (Some x) (Some y) rest more e =
 pub perhaps_spelling : IsSpelling perhaps
 perhaps_spelling = record { some = perhaps_some; apart = perhaps_apart }
 
-pub absent : (text rest : List ℕ) → text ≡ line (codes "0") ++ rest → Stands IsPerhaps perhaps text None rest
+pub absent : (text rest : List ℕ) → text ≡ line (codes "0") ++ rest → BeginsWith IsPerhaps perhaps text None rest
 absent text rest e = record { is = tt; here = e }
 
-pub present : (text behind rest : List ℕ) (x : List ℕ) → text ≡ line (codes "1") ++ behind → Stands IsUtf8 block behind x rest → Stands IsPerhaps perhaps text (Some x) rest
+pub present : (text behind rest : List ℕ) (x : List ℕ) → text ≡ line (codes "1") ++ behind → BeginsWith IsUtf8 block behind x rest → BeginsWith IsPerhaps perhaps text (Some x) rest
 present text behind rest x e there = record { is = there.is; here = e ∙ ap (λ t. line (codes "1") ++ t) there.here }
 
 none_perhaps : (x : Option (List ℕ)) (text rest : List ℕ) → ((rest : List ℕ) → text ≡ line (codes "0") ++ rest → ⊥) → ((rest : List ℕ) → text ≡ line (codes "1") ++ rest → ⊥) → text ≡ perhaps x ++ rest → ⊥
@@ -67,7 +67,7 @@ not_present text behind front none = record { never = λ x rest stands. none_pre
 
 -- pairs
 
-pub not_sorted : {text rest : List ℕ} {x : List (List ℕ × List ℕ)} → Stands (AllByRecursion (AreBoth IsUtf8 IsUtf8)) (listed (both block block)) text x rest → (are_sorted x ≡ true → ⊥) → StandsNone ArePairs (listed (both block block)) text
+pub not_sorted : {text rest : List ℕ} {x : List (List ℕ × List ℕ)} → BeginsWith (AllByRecursion (AreBoth IsUtf8 IsUtf8)) (listed (both block block)) text x rest → (are_sorted x ≡ true → ⊥) → StandsNone ArePairs (listed (both block block)) text
 not_sorted there bad = none_but ArePairs pairs_spelling there (λ is. bad is.1)
 
 -- inputs
@@ -109,13 +109,13 @@ input_apart (Value name text) (Value other others) rest more e =
 pub input_spelling : IsSpelling input_bytes
 input_spelling = record { some = input_some; apart = input_apart }
 
-pub file_stands : {text rest : List ℕ} {p : List ℕ × List ℕ} → Stands (AreBoth IsPlace IsAny) (both block block) text p rest → Stands IsInput input_bytes (line (codes "f") ++ text) (File p.0 p.1) rest
+pub file_stands : {text rest : List ℕ} {p : List ℕ × List ℕ} → BeginsWith (AreBoth IsPlace IsAny) (both block block) text p rest → BeginsWith IsInput input_bytes (line (codes "f") ++ text) (File p.0 p.1) rest
 file_stands {p = p} there = stands_by IsInput input_bytes (line (codes "f")) (File p.0 p.1) there there.is.0 refl
 
-pub tree_stands : {text rest : List ℕ} {p : List ℕ × List (List ℕ × List ℕ)} → Stands (AreBoth IsPlace AreFiles) (both block files) text p rest → Stands IsInput input_bytes (line (codes "t") ++ text) (Tree p.0 p.1) rest
+pub tree_stands : {text rest : List ℕ} {p : List ℕ × List (List ℕ × List ℕ)} → BeginsWith (AreBoth IsPlace AreFiles) (both block files) text p rest → BeginsWith IsInput input_bytes (line (codes "t") ++ text) (Tree p.0 p.1) rest
 tree_stands {p = p} there = stands_by IsInput input_bytes (line (codes "t")) (Tree p.0 p.1) there there.is refl
 
-pub value_stands : {text rest : List ℕ} {p : List ℕ × Option (List ℕ)} → Stands (AreBoth IsUtf8 IsPerhaps) (both block perhaps) text p rest → Stands IsInput input_bytes (line (codes "v") ++ text) (Value p.0 p.1) rest
+pub value_stands : {text rest : List ℕ} {p : List ℕ × Option (List ℕ)} → BeginsWith (AreBoth IsUtf8 IsPerhaps) (both block perhaps) text p rest → BeginsWith IsInput input_bytes (line (codes "v") ++ text) (Value p.0 p.1) rest
 value_stands {p = p} there = stands_by IsInput input_bytes (line (codes "v")) (Value p.0 p.1) there there.is refl
 
 no_file_at : (x : Input) (text rest : List ℕ) → StandsNone (AreBoth IsPlace IsAny) (both block block) text → IsInput x → line (codes "f") ++ text ≡ input_bytes x ++ rest → ⊥

@@ -4,7 +4,7 @@ use Rattle.std.specs.Int.Digits.{digits_of}
 use Rattle.std.proofs.lemmas.Int.Digits.{first_digits_of, length-digits_of_step}
 use Rattle.std.proofs.lemmas.List.{append_assoc, append_cancel_left, append-nil, take-append-drop, length-drop}
 use Rattle.pb_record.specs.Grammar.{line, decimals, number, record_bytes, bytes_by}
-use Rattle.pb_record.specs.Parts.{IsRecord, AreNeeded, Says, Reads, IsReading}
+use Rattle.pb_record.specs.Parts.{IsRecord, AreNeeded, Says, ReadsAs, FindsAsReading}
 use Rattle.pb_record.specs.Laws as law
 use Rattle.pb_record.specs.declared.record.Record.{Record}
 use Rattle.pb_record.specs.declared.record.Needed.{Needed}
@@ -89,10 +89,10 @@ one_reading text None None reads others = refl
 one_reading text None (Some s) reads others = (reads s).1 ((others s).0 refl)
 one_reading text (Some r) other reads others = sym ((others r).1 ((reads r).0 refl))
 
-pub read_so : (text : List ℕ) (found : Option Record) → Reads text found → (read : List ℕ → Option Record) → IsReading read → found ≡ read text
+pub read_so : (text : List ℕ) (found : Option Record) → ReadsAs text found → (read : List ℕ → Option Record) → FindsAsReading read → found ≡ read text
 read_so text found reads read readings = one_reading text found (read text) reads (readings text)
 
-pub reads_back : {text : List ℕ} {r : Record} → Says text r → (read : List ℕ → Option Record) → IsReading read → read text ≡ Some r
+pub reads_back : {text : List ℕ} {r : Record} → Says text r → (read : List ℕ → Option Record) → FindsAsReading read → read text ≡ Some r
 reads_back {text = text} {r = r} says read readings = (readings text r).1 says
 
 -- a first part reads as none
@@ -100,6 +100,6 @@ none_said : (found : Option Record) → ((s : Record) → found ≡ Some s → �
 none_said None bad = refl
 none_said (Some s) bad = absurd (bad s refl)
 
-pub reads_torn : {text : List ℕ} {r : Record} → Says text r → (read : List ℕ → Option Record) → IsReading read → (n : ℕ) → n < length text → read (take n text) ≡ None
+pub reads_torn : {text : List ℕ} {r : Record} → Says text r → (read : List ℕ → Option Record) → FindsAsReading read → (n : ℕ) → n < length text → read (take n text) ≡ None
 reads_torn {text = text} {r = r} says read readings n less =
     none_said (read (take n text)) (λ s e. first_parts n r s (subst (λ t. n < length t) says.same less) (subst (λ t. Says (take n t) s) says.same ((readings (take n text) s).0 e)))

@@ -17,7 +17,7 @@ use Rattle.std.proofs.lemmas.Int.Digits.{number_digits_of, all_below_base_digits
 use Rattle.std.proofs.lemmas.List.{take-append-drop, drop_more, get_or_at, append_assoc}
 use Rattle.pb_record.specs.Grammar.{decimals, number}
 use Rattle.pb_record.specs.Parts.{IsNumber}
-use Rattle.pb_record.specs.Reading.{Stands, StandsNone, IsSpelling, HasNoFeed, begins_well}
+use Rattle.pb_record.specs.Reading.{BeginsWith, StandsNone, IsSpelling, HasNoFeed, begins_well}
 
 own : IsNumeralModel (AllDigits 10) (digits_value 10)
 own = numerals_by_value _ tells_digits
@@ -131,7 +131,7 @@ no_line text free front rest e =
     free (length front) (omega arith) there
 
 -- a number in front of a text
-pub number_stands : (text digits rest : List ℕ) (n : ℕ) → n < 2 ^ 64 → text ≡ digits ++ 10 ∷ rest → digits ≡ decimals n → Stands IsNumber number text n rest
+pub number_stands : (text digits rest : List ℕ) (n : ℕ) → n < 2 ^ 64 → text ≡ digits ++ 10 ∷ rest → digits ≡ decimals n → BeginsWith IsNumber number text n rest
 unfolding number
 number_stands text digits rest n small split e = record { is = small; here = split ∙ ap (λ d. d ++ 10 ∷ rest) e ∙ sym (append_assoc (decimals n) (10 ∷ []) rest) }
 

@@ -5,18 +5,18 @@ use Rattle.std.specs.List.{AllByRecursion, flat_map}
 use Rattle.std.proofs.lemmas.List.{append_assoc, take_more}
 use Rattle.pb_record.specs.Grammar.{number, listed, both}
 use Rattle.pb_record.specs.Parts.{IsNumber, AreBoth}
-use Rattle.pb_record.specs.Reading.{Stands, StandsNone, IsSpelling, HasCount}
+use Rattle.pb_record.specs.Reading.{BeginsWith, StandsNone, IsSpelling, HasCount}
 use Rattle.pb_record.proofs.NumberLemmas.{number_spelling}
 
 -- one kind of part in place of another
 
-pub stands_as : {A : Type 0} {P : A → Type 0} {f : A → List ℕ} {text : List ℕ} {x : A} {rest : List ℕ} (R : A → Type 0) → Stands P f text x rest → R x → Stands R f text x rest
+pub stands_as : {A : Type 0} {P : A → Type 0} {f : A → List ℕ} {text : List ℕ} {x : A} {rest : List ℕ} (R : A → Type 0) → BeginsWith P f text x rest → R x → BeginsWith R f text x rest
 stands_as R stands is = record { is = is; here = stands.here }
 
 pub none_less : {A : Type 0} {P : A → Type 0} {f : A → List ℕ} {text : List ℕ} (R : A → Type 0) → StandsNone P f text → ((x : A) → R x → P x) → StandsNone R f text
 none_less R none less = record { never = λ x rest stands. none.never x rest (record { is = less x stands.is; here = stands.here }) }
 
-pub none_but : {A : Type 0} {P : A → Type 0} {f : A → List ℕ} {text : List ℕ} {x : A} {rest : List ℕ} (R : A → Type 0) → IsSpelling f → Stands P f text x rest → (R x → ⊥) → StandsNone R f text
+pub none_but : {A : Type 0} {P : A → Type 0} {f : A → List ℕ} {text : List ℕ} {x : A} {rest : List ℕ} (R : A → Type 0) → IsSpelling f → BeginsWith P f text x rest → (R x → ⊥) → StandsNone R f text
 none_but {x = x} {rest = rest} R spelling there bad = record {
   never = λ y more stands.
       bad (subst R (spelling.apart y x more rest (sym stands.here ∙ there.here)).0 stands.is);
@@ -24,7 +24,7 @@ none_but {x = x} {rest = rest} R spelling there bad = record {
 
 -- the same bytes as another kind of part, behind a front
 pub stands_by : {A B : Type 0} {P : A → Type 0} {f : A → List ℕ} {text : List ℕ} {x : A} {rest : List ℕ} (R : B → Type 0) (g : B → List ℕ) (front : List ℕ) (y : B)
-    → Stands P f text x rest → R y → g y ≡ front ++ f x → Stands R g (front ++ text) y rest
+    → BeginsWith P f text x rest → R y → g y ≡ front ++ f x → BeginsWith R g (front ++ text) y rest
 stands_by {f = f} {x = x} {rest = rest} R g front y stands is e =
     record { is = is; here = ap (λ t. front ++ t) stands.here ∙ sym (append_assoc front (f x) rest) ∙ ap (λ t. t ++ rest) (sym e) }
 
@@ -56,7 +56,7 @@ both_spelling f g one two = record {
 }
 
 pub stands_both : {A B : Type 0} {P : A → Type 0} {Q : B → Type 0} {f : A → List ℕ} {g : B → List ℕ} {text mid rest : List ℕ} {x : A} {y : B}
-    → Stands P f text x mid → Stands Q g mid y rest → Stands (AreBoth P Q) (both f g) text (x, y) rest
+    → BeginsWith P f text x mid → BeginsWith Q g mid y rest → BeginsWith (AreBoth P Q) (both f g) text (x, y) rest
 stands_both {f = f} {g = g} {rest = rest} {x = x} {y = y} one two = record {
   is = (one.is, two.is);
   here = one.here ∙ ap (λ t. f x ++ t) two.here ∙ sym (append_assoc (f x) (g y) rest);
@@ -69,7 +69,7 @@ none_first {f = f} Q g none = record {
 }
 
 pub none_second : {A B : Type 0} {P : A → Type 0} {Q : B → Type 0} {f : A → List ℕ} {g : B → List ℕ} {text mid : List ℕ} {x : A}
-    → IsSpelling f → Stands P f text x mid → StandsNone Q g mid → StandsNone (AreBoth P Q) (both f g) text
+    → IsSpelling f → BeginsWith P f text x mid → StandsNone Q g mid → StandsNone (AreBoth P Q) (both f g) text
 none_second {f = f} {g = g} {mid = mid} {x = x} spelling one none = record {
   never = λ p rest stands.
       let parts = spelling.apart x p.0 mid (g p.1 ++ rest) (sym one.here ∙ stands.here ∙ append_assoc (f p.0) (g p.1) rest) in
@@ -104,7 +104,7 @@ length-flat f spelling [] = omega arith
 length-flat f spelling (x ∷ xs) = omega (arith, length-flat f spelling xs, spelling.some x, length-append (f x) (flat_map f xs))
 
 pub stands_list : {A : Type 0} {P : A → Type 0} {Q : ℕ → Type 0} {text mid rest : List ℕ} {n : ℕ} {xs : List A} (f : A → List ℕ)
-    → Stands Q number text n mid → Stands (HasCount P n) (flat_map f) mid xs rest → Stands (AllByRecursion P) (listed f) text xs rest
+    → BeginsWith Q number text n mid → BeginsWith (HasCount P n) (flat_map f) mid xs rest → BeginsWith (AllByRecursion P) (listed f) text xs rest
 unfolding listed
 stands_list {mid = mid} {rest = rest} {n = n} {xs = xs} f count items = record {
   is = items.is.0;
@@ -122,7 +122,7 @@ none_count {text = text} P f spelling small none = record {
 }
 
 pub none_items : {A : Type 0} {P : A → Type 0} {Q : ℕ → Type 0} {text mid : List ℕ} {n : ℕ} (f : A → List ℕ)
-    → Stands Q number text n mid → StandsNone (HasCount P n) (flat_map f) mid → StandsNone (AllByRecursion P) (listed f) text
+    → BeginsWith Q number text n mid → StandsNone (HasCount P n) (flat_map f) mid → StandsNone (AllByRecursion P) (listed f) text
 unfolding listed
 none_items {mid = mid} {n = n} f count none = record {
   never = λ xs rest stands.
@@ -132,7 +132,7 @@ none_items {mid = mid} {n = n} f count none = record {
 
 -- the items one by one
 
-pub no_items : {A : Type 0} (P : A → Type 0) (f : A → List ℕ) (text : List ℕ) → Stands (HasCount P 0) (flat_map f) text [] text
+pub no_items : {A : Type 0} (P : A → Type 0) (f : A → List ℕ) (text : List ℕ) → BeginsWith (HasCount P 0) (flat_map f) text [] text
 no_items P f text = record { is = (tt, refl); here = refl }
 
 all_push : {A : Type 0} (P : A → Type 0) (xs : List A) (x : A) → AllByRecursion P xs → P x → AllByRecursion P (xs ++ x ∷ [])
@@ -144,9 +144,9 @@ flat_push f [] x = search (rules)
 flat_push f (y ∷ xs) x = ap (λ t. f y ++ t) (flat_push f xs x) ∙ sym (append_assoc (f y) (flat_map f xs) (f x))
 
 pub one_more : {A : Type 0} {P : A → Type 0} {f : A → List ℕ} {text mid rest : List ℕ} {xs : List A} {x : A} {n : ℕ} (ys : List A)
-    → Stands (HasCount P n) (flat_map f) text xs mid → Stands P f mid x rest → ys ≡ xs ++ x ∷ [] → Stands (HasCount P (n + 1)) (flat_map f) text ys rest
+    → BeginsWith (HasCount P n) (flat_map f) text xs mid → BeginsWith P f mid x rest → ys ≡ xs ++ x ∷ [] → BeginsWith (HasCount P (n + 1)) (flat_map f) text ys rest
 one_more {P = P} {f = f} {text = text} {mid = mid} {rest = rest} {xs = xs} {x = x} {n = n} ys so_far next e =
-    subst (λ ys. Stands (HasCount P (n + 1)) (flat_map f) text ys rest) (sym e) (record {
+    subst (λ ys. BeginsWith (HasCount P (n + 1)) (flat_map f) text ys rest) (sym e) (record {
       is = (all_push P xs x so_far.is.0 next.is, omega (arith, length-append xs (x ∷ []), so_far.is.1));
       here = so_far.here ∙ ap (λ t. flat_map f xs ++ t) next.here ∙ sym (append_assoc (flat_map f xs) (f x) rest) ∙ ap (λ t. t ++ rest) (sym (flat_push f xs x));
     })
@@ -169,7 +169,7 @@ goes_on P f spelling (x ∷ xs) (y ∷ ys) rest more less (is, all) e none =
     goes_on P f spelling xs ys rest more (omega arith) all first.1 none
 
 pub stops_short : {A : Type 0} {P : A → Type 0} {f : A → List ℕ} {text rest : List ℕ} {xs : List A} {i n : ℕ}
-    → IsSpelling f → Stands (HasCount P i) (flat_map f) text xs rest → i < n → StandsNone P f rest → StandsNone (HasCount P n) (flat_map f) text
+    → IsSpelling f → BeginsWith (HasCount P i) (flat_map f) text xs rest → i < n → StandsNone P f rest → StandsNone (HasCount P n) (flat_map f) text
 stops_short {P = P} {f = f} {rest = rest} {xs = xs} spelling so_far less none = record {
   never = λ ys more stands.
       goes_on P f spelling xs ys rest more (omega (arith, so_far.is.1, stands.is.1)) stands.is.0 (sym so_far.here ∙ stands.here) none;
@@ -177,9 +177,9 @@ stops_short {P = P} {f = f} {rest = rest} {xs = xs} spelling so_far less none = 
 
 -- a list that is read item by item
 
-pub list_read : {A E : Type 0} {text mid : List ℕ} {n : ℕ} (P : A → Type 0) (f : A → List ℕ) (r : Result (Option (List A × Bor (List ℕ))) E) → Stands IsNumber number text n mid
-    → IfOk r (λ found. MatchOption found (StandsNone (HasCount P n) (flat_map f) mid) (λ p. Stands (HasCount P n) (flat_map f) mid p.0 p.1.now))
-    → IfOk r (λ found. MatchOption found (StandsNone (AllByRecursion P) (listed f) text) (λ p. Stands (AllByRecursion P) (listed f) text p.0 p.1.now))
+pub list_read : {A E : Type 0} {text mid : List ℕ} {n : ℕ} (P : A → Type 0) (f : A → List ℕ) (r : Result (Option (List A × Bor (List ℕ))) E) → BeginsWith IsNumber number text n mid
+    → IfOk r (λ found. MatchOption found (StandsNone (HasCount P n) (flat_map f) mid) (λ p. BeginsWith (HasCount P n) (flat_map f) mid p.0 p.1.now))
+    → IfOk r (λ found. MatchOption found (StandsNone (AllByRecursion P) (listed f) text) (λ p. BeginsWith (AllByRecursion P) (listed f) text p.0 p.1.now))
 list_read P f (Err e) count told = tt
 list_read P f (Ok None) count told = none_items f count told
 list_read P f (Ok (Some (xs, rest))) count told = stands_list f count told

@@ -9,8 +9,8 @@ use Rattle.std.proofs.lemmas.Slice.Eq.{bytes_eq-Decides}
 use Rattle.std.proofs.lemmas.Str.{IsUtf8-from_is_utf8, is_utf8-from_IsUtf8}
 use Rattle.pb_place_types.specs.Paths.{is_path, is_relative}
 use Rattle.pb_record.specs.Grammar.{line, decimals, number, block, listed, both, files, perhaps, input_bytes, asked_bytes}
-use Rattle.pb_record.specs.Parts.{IsAny, IsNumber, IsPlace, IsInside, AreBoth, IsPerhaps, AreFiles, ArePairs, IsInput, IsAsked, Says, Reads, IsReading}
-use Rattle.pb_record.specs.Reading.{Stands, StandsNone, IsSpelling, HasCount, HasNoFeed}
+use Rattle.pb_record.specs.Parts.{IsAny, IsNumber, IsPlace, IsInside, AreBoth, IsPerhaps, AreFiles, ArePairs, IsInput, IsAsked, Says, ReadsAs, FindsAsReading}
+use Rattle.pb_record.specs.Reading.{BeginsWith, StandsNone, IsSpelling, HasCount, HasNoFeed}
 use Rattle.pb_record.specs.Sorted.{are_sorted}
 use Rattle.pb_record.specs.Whole.{asked_of, numbered_of, copied_of}
 use Rattle.pb_record.specs.declared.record.Record.{Record}
@@ -23,7 +23,7 @@ use Rattle.pb_record.proofs.WholeLemmas.{asked_spelled, AreAsked, asked_spelling
 
 -- a part in front of a text, or none
 abbrev Found : {A : Type 0} (Is : A → Type 0) (spelled : A → List ℕ) (text : List ℕ) → Type 0
-Found {A = A} Is spelled text = ((x : A) × (rest : List ℕ) × Stands Is spelled text x rest) ⊎ StandsNone Is spelled text
+Found {A = A} Is spelled text = ((x : A) × (rest : List ℕ) × BeginsWith Is spelled text x rest) ⊎ StandsNone Is spelled text
 
 abbrev Finds : {A : Type 0} (Is : A → Type 0) (spelled : A → List ℕ) → Type 0
 Finds Is spelled = (text : List ℕ) → Found Is spelled text
@@ -68,7 +68,7 @@ test_number n = below (cases_lt n (2 ^ 64))
 narrow : {A : Type 0} {P : A → Type 0} {f : A → List ℕ} (R : A → Type 0) → IsSpelling f → ((x : A) → R x → P x) → ((x : A) → P x → R x ⊎ (R x → ⊥)) → Finds P f → Finds R f
 narrow {A = A} {P = P} {f = f} R spelling less test find text = by (find text)
   where
-    tested : (x : A) (rest : List ℕ) → Stands P f text x rest → R x ⊎ (R x → ⊥) → Found R f text
+    tested : (x : A) (rest : List ℕ) → BeginsWith P f text x rest → R x ⊎ (R x → ⊥) → Found R f text
     tested x rest there (inl is) = inl (x, rest, stands_as R there is)
     tested x rest there (inr bad) = inr (none_but R spelling there bad)
 
@@ -158,7 +158,7 @@ cut (suc n) (b ∷ text) = by (cut n text)
 find_block : Finds IsAny block
 find_block text = by (find_number text)
   where
-    of_count : (n : ℕ) (mid : List ℕ) → Stands IsAny number text n mid → Cut n mid → Found IsAny block text
+    of_count : (n : ℕ) (mid : List ℕ) → BeginsWith IsAny number text n mid → Cut n mid → Found IsAny block text
     of_count n mid count (inl (bytes, rest, len, e)) = inl (bytes, rest, stands_block bytes rest count len e)
     of_count n mid count (inr bad) = inr (no_block_bytes count bad)
 
@@ -183,7 +183,7 @@ find_small = of_any IsNumber number_spelling test_number find_number
 find_both : {A B : Type 0} {P : A → Type 0} {Q : B → Type 0} {f : A → List ℕ} {g : B → List ℕ} → IsSpelling f → Finds P f → Finds Q g → Finds (AreBoth P Q) (both f g)
 find_both {A = A} {B = B} {P = P} {Q = Q} {f = f} {g = g} spelling first second text = by (first text)
   where
-    then : (x : A) (mid : List ℕ) → Stands P f text x mid → Found Q g mid → Found (AreBoth P Q) (both f g) text
+    then : (x : A) (mid : List ℕ) → BeginsWith P f text x mid → Found Q g mid → Found (AreBoth P Q) (both f g) text
     then x mid one (inl (y, rest, two')) = inl ((x, y), rest, stands_both one two')
     then x mid one (inr none) = inr (none_second spelling one none)
 
@@ -193,18 +193,18 @@ find_both {A = A} {B = B} {P = P} {Q = Q} {f = f} {g = g} spelling first second 
 
 -- an item and the others
 stands_more : {A : Type 0} {P : A → Type 0} {f : A → List ℕ} {text mid rest : List ℕ} {x : A} {xs : List A} (n : ℕ)
-    → Stands P f text x mid → Stands (HasCount P n) (flat_map f) mid xs rest → Stands (HasCount P (suc n)) (flat_map f) text (x ∷ xs) rest
+    → BeginsWith P f text x mid → BeginsWith (HasCount P n) (flat_map f) mid xs rest → BeginsWith (HasCount P (suc n)) (flat_map f) text (x ∷ xs) rest
 stands_more {f = f} {rest = rest} {x = x} {xs = xs} n one others = record {
   is = ((one.is, others.is.0), omega (arith, others.is.1));
   here = one.here ∙ ap (λ t. f x ++ t) others.here ∙ sym (append_assoc (f x) (flat_map f xs) rest);
 }
 
-none_here : {A : Type 0} {P : A → Type 0} {f : A → List ℕ} {text : List ℕ} (n : ℕ) → StandsNone P f text → (xs : List A) (rest : List ℕ) → Stands (HasCount P (suc n)) (flat_map f) text xs rest → ⊥
+none_here : {A : Type 0} {P : A → Type 0} {f : A → List ℕ} {text : List ℕ} (n : ℕ) → StandsNone P f text → (xs : List A) (rest : List ℕ) → BeginsWith (HasCount P (suc n)) (flat_map f) text xs rest → ⊥
 none_here n none [] rest stands = absurd (omega (arith, stands.is.1))
 none_here {f = f} n none (x ∷ xs) rest stands = none.never x (flat_map f xs ++ rest) (record { is = stands.is.0.0; here = stands.here ∙ append_assoc (f x) (flat_map f xs) rest })
 
-none_behind : {A : Type 0} {P : A → Type 0} {f : A → List ℕ} {text mid : List ℕ} {y : A} (n : ℕ) → IsSpelling f → Stands P f text y mid → StandsNone (HasCount P n) (flat_map f) mid
-    → (xs : List A) (rest : List ℕ) → Stands (HasCount P (suc n)) (flat_map f) text xs rest → ⊥
+none_behind : {A : Type 0} {P : A → Type 0} {f : A → List ℕ} {text mid : List ℕ} {y : A} (n : ℕ) → IsSpelling f → BeginsWith P f text y mid → StandsNone (HasCount P n) (flat_map f) mid
+    → (xs : List A) (rest : List ℕ) → BeginsWith (HasCount P (suc n)) (flat_map f) text xs rest → ⊥
 none_behind n spelling one none [] rest stands = absurd (omega (arith, stands.is.1))
 none_behind {f = f} {mid = mid} {y = y} n spelling one none (x ∷ xs) rest stands =
     let parts = spelling.apart y x mid (flat_map f xs ++ rest) (sym one.here ∙ stands.here ∙ append_assoc (f x) (flat_map f xs) rest) in
@@ -226,7 +226,7 @@ find_list : {A : Type 0} {P : A → Type 0} {f : A → List ℕ} → IsSpelling 
 unfolding listed
 find_list {A = A} {P = P} {f = f} spelling find text = by (find_number text)
   where
-    then : (n : ℕ) (mid : List ℕ) → Stands IsAny number text n mid → Found (HasCount P n) (flat_map f) mid → Found (AllByRecursion P) (listed f) text
+    then : (n : ℕ) (mid : List ℕ) → BeginsWith IsAny number text n mid → Found (HasCount P n) (flat_map f) mid → Found (AllByRecursion P) (listed f) text
     then n mid count (inl (xs, rest, items)) = inl (xs, rest, stands_list f count items)
     then n mid count (inr none) = inr (none_items f count none)
 
@@ -332,7 +332,7 @@ Whole {A = A} Is spelled end text = ((x : A) × (Is x × (text ≡ spelled x ++ 
 find_whole : {A : Type 0} {P : A → Type 0} {f : A → List ℕ} → IsSpelling f → Finds P f → (end text : List ℕ) → Whole P f end text
 find_whole {A = A} {P = P} {f = f} spelling find end text = by (find text)
   where
-    then : (x : A) (rest : List ℕ) → Stands P f text x rest → (rest ≡ end) ⊎ (rest ≡ end → ⊥) → Whole P f end text
+    then : (x : A) (rest : List ℕ) → BeginsWith P f text x rest → (rest ≡ end) ⊎ (rest ≡ end → ⊥) → Whole P f end text
     then x rest there (inl e) = inl (x, is_whole end rest there e)
     then x rest there (inr other) = inr (not_whole end rest spelling there other)
 
@@ -369,7 +369,7 @@ record_in : {text : List ℕ} → Said text → Option Record
 record_in (inl (r, says)) = Some r
 record_in (inr none) = None
 
-is_reading : (text : List ℕ) (told : Said text) → Reads text (record_in told)
+is_reading : (text : List ℕ) (told : Said text) → ReadsAs text (record_in told)
 unfolding record_in
 is_reading text (inl (r, says)) = reads text (Some r) says
 is_reading text (inr none) = reads text None none
@@ -378,6 +378,6 @@ is_reading text (inr none) = reads text None none
 pub reading : List ℕ → Option Record
 reading text = record_in (said text)
 
-pub reading_reads : IsReading reading
+pub reading_reads : FindsAsReading reading
 unfolding reading
 reading_reads text = is_reading text (said text)

@@ -7,8 +7,8 @@ use Rattle.std.proofs.lemmas.List.{append_assoc}
 use Rattle.pb_record.specs.Grammar.{line, number, block, listed, both, files, input_bytes, asked_bytes}
 use Rattle.pb_record.specs.Numbers.{AreNumbersOf, SaysNumbers, numbers_of}
 use Rattle.pb_record.specs.Parts.{IsAny, IsNumber, AreFiles, AreBoth, IsInput, IsAsked, Says}
-use Rattle.pb_record.specs.Reading.{Stands, StandsNone, StandsSome, IsSpelling, HasCount}
-use Rattle.pb_record.specs.Whole.{NumberedParts, CopiedParts, numbered_of, copied_of, RestParts, rest_spelled, AreRest, IsRest, HasNeeds, IsEnd, Files}
+use Rattle.pb_record.specs.Reading.{BeginsWith, StandsNone, StandsSome, IsSpelling, HasCount}
+use Rattle.pb_record.specs.Whole.{NumberedParts, CopiedParts, numbered_of, copied_of, RestParts, rest_spelled, AreRest, IsRest, EndsInNeeds, IsEnd, Files}
 use Rattle.pb_record.specs.declared.recorded_command.RecordedCommand.{RecordedCommand}
 use Rattle.pb_record.specs.declared.numbers.Numbers.{Numbers}
 use Rattle.pb_record.specs.declared.record.Input.{Input}
@@ -23,7 +23,7 @@ use Rattle.pb_record.proofs.WholeLemmas.{asked_spelling, numbered_spelled, AreNu
 -- a part passed over, as one that is read
 
 pub some_as : {A B : Type 0} {P : A → Type 0} {f : A → List ℕ} {text rest more : List ℕ} (R : B → Type 0) (g : B → List ℕ) (k : A → B)
-    → ((x : A) → Stands P f text x rest → Stands R g more (k x) rest) → StandsSome P f text rest → StandsSome R g more rest
+    → ((x : A) → BeginsWith P f text x rest → BeginsWith R g more (k x) rest) → StandsSome P f text rest → StandsSome R g more rest
 some_as R g k to some = record { part = k some.part; stands = to some.part some.stands }
 
 pub some_both : {A B : Type 0} {P : A → Type 0} {Q : B → Type 0} {f : A → List ℕ} {g : B → List ℕ} {text mid rest : List ℕ}
@@ -38,7 +38,7 @@ both_skipped Q g (Ok None) spelling one told = none_second spelling one.stands t
 both_skipped Q g (Ok (Some rest)) spelling one told = some_both one told
 
 pub some_list : {A : Type 0} {P : A → Type 0} {Q : ℕ → Type 0} {text mid rest : List ℕ} {n : ℕ} (f : A → List ℕ)
-    → Stands Q number text n mid → StandsSome (HasCount P n) (flat_map f) mid rest → StandsSome (AllByRecursion P) (listed f) text rest
+    → BeginsWith Q number text n mid → StandsSome (HasCount P n) (flat_map f) mid rest → StandsSome (AllByRecursion P) (listed f) text rest
 some_list f count some = record { part = some.part; stands = stands_list f count some.stands }
 
 pub some_none : {A : Type 0} (P : A → Type 0) (f : A → List ℕ) (text : List ℕ) → StandsSome (HasCount P 0) (flat_map f) text text
@@ -49,7 +49,7 @@ pub some_more : {A : Type 0} {P : A → Type 0} {f : A → List ℕ} {text mid r
 some_more so_far next = record { part = so_far.part ++ next.part ∷ []; stands = one_more _ so_far.stands next.stands refl }
 
 -- a list that is passed over item by item
-pub list_skipped : {A E : Type 0} {text mid : List ℕ} {n : ℕ} (P : A → Type 0) (f : A → List ℕ) (r : Result (Option (Bor (List ℕ))) E) → Stands IsNumber number text n mid
+pub list_skipped : {A E : Type 0} {text mid : List ℕ} {n : ℕ} (P : A → Type 0) (f : A → List ℕ) (r : Result (Option (Bor (List ℕ))) E) → BeginsWith IsNumber number text n mid
     → IfOk r (λ found. MatchOption found (StandsNone (HasCount P n) (flat_map f) mid) (λ rest. StandsSome (HasCount P n) (flat_map f) mid rest.now))
     → IfOk r (λ found. MatchOption found (StandsNone (AllByRecursion P) (listed f) text) (λ rest. StandsSome (AllByRecursion P) (listed f) text rest.now))
 list_skipped P f (Err e) count told = tt
@@ -84,10 +84,10 @@ module _ {text mid : List ℕ} (front : StandsSome AreFront (both asked_bytes (l
   pub no_needs : StandsNone AreNeeds (listed (both block number)) mid → (p : RestParts) → IsRest text p → ⊥
   no_needs none p is = none.never p.1.0 _ (record { is = is.0.1.0; here = mid_of p is })
 
-  pub no_end : (needs : List (List ℕ × ℕ)) (rest : List ℕ) → Stands AreNeeds (listed (both block number)) mid needs rest → (IsEnd rest → ⊥) → (p : RestParts) → IsRest text p → ⊥
+  pub no_end : (needs : List (List ℕ × ℕ)) (rest : List ℕ) → BeginsWith AreNeeds (listed (both block number)) mid needs rest → (IsEnd rest → ⊥) → (p : RestParts) → IsRest text p → ⊥
   no_end needs rest there bad p is = bad (record { streams = p.1.1; is = (needs_spelling.apart needs p.1.0 rest _ (sym there.here ∙ mid_of p is)).1 })
 
-  pub has_needs : (needs : List (List ℕ × ℕ)) (rest : List ℕ) → Stands AreNeeds (listed (both block number)) mid needs rest → IsEnd rest → HasNeeds text needs
+  pub has_needs : (needs : List (List ℕ × ℕ)) (rest : List ℕ) → BeginsWith AreNeeds (listed (both block number)) mid needs rest → IsEnd rest → EndsInNeeds text needs
   has_needs needs rest there end = record {
     parts = (front.part, (needs, end.streams));
     is = (
@@ -139,10 +139,10 @@ are_head (own, (key, rest)) are = (are.0, are.1.0)
 pub no_head : {text : List ℕ} → StandsNone AreHead (both number block) text → (r : Record) → Says (line (codes "record 2") ++ text) r → ⊥
 no_head none = not_numbered (λ p are e. none.never (head_of p) _ (record { is = are_head p are; here = e ∙ numbered_grouped p }))
 
-pub no_rest : {text rest : List ℕ} {head : ℕ × List ℕ} → Stands AreHead (both number block) text head rest → ((p : RestParts) → IsRest rest p → ⊥) → (r : Record) → Says (line (codes "record 2") ++ text) r → ⊥
+pub no_rest : {text rest : List ℕ} {head : ℕ × List ℕ} → BeginsWith AreHead (both number block) text head rest → ((p : RestParts) → IsRest rest p → ⊥) → (r : Record) → Says (line (codes "record 2") ++ text) r → ⊥
 no_rest {rest = rest} {head = head} there none = not_numbered (λ p are e. none (rest_of p) (are_rest p are, (head_spelling.apart head (head_of p) rest _ (sym there.here ∙ e ∙ numbered_grouped p)).1))
 
-says_by : {text rest key : List ℕ} {own : ℕ} (p : RestParts) → Stands AreHead (both number block) text (own, key) rest → IsRest rest p → SaysNumbers (line (codes "record 2") ++ text) (record { key = key; numbered = Some (own, p.1.0) })
+says_by : {text rest key : List ℕ} {own : ℕ} (p : RestParts) → BeginsWith AreHead (both number block) text (own, key) rest → IsRest rest p → SaysNumbers (line (codes "record 2") ++ text) (record { key = key; numbered = Some (own, p.1.0) })
 says_by {key = key} {own = own} ((asked, inputs), (needs, streams)) there is =
     let parts : NumberedParts = (own, (key, (asked, (inputs, (needs, streams))))) in
     record {
@@ -151,7 +151,7 @@ says_by {key = key} {own = own} ((asked, inputs), (needs, streams)) there is =
       same = refl;
     }
 
-pub says_needs : {text rest key : List ℕ} {own : ℕ} {needs : List (List ℕ × ℕ)} → Stands AreHead (both number block) text (own, key) rest → HasNeeds rest needs
+pub says_needs : {text rest key : List ℕ} {own : ℕ} {needs : List (List ℕ × ℕ)} → BeginsWith AreHead (both number block) text (own, key) rest → EndsInNeeds rest needs
     → SaysNumbers (line (codes "record 2") ++ text) (record { key = key; numbered = Some (own, needs) })
 says_needs {text = text} {key = key} {own = own} there has =
     subst (λ n. SaysNumbers (line (codes "record 2") ++ text) (record { key = key; numbered = Some (own, n) })) (sym has.same) (says_by has.parts there has.is)
@@ -173,7 +173,7 @@ copied_cut (key, behind) = append_assoc (block key) (behind_spelled behind) (lin
 pub no_key : {text : List ℕ} → StandsNone IsUtf8 block text → (r : Record) → Says (line (codes "record 1") ++ text) r → ⊥
 no_key none = not_copied (λ p are e. none.never p.0 _ (record { is = are.0; here = e ∙ copied_cut p }))
 
-module _ {text rest key : List ℕ} (there : Stands IsUtf8 block text key rest) where
+module _ {text rest key : List ℕ} (there : BeginsWith IsUtf8 block text key rest) where
   rest_copied : (p : CopiedParts) → text ≡ copied_spelled p ++ line (codes "end") → rest ≡ behind_spelled p.1 ++ line (codes "end")
   rest_copied p e = (block_spelling.apart key p.0 rest _ (sym there.here ∙ e ∙ copied_cut p)).1
 
@@ -183,7 +183,7 @@ module _ {text rest key : List ℕ} (there : Stands IsUtf8 block text key rest) 
   pub not_last : (last : List ℕ) → IsSpelling behind_spelled → StandsSome AreBehind behind_spelled rest last → (last ≡ line (codes "end") → ⊥) → (r : Record) → Says (line (codes "record 1") ++ text) r → ⊥
   not_last last spelling some bad = not_copied (λ p are e. bad (spelling.apart some.part p.1 last (line (codes "end")) (sym some.stands.here ∙ rest_copied p e)).1)
 
-  pub says_key : (last : List ℕ) (p : BehindParts) → Stands AreBehind behind_spelled rest p last → last ≡ line (codes "end") → SaysNumbers (line (codes "record 1") ++ text) (record { key = key; numbered = None })
+  pub says_key : (last : List ℕ) (p : BehindParts) → BeginsWith AreBehind behind_spelled rest p last → last ≡ line (codes "end") → SaysNumbers (line (codes "record 1") ++ text) (record { key = key; numbered = None })
   says_key last (asked, (inputs, (copies, streams))) stands e =
       let parts : CopiedParts = (key, (asked, (inputs, (copies, streams)))) in
       record {

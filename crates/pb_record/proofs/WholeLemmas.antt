@@ -6,7 +6,7 @@ use Rattle.std.specs.List.{AllByRecursion, concat}
 use Rattle.std.proofs.lemmas.List.{append_assoc, append_cancel_left}
 use Rattle.pb_record.specs.Grammar.{line, number, block, listed, both, files, input_bytes, asked_bytes, bytes_by, record_bytes}
 use Rattle.pb_record.specs.Parts.{IsAny, IsNumber, IsPlace, AreFiles, AreBoth, ArePairs, IsInput, IsAsked, AreNeeded, Says}
-use Rattle.pb_record.specs.Reading.{Stands, StandsNone, IsSpelling}
+use Rattle.pb_record.specs.Reading.{BeginsWith, StandsNone, IsSpelling}
 use Rattle.pb_record.specs.Whole.{AskedParts, asked_of, NumberedParts, numbered_of, CopiedParts, copied_of, Files}
 use Rattle.pb_record.specs.declared.recorded_command.RecordedCommand.{RecordedCommand}
 use Rattle.pb_record.specs.declared.record.Record.{Record}
@@ -39,7 +39,7 @@ asked_parts_spelling =
 pub asked_spelling : IsSpelling asked_bytes
 asked_spelling = spelling_by asked_spelled asked_bytes asked_parts asked_of (λ a. refl) (λ a. refl) asked_parts_spelling
 
-pub asked_stands : {text rest : List ℕ} (p : AskedParts) → Stands AreAsked asked_spelled text p rest → Stands IsAsked asked_bytes text (asked_of p) rest
+pub asked_stands : {text rest : List ℕ} (p : AskedParts) → BeginsWith AreAsked asked_spelled text p rest → BeginsWith IsAsked asked_bytes text (asked_of p) rest
 asked_stands (program, (words, (folder, (pairs, (out, (target, (toolchain, reads))))))) there = record {
   is = record {
     program = there.is.0;
@@ -100,10 +100,10 @@ copied_bytes (key, (asked, (inputs, (copies, (stdout, stderr))))) = ap (λ t. li
 
 -- a part is the whole text before its end
 
-pub is_whole : {A : Type 0} {P : A → Type 0} {f : A → List ℕ} {text : List ℕ} {x : A} (end rest : List ℕ) → Stands P f text x rest → rest ≡ end → P x × (text ≡ f x ++ end)
+pub is_whole : {A : Type 0} {P : A → Type 0} {f : A → List ℕ} {text : List ℕ} {x : A} (end rest : List ℕ) → BeginsWith P f text x rest → rest ≡ end → P x × (text ≡ f x ++ end)
 is_whole {f = f} {x = x} end rest there e = (there.is, there.here ∙ ap (λ t. f x ++ t) e)
 
-pub not_whole : {A : Type 0} {P : A → Type 0} {f : A → List ℕ} {text : List ℕ} {x : A} (end rest : List ℕ) → IsSpelling f → Stands P f text x rest → (rest ≡ end → ⊥) → (y : A) → P y → text ≡ f y ++ end → ⊥
+pub not_whole : {A : Type 0} {P : A → Type 0} {f : A → List ℕ} {text : List ℕ} {x : A} (end rest : List ℕ) → IsSpelling f → BeginsWith P f text x rest → (rest ≡ end → ⊥) → (y : A) → P y → text ≡ f y ++ end → ⊥
 not_whole {x = x} end rest spelling there other y is e = other (spelling.apart x y rest end (sym there.here ∙ e)).1
 
 pub none_whole : {A : Type 0} {P : A → Type 0} {f : A → List ℕ} {text : List ℕ} (end : List ℕ) → StandsNone P f text → (y : A) → P y → text ≡ f y ++ end → ⊥

@@ -3,7 +3,7 @@ use Rattle.std.specs.Prelude.{◌≡◌, ◌≢◌, ◌<◌, ◌^◌, ℕ, false
 use Rattle.pb_data.specs.Ascii.{line_feed}
 use Rattle.pb_place_types.specs.Paths.{has_byte_0}
 use Rattle.pb_record.specs.Grammar.{line, number, record_bytes}
-use Rattle.pb_record.specs.Parts.{IsPlace, IsRecord, Says, Reads, IsReading}
+use Rattle.pb_record.specs.Parts.{IsPlace, IsRecord, Says, ReadsAs, FindsAsReading}
 use Rattle.pb_record.specs.declared.record.Record.{Record}
 
 -- Two records with the same bytes are equal.
@@ -53,8 +53,8 @@ RecordNumbersFit = (r : Record) (n : ℕ) (more : List ℕ) → Says (line (code
 
 -- Each text is read in at most one way.
 abbrev pub HasOneReading : Type 0
-HasOneReading = (text : List ℕ) (found other : Option Record) → Reads text found → Reads text other → found ≡ other
+HasOneReading = (text : List ℕ) (found other : Option Record) → ReadsAs text found → ReadsAs text other → found ≡ other
 
 -- There is a function that reads every text.
 abbrev pub HasReading : Type 0
-HasReading = (read : List ℕ → Option Record) × IsReading read
+HasReading = (read : List ℕ → Option Record) × FindsAsReading read

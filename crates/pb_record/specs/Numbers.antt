@@ -1,6 +1,6 @@
 -- Which run numbers a record has.
 use Rattle.std.specs.Prelude.{◌≡◌, ℕ, List, Option, Some, None, option_map}
-use Rattle.pb_record.specs.Parts.{IsReading, Says}
+use Rattle.pb_record.specs.Parts.{FindsAsReading, Says}
 use Rattle.pb_record.specs.declared.numbers.Numbers.{Numbers}
 use Rattle.pb_record.specs.declared.record.Needed.{Needed}
 use Rattle.pb_record.specs.declared.record.Needed.TheVariants as needed
@@ -18,7 +18,7 @@ numbers_of r = record { key = r.key; numbered = numbered_in r.needed }
 
 -- `found` has the numbers of the record if the text is that of a record, and is nothing otherwise
 abbrev pub AreNumbersOf : List ℕ → Option Numbers → Type 0
-AreNumbersOf text found = (read : List ℕ → Option Record) → IsReading read → found ≡ option_map numbers_of (read text)
+AreNumbersOf text found = (read : List ℕ → Option Record) → FindsAsReading read → found ≡ option_map numbers_of (read text)
 
 -- the text is that of a record, and the record has these numbers
 pub record SaysNumbers (text : List ℕ) (numbers : Numbers) : Type 0 where

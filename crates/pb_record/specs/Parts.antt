@@ -71,9 +71,9 @@ pub record Says (text : List ℕ) (r : Record) : Type 0 where
   pub same : text ≡ record_bytes r
 
 -- `found` is the record whose text this is, or nothing if the text is no record
-abbrev pub Reads : List ℕ → Option Record → Type 0
-Reads text found = (r : Record) → (found ≡ Some r) ↔ Says text r
+abbrev pub ReadsAs : List ℕ → Option Record → Type 0
+ReadsAs text found = (r : Record) → (found ≡ Some r) ↔ Says text r
 
 -- the function finds for each text what reading finds
-abbrev pub IsReading : (List ℕ → Option Record) → Type 0
-IsReading read = (text : List ℕ) → Reads text (read text)
+abbrev pub FindsAsReading : (List ℕ → Option Record) → Type 0
+FindsAsReading read = (text : List ℕ) → ReadsAs text (read text)

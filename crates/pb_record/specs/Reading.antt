@@ -5,18 +5,18 @@ use Rattle.std.specs.List.{AllByRecursion}
 use Rattle.pb_data.specs.Ascii.{plus, digit_zero}
 
 -- the text begins with the bytes of the part `x`, and `rest` follows
-pub record Stands {A : Type 0} (Is : A → Type 0) (spelled : A → List ℕ) (text : List ℕ) (x : A) (rest : List ℕ) : Type 0 where
+pub record BeginsWith {A : Type 0} (Is : A → Type 0) (spelled : A → List ℕ) (text : List ℕ) (x : A) (rest : List ℕ) : Type 0 where
   pub is : Is x
   pub here : text ≡ spelled x ++ rest
 
 -- the text begins with the bytes of some allowed part, and `rest` follows
 pub record StandsSome {A : Type 0} (Is : A → Type 0) (spelled : A → List ℕ) (text : List ℕ) (rest : List ℕ) : Type 0 where
   pub part : A
-  pub stands : Stands Is spelled text part rest
+  pub stands : BeginsWith Is spelled text part rest
 
 -- the text does not begin with the bytes of an allowed part
 pub record StandsNone {A : Type 0} (Is : A → Type 0) (spelled : A → List ℕ) (text : List ℕ) : Type 0 where
-  pub never : (x : A) (rest : List ℕ) → Stands Is spelled text x rest → ⊥
+  pub never : (x : A) (rest : List ℕ) → BeginsWith Is spelled text x rest → ⊥
 
 -- The bytes of a part are not empty and say where they end. So a text that begins with a part
 -- determines this part and the rest.

@@ -71,7 +71,7 @@ abbrev pub IsRest : List ℕ → RestParts → Type 0
 IsRest text p = AreRest p × (text ≡ rest_spelled p ++ line (codes "end"))
 
 -- the text consists of such parts and the last line, and the needed units are these
-pub record HasNeeds (text : List ℕ) (needs : List (List ℕ × ℕ)) : Type 0 where
+pub record EndsInNeeds (text : List ℕ) (needs : List (List ℕ × ℕ)) : Type 0 where
   pub parts : RestParts
   pub is : IsRest text parts
   pub same : needs ≡ parts.1.0

@@ -4,7 +4,7 @@ ghost use Rattle.std.specs.Prelude.{◌≡◌, ◌++◌, ◌∷◌, List, ℕ, l
 ghost use Rattle.std.specs.Str.{IsUtf8};
 ghost use Rattle.pb_record.specs.Grammar.{block};
 ghost use Rattle.pb_record.specs.Parts.{IsAny, IsPlace, IsInside};
-ghost use Rattle.pb_record.specs.Reading.{Stands, StandsNone};
+ghost use Rattle.pb_record.specs.Reading.{BeginsWith, StandsNone};
 
 use crate::number::{number_at, push_number};
 use std::alloc::AllocError;
@@ -27,7 +27,7 @@ fn cut_block(text: &[u8], count: u64) -> Option<(&[u8], &[u8])>
 /// Returns the block with which a text begins, and what comes after it.
 pub(crate) fn block_at(text: &[u8]) -> Option<(&[u8], &[u8])>
     ensures { MatchOption result (StandsNone IsAny block text.now) (λ p.
-        Stands IsAny block text.now p.0.now p.1.now) }
+        BeginsWith IsAny block text.now p.0.now p.1.now) }
 {
     let (count, after) = number_at(text)?;
     cut_block(after, count)
@@ -36,7 +36,7 @@ pub(crate) fn block_at(text: &[u8]) -> Option<(&[u8], &[u8])>
 /// Returns the block with which a text begins, if it is UTF-8, and what comes after it.
 pub(crate) fn text_at(text: &[u8]) -> Option<(&str, &[u8])>
     ensures { MatchOption result (StandsNone IsUtf8 block text.now) (λ p.
-        Stands IsUtf8 block text.now p.0.now p.1.now) }
+        BeginsWith IsUtf8 block text.now p.0.now p.1.now) }
 {
     let (bytes, rest) = block_at(text)?;
     match std::str::from_utf8(bytes) {

@@ -3,7 +3,7 @@
 ghost use Rattle.std.specs.Prelude.{◌≡◌, ◌++◌, codes, IfOk, OnOk, MatchOption};
 ghost use Rattle.pb_record.specs.Grammar.{line, input_bytes};
 ghost use Rattle.pb_record.specs.Parts.{IsInput};
-ghost use Rattle.pb_record.specs.Reading.{Stands, StandsNone, StandsSome};
+ghost use Rattle.pb_record.specs.Reading.{BeginsWith, StandsNone, StandsSome};
 
 use crate::front::after;
 use crate::pairs::Pairs;
@@ -83,7 +83,7 @@ impl Part for Pairs {
 fn file_at(alloc: Global, text: &[u8]) -> Result<Option<(Input, &[u8])>, AllocError>
     ensures { IfOk result (λ found.
         MatchOption found (StandsNone IsInput input_bytes (line (codes "f") ++ text.now)) (λ p.
-        Stands IsInput input_bytes (line (codes "f") ++ text.now) p.0 p.1.now)) }
+        BeginsWith IsInput input_bytes (line (codes "f") ++ text.now) p.0 p.1.now)) }
 {
     match <(PathText, Bytes) as Part>::read(alloc, text) {
         Ok(Some((file, rest))) => Ok(Some((Input::File(file.0, file.1), rest))),
@@ -96,7 +96,7 @@ fn file_at(alloc: Global, text: &[u8]) -> Result<Option<(Input, &[u8])>, AllocEr
 fn tree_at(alloc: Global, text: &[u8]) -> Result<Option<(Input, &[u8])>, AllocError>
     ensures { IfOk result (λ found.
         MatchOption found (StandsNone IsInput input_bytes (line (codes "t") ++ text.now)) (λ p.
-        Stands IsInput input_bytes (line (codes "t") ++ text.now) p.0 p.1.now)) }
+        BeginsWith IsInput input_bytes (line (codes "t") ++ text.now) p.0 p.1.now)) }
 {
     match <(PathText, Items<(RelativePath, Bytes)>) as Part>::read(alloc, text) {
         Ok(Some((tree, rest))) => Ok(Some((Input::Tree(tree.0, tree.1), rest))),
@@ -109,7 +109,7 @@ fn tree_at(alloc: Global, text: &[u8]) -> Result<Option<(Input, &[u8])>, AllocEr
 fn value_at(alloc: Global, text: &[u8]) -> Result<Option<(Input, &[u8])>, AllocError>
     ensures { IfOk result (λ found.
         MatchOption found (StandsNone IsInput input_bytes (line (codes "v") ++ text.now)) (λ p.
-        Stands IsInput input_bytes (line (codes "v") ++ text.now) p.0 p.1.now)) }
+        BeginsWith IsInput input_bytes (line (codes "v") ++ text.now) p.0 p.1.now)) }
 {
     match <(Text, Option<Text>) as Part>::read(alloc, text) {
         Ok(Some((pair, rest))) => Ok(Some((Input::Value(pair.0, pair.1), rest))),

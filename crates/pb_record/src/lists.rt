@@ -2,7 +2,7 @@
 
 ghost use Rattle.std.specs.Prelude.{◌≡◌, ◌++◌, IfOk, OnOk, MatchOption};
 ghost use Rattle.std.specs.List.{flat_map, AllByRecursion};
-ghost use Rattle.pb_record.specs.Reading.{Stands, StandsNone, StandsSome, HasCount};
+ghost use Rattle.pb_record.specs.Reading.{BeginsWith, StandsNone, StandsSome, HasCount};
 
 use crate::number::{number_at, push_number};
 use crate::part::Part;
@@ -60,7 +60,7 @@ fn read_items<T: Part>(
 ) -> Result<Option<(Items<T>, &[u8])>, AllocError>
     ensures { IfOk result (λ found.
         MatchOption found (StandsNone (HasCount T.is_part count) (flat_map T.spelled) text.now)
-        (λ p. Stands (HasCount T.is_part count) (flat_map T.spelled) text.now p.0 p.1.now)) }
+        (λ p. BeginsWith (HasCount T.is_part count) (flat_map T.spelled) text.now p.0 p.1.now)) }
 {
     T::spells();
     let mut items = Items::new(alloc);

@@ -3,7 +3,7 @@
 ghost use Rattle.std.specs.Prelude.{◌≡◌, ◌++◌, ◌∷◌, ◌<◌, ◌^◌, ℕ, List, OnOk, MatchOption};
 ghost use Rattle.pb_record.specs.Grammar.{number, decimals};
 ghost use Rattle.pb_record.specs.Parts.{IsNumber};
-ghost use Rattle.pb_record.specs.Reading.{Stands, StandsNone, HasNoFeed, begins_well};
+ghost use Rattle.pb_record.specs.Reading.{BeginsWith, StandsNone, HasNoFeed, begins_well};
 
 use itoa::Buffer;
 use std::alloc::AllocError;
@@ -51,7 +51,7 @@ fn number_of(digits: &[u8]) -> Option<u64>
 /// number below 2 ^ 64.
 pub(crate) fn number_at(text: &[u8]) -> Option<(u64, &[u8])>
     ensures { MatchOption result (StandsNone IsNumber number text.now) (λ p.
-        Stands IsNumber number text.now p.0 p.1.now) }
+        BeginsWith IsNumber number text.now p.0 p.1.now) }
 {
     let (digits, rest) = split_line(text)?;
     let n = number_of(digits)?;

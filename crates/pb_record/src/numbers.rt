@@ -4,7 +4,7 @@ ghost use Rattle.std.specs.Prelude.{◌++◌, codes, Decides, IfOk, MatchOption}
 ghost use Rattle.pb_record.specs.Grammar.{line};
 ghost use Rattle.pb_record.specs.Numbers.{AreNumbersOf, SaysNumbers};
 ghost use Rattle.pb_record.specs.Parts.{Says};
-ghost use Rattle.pb_record.specs.Whole.{HasNeeds, IsEnd, IsRest, RestParts};
+ghost use Rattle.pb_record.specs.Whole.{EndsInNeeds, IsEnd, IsRest, RestParts};
 ghost use Rattle.pb_record.specs.declared.record.Record.{Record};
 
 use crate::front::after;
@@ -49,7 +49,7 @@ fn is_end(alloc: Global, text: &[u8]) -> Result<bool, AllocError>
 /// none if the text is not of this form.
 fn needs_at(alloc: Global, text: &[u8]) -> Result<Option<Items<(Text, u64)>>, AllocError>
     ensures { IfOk result (λ found. MatchOption found
-        ((p : RestParts) → IsRest text.now p → ⊥) (λ needs. HasNeeds text.now needs)) }
+        ((p : RestParts) → IsRest text.now p → ⊥) (λ needs. EndsInNeeds text.now needs)) }
 {
     let Some(behind) = <(RecordedCommand, Items<Input>) as Part>::skip(alloc, text)? else {
         return Ok(None);

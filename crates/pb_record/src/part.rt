@@ -1,7 +1,7 @@
 //! A part of a record, read from the beginning of a text and written at the end of one.
 
 ghost use Rattle.std.specs.Prelude.{◌≡◌, ◌++◌, List, ℕ, IfOk, OnOk, MatchOption};
-ghost use Rattle.pb_record.specs.Reading.{Stands, StandsNone, StandsSome, IsSpelling};
+ghost use Rattle.pb_record.specs.Reading.{BeginsWith, StandsNone, StandsSome, IsSpelling};
 
 use std::alloc::{AllocError, Global};
 
@@ -20,7 +20,7 @@ pub trait Part: Drop {
     fn read(alloc: Global, text: &[u8]) -> Result<Option<(Self, &[u8])>, AllocError>
         ensures { IfOk result (λ found.
             MatchOption found (StandsNone is_part spelled text.now) (λ p.
-            Stands is_part spelled text.now p.0 p.1.now)) };
+            BeginsWith is_part spelled text.now p.0 p.1.now)) };
 
     /// Returns what follows the part with which a text begins, or none if the text begins with no
     /// part of this kind. The result is that of `read`, but the part need not be made.

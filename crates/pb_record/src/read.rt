@@ -2,7 +2,7 @@
 
 ghost use Rattle.std.specs.Prelude.{◌≡◌, ◌++◌, codes, ℕ, List, Option, IfOk, MatchOption};
 ghost use Rattle.pb_record.specs.Grammar.{line};
-ghost use Rattle.pb_record.specs.Parts.{Says, Reads, IsReading};
+ghost use Rattle.pb_record.specs.Parts.{Says, ReadsAs, FindsAsReading};
 ghost use Rattle.pb_record.specs.Whole.{numbered_of, copied_of};
 ghost use Rattle.pb_record.specs.declared.record.Record.{Record};
 
@@ -133,8 +133,8 @@ fn read_by_format(alloc: Global, text: &[u8]) -> Result<Option<Record>, AllocErr
 ///
 /// Errors: only out of memory.
 pub fn read_record(alloc: Global, text: &[u8]) -> Result<Option<Record>, AllocError>
-    ensures reads { IfOk result (λ found. Reads text.now found) }
-    ensures found { IfOk result (λ found. (read : List ℕ → Option Record) → IsReading read → found
+    ensures reads { IfOk result (λ found. ReadsAs text.now found) }
+    ensures found { IfOk result (λ found. (read : List ℕ → Option Record) → FindsAsReading read → found
         ≡ read text.now) }
 {
     let found = read_by_format(alloc, text)?;

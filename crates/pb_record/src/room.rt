@@ -99,7 +99,7 @@ fn numbers(needs: &[(Text, u64)]) -> usize {
 }
 
 /// Returns the space for a request.
-fn asked(asked: &RecordedCommand) -> usize {
+fn room_for_request(asked: &RecordedCommand) -> usize {
     block(asked.program.as_bytes().len())
         .saturating_add(texts(asked.words.as_slice()))
         .saturating_add(block(asked.folder.as_str().len()))
@@ -111,7 +111,7 @@ fn asked(asked: &RecordedCommand) -> usize {
 }
 
 /// Returns the space for the needed units.
-fn needed(needed: &Needed) -> usize {
+fn room_for_needed(needed: &Needed) -> usize {
     match needed {
         Needed::Copies(those) => copies(those.as_slice()),
         Needed::Numbers(_, needs) => numbers(needs.as_slice()),
@@ -121,9 +121,9 @@ fn needed(needed: &Needed) -> usize {
 /// Returns the space for a record, with its first and its last line.
 pub(crate) fn room_for(kept: &Record) -> usize {
     block(kept.key.as_bytes().len())
-        .saturating_add(asked(&kept.asked))
+        .saturating_add(room_for_request(&kept.asked))
         .saturating_add(inputs(kept.inputs.as_slice()))
-        .saturating_add(needed(&kept.needed))
+        .saturating_add(room_for_needed(&kept.needed))
         .saturating_add(block(kept.stdout.as_slice().len()))
         .saturating_add(block(kept.stderr.as_slice().len()))
         .saturating_add(LINE)

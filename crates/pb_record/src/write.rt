@@ -4,7 +4,7 @@ ghost use Rattle.std.specs.Prelude.{◌≡◌, ◌++◌, ◌<◌, codes, ℕ, Li
 ghost use Rattle.std.specs.List.{AllByRecursion, concat};
 ghost use Rattle.std.specs.Str.{IsUtf8};
 ghost use Rattle.pb_record.specs.Grammar.{◌⨾◌, line, block, listed, asked_bytes, input_bytes, bytes_by, record_bytes};
-ghost use Rattle.pb_record.specs.Parts.{Says, IsReading, IsAsked, IsInput, AreNeeded, IsRecord};
+ghost use Rattle.pb_record.specs.Parts.{Says, FindsAsReading, IsAsked, IsInput, AreNeeded, IsRecord};
 ghost use Rattle.pb_record.specs.declared.record.Needed.TheVariants.{Copies, Numbers};
 ghost use Rattle.pb_record.specs.declared.record.Record.{Record};
 
@@ -114,9 +114,9 @@ fn text_of(alloc: Global, kept: &Record) -> Result<Bytes, AllocError>
 /// Errors: only out of memory.
 pub fn write_record(alloc: Global, kept: &Record) -> Result<Bytes, AllocError>
     ensures says { IfOk result (λ text. Says text kept.now) }
-    ensures read { IfOk result (λ text. (read : List ℕ → Option Record) → IsReading read → read text
+    ensures read { IfOk result (λ text. (read : List ℕ → Option Record) → FindsAsReading read → read text
         ≡ Some kept.now) }
-    ensures torn { IfOk result (λ text. (read : List ℕ → Option Record) → IsReading read → (n : ℕ) →
+    ensures torn { IfOk result (λ text. (read : List ℕ → Option Record) → FindsAsReading read → (n : ℕ) →
         n < length text → read (take n text) ≡ None) }
 {
     let text = text_of(alloc, kept)?;

@@ -9,7 +9,7 @@ use Rattle.pb_place_types.specs.declared.place.PlaceFault.{PlaceFault}
 use Rattle.pb_place_types.specs.declared.place.PlaceFault.TheVariants as place
 use Rattle.pb_place_types.specs.declared.place.StartFault.{StartFault}
 use Rattle.pb_place_types.specs.declared.place.StartFault.TheVariants as start
-use Rattle.pb_run.specs.Steps.{started, MayAnswer, MayBegin, MayFollow, MayRemove, StepCause, starts}
+use Rattle.pb_run.specs.Steps.{started, MayAnswer, BeginFaults, MayFollow, MayRemove, StepCause, starts}
 use Rattle.pb_run.specs.declared.faults.StepFault.{StepFault}
 use Rattle.pb_run.specs.declared.faults.StepFault.TheVariants.{Store, Start}
 use Rattle.pb_store.specs.Calls as causes
@@ -54,7 +54,7 @@ by_three P f a b c at_a at_b at_c may = elim may [
 
 -- that a unit's begin may end with a fault, which has its cause; that a step after the answer may; and that its answer may
 abbrev TellsBegin : Option ℕ → Counts → Counts → StepFault → Type 0
-TellsBegin next old new e = MayBegin next e old.starts new.starts × StepCause e old new
+TellsBegin next old new e = BeginFaults next e old.starts new.starts × StepCause e old new
 
 abbrev TellsFollow : Counts → Counts → StepFault → Type 0
 TellsFollow old new e = MayFollow e old.starts new.starts × StepCause e old new
@@ -126,7 +126,7 @@ pub remove_told : (path : _) (f : PlaceFault) (old new : Counts) → (f ≢ plac
 remove_told path f old new kind counts = (may_remove f old.starts new.starts kind (place_starts (call.Remove path) f old new counts), place_cause (call.Remove path) f old new counts)
 
 -- a step that removes the unit's files, as one of its begin
-pub removed_told : (next : Option ℕ) (e : StepFault) (old new : Starts) → MayRemove e old new → MayBegin next e old new
+pub removed_told : (next : Option ℕ) (e : StepFault) (old new : Starts) → MayRemove e old new → BeginFaults next e old new
 removed_told next (Store (store.Place fault)) old new may = (subst (λ f. f ≢ place.Write) (sym may.0) remove_no_write, may.1)
 removed_told next (Store store.NumbersSpent) old new may = absurd may
 removed_told next (Store store.OutOfMemory) old new may = inl may

@@ -3,7 +3,7 @@ use Rattle.std.proofs.Common.{◌≡◌, ◌≢◌, ◌⊎◌, ◌∙◌, ℕ, O
 use Rattle.pb_place_types.specs.Counts.{Counts, Starts, up, landed, past_finish_fault}
 use Rattle.pb_place_types.specs.declared.place.StartFault.{StartFault}
 use Rattle.pb_place_types.specs.declared.place.StartFault.TheVariants as start
-use Rattle.pb_run.specs.Steps.{StartsRise, LandsBy, started, MayAnswer, MayBegin, MayFollow, StepCause}
+use Rattle.pb_run.specs.Steps.{StartsRise, LandsBy, started, MayAnswer, BeginFaults, MayFollow, StepCause}
 use Rattle.pb_run.specs.declared.begun.SpawnedChild.{SpawnedChild}
 use Rattle.pb_run.specs.declared.faults.StepFault.{StepFault}
 use Rattle.pb_run.specs.declared.faults.StepFault.TheVariants.{Store, Start}
@@ -47,8 +47,8 @@ cause_after (Start fault) old mid new same cause = (cause.0 ∙ ap up same, caus
 pub lifted_after : (ticket : ℕ) (old mid new : Counts) → mid.failures ≡ old.failures → mid.starts ≡ old.starts → (new.failures ≡ mid.failures) × StartsRise ticket mid.starts new.starts → (new.failures ≡ old.failures) × StartsRise ticket old.starts new.starts
 lifted_after ticket old mid new failures same second = (second.0 ∙ failures, subst (λ (s : Starts). StartsRise ticket s new.starts) same second.1)
 
-pub begun_after : (next : Option ℕ) (e : StepFault) (old mid new : Counts) → mid.failures ≡ old.failures → mid.starts ≡ old.starts → MayBegin next e mid.starts new.starts × StepCause e mid new → MayBegin next e old.starts new.starts × StepCause e old new
-begun_after next e old mid new failures same second = (subst (λ (s : Starts). MayBegin next e s new.starts) same second.0, cause_after e old mid new failures second.1)
+pub begun_after : (next : Option ℕ) (e : StepFault) (old mid new : Counts) → mid.failures ≡ old.failures → mid.starts ≡ old.starts → BeginFaults next e mid.starts new.starts × StepCause e mid new → BeginFaults next e old.starts new.starts × StepCause e old new
+begun_after next e old mid new failures same second = (subst (λ (s : Starts). BeginFaults next e s new.starts) same second.0, cause_after e old mid new failures second.1)
 
 -- a fault of a call after the child's end
 follow_landed : (next : Option ℕ) (l : SpawnedChild) (e : StepFault) (old mid new : Starts) → LandsBy (Some l) old mid → MayFollow e mid new → MayAnswer next (Some l) e old new

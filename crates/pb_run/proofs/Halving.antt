@@ -18,7 +18,7 @@ use Rattle.pb_command_types.specs.declared.project.Project.{Project}
 use Rattle.pb_command_types.specs.declared.project.Setup.{Setup}
 use Rattle.pb_record.specs.declared.record.Record.{Record}
 use Rattle.pb_unit.specs.declared.plan.Planned.{Planned}
-use Rattle.pb_run.specs.Steps.{StartsRise, MayBegin}
+use Rattle.pb_run.specs.Steps.{StartsRise, BeginFaults}
 use Rattle.pb_run.specs.UnitSteps.{BuildContext, BeginsApart, CanBegin, IsBegun, BuildInvariant, begun_with, command_in, records_in, view_in}
 use Rattle.pb_run.specs.Running.{IsSpawned}
 use Rattle.pb_run.specs.Invariants.{IsCommandOf, IsInOrder, records_folder}
@@ -97,7 +97,7 @@ module _ (b : BuildContext) (order : IsInOrder b.project) (i : ℕ) (u : Planned
 
 -- Another unit that has begun.
 
-pub flying_begun : (next : Option ℕ) (e : StepFault) (old new : Starts) → MayBegin next e old new → new.flying ≡ old.flying
+pub flying_begun : (next : Option ℕ) (e : StepFault) (old new : Starts) → BeginFaults next e old new → new.flying ≡ old.flying
 flying_begun next (Store (store.Place fault)) old new (kind, starts) = ap (λ (s : Starts). s.flying) starts
 flying_begun next (Store store.NumbersSpent) old new (spent, starts) = ap (λ (s : Starts). s.flying) starts
 flying_begun next (Store store.OutOfMemory) old new may = elim may [

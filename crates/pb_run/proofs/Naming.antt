@@ -7,7 +7,7 @@ use Rattle.pb_place_types.specs.Counts.{Counts, Starts, up_starts}
 use Rattle.pb_place_types.specs.declared.call.Call.{Call}
 use Rattle.pb_place_types.specs.declared.place.PlaceFault.TheVariants as place
 use Rattle.pb_place_types.specs.declared.place.StartFault.TheVariants as start
-use Rattle.pb_run.specs.Steps.{HasCause, LandsBy, StopsAt, is_of_start, IsOfUnit, fault_in, named, MayAnswer, MayBegin, StepCause, StepStopsAt, starts}
+use Rattle.pb_run.specs.Steps.{HasCause, LandsBy, StopsAt, is_of_start, IsOfUnit, fault_in, named, MayAnswer, BeginFaults, StepCause, StepStopsAt, starts}
 use Rattle.pb_run.specs.declared.begun.SpawnedChild.{SpawnedChild}
 use Rattle.pb_run.specs.declared.faults.StepFault.{StepFault}
 use Rattle.pb_run.specs.declared.faults.StepFault.TheVariants as step
@@ -48,7 +48,7 @@ MayAnswerUnit next key launched (Device unit NumbersSpent) old new = (unit ≡ k
 MayAnswerUnit next key launched OutOfMemory old new = LandsBy launched old new
 MayAnswerUnit next key launched _ old new = ⊥
 
-pub begin_told : (next : Option ℕ) (key : List ℕ) (e : BuildFault) (old new : Starts) → IsOfUnit key e → MayBegin next (fault_in e) old new → MayBeginUnit next key e old new
+pub begin_told : (next : Option ℕ) (key : List ℕ) (e : BuildFault) (old new : Starts) → IsOfUnit key e → BeginFaults next (fault_in e) old new → MayBeginUnit next key e old new
 begin_told next key (Child unit fault) old new its may = (its, may.0, may.1)
 begin_told next key (Device unit (Place fault)) old new its may = (its, may.0, may.1)
 begin_told next key (Device unit NumbersSpent) old new its may = (its, may.0, may.1)

@@ -8,7 +8,7 @@ use Rattle.pb_place_types.specs.At.{At}
 use Rattle.pb_place_types.specs.World.{World, Answers}
 use Rattle.pb_place_types.specs.declared.child_in_flight.ChildInFlight.{ChildInFlight}
 use Rattle.pb_command_types.specs.declared.project.Project.{Project}
-use Rattle.pb_run.specs.Running.{AnswersUnit, HasAnswered}
+use Rattle.pb_run.specs.Running.{AnswersUnit, StepAnswers}
 use Rattle.pb_run.specs.UnitSteps.{BuildContext, CanAnswer, IsBegun, begun_with}
 use Rattle.pb_run.specs.declared.begun.Begun.{Begun}
 use Rattle.pb_run.specs.declared.faults.StepFault.{StepFault}
@@ -32,7 +32,7 @@ module _ (begun : Begun) where
     unit_whole (Ok ran) came = record { started = came.started; directives = came.directives; judged = came.judged; kept = came.kept; unkept = came.unkept; bad = came.bad; taken = came.taken }
     unit_whole (Err e) came = tt
 
-    pub answered_whole : (result : Result Ran StepFault) → HasAnswered is_modelled child project index u (begun_with key begun.command begun.awaited) result before now old new → HasAnswered is_modelled child project index u begun result before now old new
+    pub answered_whole : (result : Result Ran StepFault) → StepAnswers is_modelled child project index u (begun_with key begun.command begun.awaited) result before now old new → StepAnswers is_modelled child project index u begun result before now old new
     answered_whole result came = record {
       answers = unit_whole result came.answers;
       ends = record { lands = came.ends.lands; same = came.ends.same; untaken = came.ends.untaken; most = came.ends.most };

@@ -26,7 +26,7 @@ use Rattle.pb_record.specs.declared.record.InputName.{InputName}
 use Rattle.pb_command_types.specs.declared.fault.UnitFault.{UnitFault}
 use Rattle.pb_build_result.specs.declared.bad_unit.BadUnit.{BadUnit}
 use Rattle.pb_command_types.specs.declared.fault.UnitFault.TheVariants as unit_fault
-use Rattle.pb_run.specs.UnitSteps.{Premise, TrustedRecords, NoRecords, BuildContext, HasRecord, BuildInvariant, IsInFlight, AwaitsBy, IsUnchanged, WaitsBy, CanAnswer, outcomes_in, records_in, command_in, view_in, child_of}
+use Rattle.pb_run.specs.UnitSteps.{Premise, TrustedRecords, NoRecords, BuildContext, HasRecord, BuildInvariant, IsInFlight, AwaitsBy, NothingDiffers, WaitsBy, CanAnswer, outcomes_in, records_in, command_in, view_in, child_of}
 use Rattle.pb_run.specs.Outcome.{outcome_by, outcome_from}
 use Rattle.pb_run.specs.Invariants.{IsInOrder, records_folder}
 use Rattle.pb_run.specs.declared.begun.Awaited.{Awaited}
@@ -142,7 +142,7 @@ module _ (b : BuildContext) (order : IsInOrder b.project) (place : ℕ) (u : Pla
     record_waits : (again : Replayed) → begun.awaited ≡ awaited.Record again → WaitsBy b u begun.command (view_in b place u) (awaited.Record again) next w flying still
     record_waits again is = subst (λ (o : Awaited). WaitsBy b u begun.command (view_in b place u) o next w flying still) is its_waits
 
-    pub its_same : (again : Replayed) → begun.awaited ≡ awaited.Record again → IsUnchanged b.premise b u begun.command w
+    pub its_same : (again : Replayed) → begun.awaited ≡ awaited.Record again → NothingDiffers b.premise b u begun.command w
     its_same again is = (record_waits again is).0
 
     pub its_again : (again : Replayed) → begun.awaited ≡ awaited.Record again → IsReplayed (records_in b w u.key) again

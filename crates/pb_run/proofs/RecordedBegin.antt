@@ -15,7 +15,7 @@ use Rattle.pb_place_types.specs.declared.child_in_flight.ChildInFlight.{ChildInF
 use Rattle.pb_command_types.specs.Targets.{unit_at}
 use Rattle.pb_build_result.specs.declared.bad_unit.BadUnit.{BadUnit}
 use Rattle.pb_record.specs.declared.record.Record.{Record}
-use Rattle.pb_run.specs.UnitSteps.{Premise, TrustedRecords, NoRecords, BuildContext, HasRecord, HoldsBy, BuildInvariant, IsBegun, AwaitsBy, IsUnchanged, WaitsBy, CanBegin, records_in, command_in, view_in}
+use Rattle.pb_run.specs.UnitSteps.{Premise, TrustedRecords, NoRecords, BuildContext, HasRecord, HoldsBy, BuildInvariant, IsBegun, AwaitsBy, NothingDiffers, WaitsBy, CanBegin, records_in, command_in, view_in}
 use Rattle.pb_run.specs.Invariants.{IsInOrder, records_folder}
 use Rattle.pb_run.specs.declared.begun.Awaited.{Awaited}
 use Rattle.pb_run.specs.declared.begun.Awaited.TheVariants as awaited
@@ -119,7 +119,7 @@ module _ (b : BuildContext) (order : IsInOrder b.project) (states : List (State 
     }
 
     -- and without one, where nothing differs
-    unchanged_by : (premise : Premise) (c : _) → HoldsBy premise b states next w → (r : Record) × IsSame reading (records_folder b.project) u.key c w r → IsUnchanged premise b u c w
+    unchanged_by : (premise : Premise) (c : _) → HoldsBy premise b states next w → (r : Record) × IsSame reading (records_folder b.project) u.key c w r → NothingDiffers premise b u c w
     unchanged_by TrustedRecords c holds same = same
     unchanged_by NoRecords c holds (r, same) = none_some r (sym (holds place u there can.untouched) ∙ same.stands)
 

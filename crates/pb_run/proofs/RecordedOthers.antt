@@ -24,7 +24,7 @@ use Rattle.pb_record.specs.declared.record.Input.{Input}
 use Rattle.pb_record.specs.declared.record.Needed.{Needed}
 use Rattle.pb_record.specs.declared.record.Needed.TheVariants.{Copies, Numbers}
 use Rattle.pb_record.specs.declared.record.Record.{Record}
-use Rattle.pb_run.specs.UnitSteps.{Premise, TrustedRecords, NoRecords, BuildContext, HoldsBy, BuildInvariant, IsBegun, IsInFlight, AwaitsRecord, AwaitsBy, IsUnchanged, WaitsBy, BeginsApart, needed_keys, records_in, view_in, child_in, child_of}
+use Rattle.pb_run.specs.UnitSteps.{Premise, TrustedRecords, NoRecords, BuildContext, HoldsBy, BuildInvariant, IsBegun, IsInFlight, AwaitsRecord, AwaitsBy, NothingDiffers, WaitsBy, BeginsApart, needed_keys, records_in, view_in, child_in, child_of}
 use Rattle.pb_run.specs.Invariants.{IsInOrder, records_folder}
 use Rattle.pb_run.specs.declared.begun.Awaited.{Awaited}
 use Rattle.pb_run.specs.declared.begun.Awaited.TheVariants as awaited
@@ -202,7 +202,7 @@ module _ (b : BuildContext) (order : IsInOrder b.project) (place : ℕ) (u : Pla
       needed = needed_still c for r r.needed (sound.each v.key r is.stands).says (sym (ap (λ (d : Command). d.reads) is.asked)) is.needed;
     }
 
-    pub unchanged_by : (premise : Premise) (states : List (State BadUnit)) (next : Option ℕ) (c : Command) → IsFor b.project v c → HoldsBy premise b states next w → IsUnchanged premise b v c w → IsUnchanged premise b v c w'
+    pub unchanged_by : (premise : Premise) (states : List (State BadUnit)) (next : Option ℕ) (c : Command) → IsFor b.project v c → HoldsBy premise b states next w → NothingDiffers premise b v c w → NothingDiffers premise b v c w'
     unchanged_by TrustedRecords states next c for holds (r, is) = (r, same_still c r for holds.sound is)
     unchanged_by NoRecords states next c for holds is = is
 

@@ -15,7 +15,7 @@ use Rattle.pb_command_types.specs.Targets.{unit_at}
 use Rattle.pb_build_result.specs.declared.bad_unit.BadUnit.{BadUnit}
 use Rattle.pb_record.specs.declared.record.Input.{Input}
 use Rattle.pb_record.specs.declared.record.Record.{Record}
-use Rattle.pb_run.specs.UnitSteps.{Premise, TrustedRecords, NoRecords, BuildContext, HasRecord, HoldsRecords, HoldsBy, AwaitsBy, IsUnchanged, CanAnswer, BeginsApart, command_in, needed_keys, records_in, view_in, child_of}
+use Rattle.pb_run.specs.UnitSteps.{Premise, TrustedRecords, NoRecords, BuildContext, HasRecord, HoldsRecords, HoldsBy, AwaitsBy, NothingDiffers, CanAnswer, BeginsApart, command_in, needed_keys, records_in, view_in, child_of}
 use Rattle.pb_run.specs.Invariants.{IsInOrder, records_folder}
 use Rattle.pb_run.specs.declared.begun.Begun.{Begun}
 use Rattle.pb_run.specs.declared.begun.SpawnedChild.{SpawnedChild}
@@ -60,7 +60,7 @@ module _ (b : BuildContext) (order : IsInOrder b.project) (place : ℕ) (u : Pla
   all_grounded holds = reads_grounded b order states next w holds u begun.command.reads for.reads can.reaches
 
   -- the record holds the reply of the child in its view, and its files stand
-  pub replay_backs : (premise : Premise) → HoldsBy premise b states next w → IsUnchanged premise b u begun.command w → seen_by begun.command w ≡ view_in b place u
+  pub replay_backs : (premise : Premise) → HoldsBy premise b states next w → NothingDiffers premise b u begun.command w → seen_by begun.command w ≡ view_in b place u
       → (r : Record) × (records_in b w u.key ≡ Some r) × Backs judge r u.out (files_in u.out w.files) (b.child begun.command (view_in b place u))
   replay_backs TrustedRecords holds (r, same) sees = (
     r,
@@ -91,13 +91,13 @@ module _ (b : BuildContext) (order : IsInOrder b.project) (place : ℕ) (u : Pla
 
   module _ (w' : World) (next' : Option ℕ) (only : ChangesOnly (is_at_or_below (place_of (records_folder b.project) u.key)) w w') where
     -- in the words of the call: sound, and ahead
-    pub migrated_sound : (premise : Premise) → HoldsBy premise b states next w → IsUnchanged premise b u begun.command w → seen_by begun.command w ≡ view_in b place u
+    pub migrated_sound : (premise : Premise) → HoldsBy premise b states next w → NothingDiffers premise b u begun.command w → seen_by begun.command w ≡ view_in b place u
         → ((r : Record) → ((number : ℕ) → next ≡ Some number → IsMigrated judge b.child Folder u.key begun.command (needed_keys b.project u) number w r) → Sound reading judge b.child Folder w.files → Sound reading judge b.child Folder w'.files)
         → IfRecords premise (Sound reading judge b.child Folder w'.files)
     migrated_sound TrustedRecords holds (r, same) sees gives = gives r (is_migrated holds r same sees) holds.sound
     migrated_sound NoRecords holds same sees gives = tt
 
-    pub migrated_ahead : (premise : Premise) → HoldsBy premise b states next w → IsUnchanged premise b u begun.command w → seen_by begun.command w ≡ view_in b place u
+    pub migrated_ahead : (premise : Premise) → HoldsBy premise b states next w → NothingDiffers premise b u begun.command w → seen_by begun.command w ≡ view_in b place u
         → ((r : Record) → ((number : ℕ) → next ≡ Some number → IsMigrated judge b.child Folder u.key begun.command (needed_keys b.project u) number w r) → IsAhead (records_in b w) next → IsAhead (records_in b w') next')
         → IfRecords premise (IsAhead (records_in b w') next')
     migrated_ahead TrustedRecords holds (r, same) sees gives = gives r (is_migrated holds r same sees) holds.ahead
@@ -190,7 +190,7 @@ module _ (b : BuildContext) (order : IsInOrder b.project) (place : ℕ) (u : Pla
     record_by holds r same None is None next_is stands numbered_now = absurd (false≢true (sym (ap is_some is) ∙ numbered_now r stands))
 
     -- the unit has its record
-    pub migrated_record : (premise : Premise) → HoldsBy premise b states next w → IsUnchanged premise b u begun.command w
+    pub migrated_record : (premise : Premise) → HoldsBy premise b states next w → NothingDiffers premise b u begun.command w
         → records_in b w' u.key ≡ migrated next (numbered (records_in b w) (needed_keys b.project u)) (records_in b w u.key)
         → ((s : Record) → records_in b w' u.key ≡ Some s → is_some (number_of s) ≡ true) → IfRecords premise (HasRecord b w' place)
     migrated_record TrustedRecords holds (r, same) stands numbered_now =
@@ -205,7 +205,7 @@ module _ (b : BuildContext) (order : IsInOrder b.project) (place : ℕ) (u : Pla
     left_by holds r same None is (Some number) next_is stands =
         put_anew (numbered_record r number (numbered (records_in b w) (needed_keys b.project u))) number stands refl next_is (new_names holds r same number next_is).stand
 
-    pub left_migrated : (premise : Premise) → HoldsBy premise b states next w → IsUnchanged premise b u begun.command w
+    pub left_migrated : (premise : Premise) → HoldsBy premise b states next w → NothingDiffers premise b u begun.command w
         → Leaves (migrated next (numbered (records_in b w) (needed_keys b.project u)) (records_in b w u.key)) (records_in b w u.key) (records_in b w' u.key)
         → IfRecords premise (Left (records_in b w) (records_in b w') u.key next)
     left_migrated TrustedRecords holds (r, same) left = elim left [
@@ -219,10 +219,10 @@ module _ (b : BuildContext) (order : IsInOrder b.project) (place : ℕ) (u : Pla
 
 -- where a unit has no child, the number that its record may get is none that another has
 pub numbers_apart : (b : BuildContext) (u : Planned) (c : Command) (states : List (State BadUnit)) (place : ℕ) (launched : Option SpawnedChild) (other : ℕ) (its : Begun) (next : Option ℕ) (w : World) (flying : List ChildInFlight) (still : ℕ → Type 0)
-    → IsUnchanged b.premise b u c w → BeginsApart b states place launched other its next w flying still → (theirs : SpawnedChild) → child_of its ≡ Some theirs → next ≢ Some theirs.number
+    → NothingDiffers b.premise b u c w → BeginsApart b states place launched other its next w flying still → (theirs : SpawnedChild) → child_of its ≡ Some theirs → next ≢ Some theirs.number
 numbers_apart b u c states place launched other its next w flying still same apart theirs is =
     by_footing b.premise same (waits_child b apart.begun_so.unit its.command (view_in b other apart.begun_so.unit) its.awaited theirs next w flying still is apart.begun_so.waits).1
   where
-    by_footing : (premise : Premise) → IsUnchanged premise b u c w → AwaitsBy premise b apart.begun_so.unit theirs.number next w → next ≢ Some theirs.number
+    by_footing : (premise : Premise) → NothingDiffers premise b u c w → AwaitsBy premise b apart.begun_so.unit theirs.number next w → next ≢ Some theirs.number
     by_footing TrustedRecords same_now waits = next_apart next theirs.number waits.before
     by_footing NoRecords same_now waits = absurd same_now

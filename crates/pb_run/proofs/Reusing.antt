@@ -22,7 +22,7 @@ use Rattle.pb_command_types.specs.Targets.{dep_info_of, unit_at}
 use Rattle.pb_build_result.specs.declared.bad_unit.BadUnit.{BadUnit}
 use Rattle.pb_record.specs.declared.record.Record.{Record}
 use Rattle.pb_unit.specs.declared.plan.Planned.{Planned}
-use Rattle.pb_run.specs.UnitSteps.{Premise, TrustedRecords, NoRecords, BuildContext, BeginsApart, CanAnswer, HasRecord, HoldsBy, IsBegun, IsUnchanged, BuildInvariant, awaits_number, begun_with, child_in, child_of, command_in, needed_keys, outcomes_in, records_in, view_in}
+use Rattle.pb_run.specs.UnitSteps.{Premise, TrustedRecords, NoRecords, BuildContext, BeginsApart, CanAnswer, HasRecord, HoldsBy, IsBegun, NothingDiffers, BuildInvariant, awaits_number, begun_with, child_in, child_of, command_in, needed_keys, outcomes_in, records_in, view_in}
 use Rattle.pb_run.specs.Outcome.{judgement_by, outcome_by, unstarted}
 use Rattle.pb_run.specs.Invariants.{IsInOrder, records_folder}
 use Rattle.pb_run.specs.Steps.{MayAnswer}
@@ -137,7 +137,7 @@ module _ (b : BuildContext) (order : IsInOrder b.project) (i : ℕ) (u : Planned
   abbrev begun : Begun
   begun = begun_with key c (awaited.Record again)
 
-  same_now : IsUnchanged b.premise b u c w
+  same_now : NothingDiffers b.premise b u c w
   same_now = its_same b order i u at states done begun next w flying still can again refl
 
   gives : IsReplayed (records_in b w u.key) again

@@ -11,7 +11,7 @@ use Rattle.pb_place_types.specs.declared.command.Command.{Command}
 use Rattle.pb_command_types.specs.declared.project.Project.{Project}
 use Rattle.pb_run.specs.Steps.{BeginsBy, LandsBy, IsOfUnit, fault_in, MayAnswer}
 use Rattle.pb_run.specs.UnitSteps.{child_of}
-use Rattle.pb_run.specs.Running.{HasAnswered, HasTold, TellsAnswer, told_of}
+use Rattle.pb_run.specs.Running.{StepAnswers, HasTold, TellsAnswer, told_of}
 use Rattle.pb_run.specs.declared.begun.Begun.{Begun}
 use Rattle.pb_run.specs.declared.begun.SpawnedChild.{SpawnedChild}
 use Rattle.pb_run.specs.declared.faults.StepFault.{StepFault}
@@ -55,26 +55,26 @@ tried_by folder key c w (Some launched) None spawned differs old mid new begins 
 tried_by folder key c w (Some launched) (Some first) spawned differs old mid new begins lands = inr (first, differs)
 
 module _ (is_modelled : Bool) (child : Answers) (project : Project) (index : ℕ) (u : Planned) (begun : Begun) (before now : Store) (old new : At) where
-  well_by : (outcome : Outcome) (answer : Result Ran StepFault) → HasAnswered is_modelled child project index u begun answer before now old new → TellsAnswer project u begun.difference answer (Ok outcome)
-      → (ran : Ran) × HasAnswered is_modelled child project index u begun (Ok ran) before now old new × (outcome ≡ told_of project u begun.difference ran)
+  well_by : (outcome : Outcome) (answer : Result Ran StepFault) → StepAnswers is_modelled child project index u begun answer before now old new → TellsAnswer project u begun.difference answer (Ok outcome)
+      → (ran : Ran) × StepAnswers is_modelled child project index u begun (Ok ran) before now old new × (outcome ≡ told_of project u begun.difference ran)
   well_by outcome (Ok ran) came told = (ran, came, told)
   well_by outcome (Err e) came told = absurd (not_both (Ok outcome) outcome e refl told)
 
   pub told_well : (outcome : Outcome) → HasTold is_modelled child project index u begun (Ok outcome) before now old new
-      → (ran : Ran) × HasAnswered is_modelled child project index u begun (Ok ran) before now old new × (outcome ≡ told_of project u begun.difference ran)
+      → (ran : Ran) × StepAnswers is_modelled child project index u begun (Ok ran) before now old new × (outcome ≡ told_of project u begun.difference ran)
   told_well outcome has = well_by outcome has.answer has.answered has.told
 
-  badly_by : (fault : BuildFault) (answer : Result Ran StepFault) → IsOfUnit u.key fault → HasAnswered is_modelled child project index u begun answer before now old new → TellsAnswer project u begun.difference answer (Err (fault_in fault))
-      → HasAnswered is_modelled child project index u begun (Err (fault_in fault)) before now old new ⊎ ((ran : Ran) × HasAnswered is_modelled child project index u begun (Ok ran) before now old new × (fault ≡ OutOfMemory))
+  badly_by : (fault : BuildFault) (answer : Result Ran StepFault) → IsOfUnit u.key fault → StepAnswers is_modelled child project index u begun answer before now old new → TellsAnswer project u begun.difference answer (Err (fault_in fault))
+      → StepAnswers is_modelled child project index u begun (Err (fault_in fault)) before now old new ⊎ ((ran : Ran) × StepAnswers is_modelled child project index u begun (Ok ran) before now old new × (fault ≡ OutOfMemory))
   badly_by fault (Ok ran) its came told = inr (ran, came, memory_of u.key fault its told)
-  badly_by fault (Err e) its came told = inl (subst (λ (f : StepFault). HasAnswered is_modelled child project index u begun (Err f) before now old new) (same_fault (Err (fault_in fault)) (fault_in fault) e refl told) came)
+  badly_by fault (Err e) its came told = inl (subst (λ (f : StepFault). StepAnswers is_modelled child project index u begun (Err f) before now old new) (same_fault (Err (fault_in fault)) (fault_in fault) e refl told) came)
 
   -- the unit's answer ended so; or memory for its lines was refused
   pub told_badly : (fault : BuildFault) → IsOfUnit u.key fault → HasTold is_modelled child project index u begun (Err (fault_in fault)) before now old new
-      → HasAnswered is_modelled child project index u begun (Err (fault_in fault)) before now old new ⊎ ((ran : Ran) × HasAnswered is_modelled child project index u begun (Ok ran) before now old new × (fault ≡ OutOfMemory))
+      → StepAnswers is_modelled child project index u begun (Err (fault_in fault)) before now old new ⊎ ((ran : Ran) × StepAnswers is_modelled child project index u begun (Ok ran) before now old new × (fault ≡ OutOfMemory))
   told_badly fault its has = badly_by fault has.answer its has.answered has.told
 
-  lands_by : (answer : Result Ran StepFault) → HasAnswered is_modelled child project index u begun answer before now old new → LandsBy (child_of begun) old.counts.starts new.counts.starts
+  lands_by : (answer : Result Ran StepFault) → StepAnswers is_modelled child project index u begun answer before now old new → LandsBy (child_of begun) old.counts.starts new.counts.starts
   lands_by (Ok ran) came = came.changes.takes.1
   lands_by (Err e) came = may_land before.next (child_of begun) e old.counts.starts new.counts.starts came.changes.takes.0
 

@@ -27,7 +27,7 @@ use Rattle.pb_command_types.specs.declared.project.Project.{Project}
 use Rattle.pb_command_types.specs.declared.project.Setup.{Setup}
 use Rattle.pb_record.specs.declared.record.InputName.{InputName}
 use Rattle.pb_record.specs.declared.record.Record.{Record}
-use Rattle.pb_run.specs.Steps.{BeginsBy, Lands, started, NumbersInTurn, StepMakes, StepStopsAt, StepTakes, starts, MayAnswer, MayBegin}
+use Rattle.pb_run.specs.Steps.{BeginsBy, Lands, started, NumbersInTurn, StepMakes, StepStopsAt, StepTakes, starts, MayAnswer, BeginFaults}
 use Rattle.pb_run.specs.UnitSteps.{needed_keys, BuildContext, BuildInvariant, IsBegun, CanBegin, BeginsApart, KeepsOthersStill, WritesTo, child_of, outcomes_in, CanAnswer, awaits_number, Premise, build_context}
 use Rattle.pb_run.specs.Outcome.{judgement_by, names_in, ran_of, unstarted, outcome_by, directives_in}
 use Rattle.pb_run.specs.Invariants.{records_folder, IsCommandOf}
@@ -338,15 +338,15 @@ pub record DropsBuild (b : BuildContext) (index : ℕ) (u : Planned) (begun : Be
       → BeginsApart b states index (child_of begun) other its next old.world old.counts.starts.flying old.still → IsBegun b other its next new.world new.counts.starts.flying new.still
 
 -- all that is promised about how a unit begins; the fault has no key yet
-pub record HasBegun (is_modelled : Bool) (child : Answers) (setup : Setup) (project : Project) (done : List (Option (List Directive))) (index : ℕ) (u : Planned) (result : Result Begun StepFault) (before now : Store) (old new : At) : Type 0 where
+pub record StepBegins (is_modelled : Bool) (child : Answers) (setup : Setup) (project : Project) (done : List (Option (List Directive))) (index : ℕ) (u : Planned) (result : Result Begun StepFault) (before now : Store) (old new : At) : Type 0 where
   pub begins : IfOk result (BeginsUnit is_modelled child project u (command_of setup project u done) before now old new)
   pub fails : IfErr result (FailsToBegin is_modelled project u (command_of setup project u done) old new)
   pub build : (premise : Premise) (sources : World) → IsTrue is_modelled → BeginsBuild (build_context premise child setup project sources) done index u result before.next now.next old new
   pub store : KeepsStore is_modelled result before now new
-  pub changes : ChangesUnit (records_folder project) u.key None Begins (MayBegin before.next) result old new
+  pub changes : ChangesUnit (records_folder project) u.key None Begins (BeginFaults before.next) result old new
 
 -- all that is promised about how a unit answers; the fault has no key yet
-pub record HasAnswered (is_modelled : Bool) (child : Answers) (project : Project) (index : ℕ) (u : Planned) (begun : Begun) (result : Result Ran StepFault) (before now : Store) (old new : At) : Type 0 where
+pub record StepAnswers (is_modelled : Bool) (child : Answers) (project : Project) (index : ℕ) (u : Planned) (begun : Begun) (result : Result Ran StepFault) (before now : Store) (old new : At) : Type 0 where
   pub answers : IfOk result (AnswersUnit is_modelled project u begun before now old new)
   pub ends : EndsUnit is_modelled project u begun result before now old new
   pub build : (premise : Premise) (setup : Setup) (sources : World) → IsTrue is_modelled → AnswersBuild (build_context premise child setup project sources) index u begun result before.next now.next old new
@@ -366,12 +366,12 @@ TellsAnswer project u difference (Err fault) result = result ≡ Err fault
 -- the unit has answered, and the result reports this answer or its fault
 pub record HasTold (is_modelled : Bool) (child : Answers) (project : Project) (index : ℕ) (u : Planned) (begun : Begun) (result : Result Outcome StepFault) (before now : Store) (old new : At) : Type 0 where
   pub answer : Result Ran StepFault
-  pub answered : HasAnswered is_modelled child project index u begun answer before now old new
+  pub answered : StepAnswers is_modelled child project index u begun answer before now old new
   pub told : TellsAnswer project u begun.difference answer result
 
 -- Either the unit could not begin, with this fault. Or the unit began and then answered. Its answer
 -- starts from the store and the place that its beginning left.
 abbrev pub RunsUnit : {P : Type 0} → (P → At) → Bool → Answers → Setup → Project → List (Option (List Directive)) → ℕ → Planned → Result Outcome StepFault → Store → Store → P → P → Type 0
 RunsUnit {P} at is_modelled child setup project done index u result before now old new =
-    ((fault : StepFault) × (result ≡ Err fault) × HasBegun is_modelled child setup project done index u (Err fault) before now (at old) (at new))
-    ⊎ ((begun : Begun) × (mid_store : Store) × (mid : P) × HasBegun is_modelled child setup project done index u (Ok begun) before mid_store (at old) (at mid) × HasTold is_modelled child project index u begun result mid_store now (at mid) (at new))
+    ((fault : StepFault) × (result ≡ Err fault) × StepBegins is_modelled child setup project done index u (Err fault) before now (at old) (at new))
+    ⊎ ((begun : Begun) × (mid_store : Store) × (mid : P) × StepBegins is_modelled child setup project done index u (Ok begun) before mid_store (at old) (at mid) × HasTold is_modelled child project index u begun result mid_store now (at mid) (at new))

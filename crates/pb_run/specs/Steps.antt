@@ -120,11 +120,11 @@ StepTakes Goes May result old new = MatchResult result (λ x. (new.failures ≡ 
 
 -- With which faults a unit may fail to begin, and how the starts change with each. The starts are
 -- unchanged, or, if a spawn was tried, one more is counted. No further child is in flight.
-abbrev pub MayBegin : Option ℕ → StepFault → Starts → Starts → Type 0
-MayBegin next (step.Store (store.Place fault)) old new = (fault ≢ place.Write) × (new ≡ old)
-MayBegin next (step.Store store.NumbersSpent) old new = (next ≡ None) × (new ≡ old)
-MayBegin next (step.Store store.OutOfMemory) old new = (new ≡ old) ⊎ (new ≡ up_starts old)
-MayBegin next (step.Start fault) old new = (fault ≡ start.CannotStart) × (new ≡ up_starts old)
+abbrev pub BeginFaults : Option ℕ → StepFault → Starts → Starts → Type 0
+BeginFaults next (step.Store (store.Place fault)) old new = (fault ≢ place.Write) × (new ≡ old)
+BeginFaults next (step.Store store.NumbersSpent) old new = (next ≡ None) × (new ≡ old)
+BeginFaults next (step.Store store.OutOfMemory) old new = (new ≡ old) ⊎ (new ≡ up_starts old)
+BeginFaults next (step.Start fault) old new = (fault ≡ start.CannotStart) × (new ≡ up_starts old)
 
 -- with which faults the one call may fail that removes the files of a folder
 abbrev pub MayRemove : StepFault → Starts → Starts → Type 0

@@ -181,15 +181,15 @@ AwaitsBy TrustedRecords b u number next w = AwaitsRecord b u number next w
 AwaitsBy NoRecords b u number next w = Unit {0}
 
 -- the records are trusted, and nothing differs from the unit's record
-abbrev pub IsUnchanged : Premise → BuildContext → Planned → Command → World → Type 0
-IsUnchanged TrustedRecords b u c w = (r : Record) × IsSame reading (records_folder b.project) u.key c w r
-IsUnchanged NoRecords b u c w = ⊥
+abbrev pub NothingDiffers : Premise → BuildContext → Planned → Command → World → Type 0
+NothingDiffers TrustedRecords b u c w = (r : Record) × IsSame reading (records_folder b.project) u.key c w r
+NothingDiffers NoRecords b u c w = ⊥
 
 -- Either the unit has a child in flight. Or nothing differs from its record, and it has what this
 -- record replays.
 abbrev pub WaitsBy : BuildContext → Planned → Command → World → Awaited → Option ℕ → World → List ChildInFlight → (ℕ → Type 0) → Type 0
 WaitsBy b u c view (awaited.Child launched) next w flying still = IsInFlight b.child c view launched.ticket flying still × AwaitsBy b.premise b u launched.number next w
-WaitsBy b u c view (awaited.Record again) next w flying still = IsUnchanged b.premise b u c w × IsReplayed (records_in b w u.key) again
+WaitsBy b u c view (awaited.Record again) next w flying still = NothingDiffers b.premise b u c w × IsReplayed (records_in b w u.key) again
 
 -- the unit at this index has begun in this way
 pub record IsBegun (b : BuildContext) (index : ℕ) (begun : Begun) (next : Option ℕ) (w : World) (flying : List ChildInFlight) (still : ℕ → Type 0) : Type 0 where

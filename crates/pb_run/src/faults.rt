@@ -20,7 +20,7 @@ pub enum StepFault {
 }
 
 /// Returns the fault of a call on files or variables as a step's fault.
-pub(crate) fn stored(fault: PlaceFault) -> StepFault
+pub(crate) fn store_fault(fault: PlaceFault) -> StepFault
     ensures { result ≡ step_fault.Store (stored fault) }
 {
     match fault {
@@ -30,7 +30,7 @@ pub(crate) fn stored(fault: PlaceFault) -> StepFault
 }
 
 /// Returns the fault of a child as a step's fault.
-pub(crate) fn started(fault: StartFault) -> StepFault
+pub(crate) fn start_fault(fault: StartFault) -> StepFault
     ensures { result ≡ started fault }
 {
     match fault {
@@ -40,7 +40,7 @@ pub(crate) fn started(fault: StartFault) -> StepFault
 }
 
 /// Returns a step's fault as the build's fault, with the unit's key. Out of memory has no key.
-pub(crate) fn named(unit: Text, fault: StepFault) -> BuildFault
+pub(crate) fn unit_fault(unit: Text, fault: StepFault) -> BuildFault
     ensures { result ≡ named unit fault }
 {
     match fault {

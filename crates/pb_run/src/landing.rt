@@ -11,7 +11,7 @@ ghost use Rattle.pb_place_types.specs.World.{World, ChangesOnlyInSome};
 ghost use Rattle.pb_place_types.specs.declared.place.StartFault.{StartFault};
 ghost use Rattle.pb_command_types.specs.Targets.{dep_info_of};
 ghost use Rattle.pb_command_types.specs.declared.project.Setup.{Setup};
-ghost use Rattle.pb_run.specs.Running.{AnswersBuild, AnswersUnit, EndsUnit, ChangesUnit, KeepsStore, HasEnded, dep_info_looked, HasAnswered};
+ghost use Rattle.pb_run.specs.Running.{AnswersBuild, AnswersUnit, EndsUnit, ChangesUnit, KeepsStore, HasEnded, dep_info_looked, StepAnswers};
 ghost use Rattle.pb_run.specs.Steps.{Lands, started, MayAnswer, MayFollow, StepLooks, StepMakes, StepTakes};
 ghost use Rattle.pb_run.specs.UnitSteps.{Premise, WritesTo, build_context, begun_with, child_in, key_at, needed_keys};
 ghost use Rattle.pb_run.specs.Outcome.{judgement_by, outcome_by, directives_in, unstarted};
@@ -21,9 +21,9 @@ ghost use Rattle.pb_store_soundness.specs.Records.{records};
 ghost use Rattle.pb_store.specs.Folder.{HasNumbers};
 
 use crate::begun::{Awaited, SpawnedChild};
-use crate::faults::{StepFault, started};
+use crate::faults::{StepFault, start_fault};
 use crate::ordered::OrderedProject;
-use crate::ran::{Ran, Validated, judged};
+use crate::ran::{Ran, Validated, judge_reply};
 use crate::running::read_at;
 use pb_command_types::{Project, dep_info_path, unit_at};
 use pb_data::{Items, Text, TryCopy};
@@ -67,7 +67,7 @@ fn finish<P: Place>(
 {
     match place.finish(alloc, launched.ticket) {
         Ok(ended) => Ok(ended),
-        Err(fault) => Err(started(fault)),
+        Err(fault) => Err(start_fault(fault)),
     }
 }
 
@@ -97,7 +97,7 @@ fn judged_now<P: Place>(
     };
     // Dep-info before judging: the judgement makes no counted call.
     let dep_info = read_at(alloc, place, &path)?;
-    match judged(alloc, place, project.get(), unit, command, ended, &dep_info) {
+    match judge_reply(alloc, place, project.get(), unit, command, ended, &dep_info) {
         Ok(judgement) => Ok(judgement),
         Err(_) => Err(OUT_OF_MEMORY),
     }
@@ -147,7 +147,7 @@ fn needed_keys(
 }
 
 /// Returns what came of a unit, marked as not started.
-fn unstarted(ran: Ran) -> Ran
+fn without_start(ran: Ran) -> Ran
     ensures { result ≡ unstarted ran }
 {
     Ran {
@@ -270,7 +270,7 @@ fn reuse<P: Place>(
         Ok(judgement) => judgement,
         Err(fault) => return Err(fault),
     };
-    let ran = unstarted(judgement.ran);
+    let ran = without_start(judgement.ran);
     if ran.bad.is_some() {
         return Ok(ran);
     }
@@ -293,7 +293,7 @@ fn reuse<P: Place>(
 }
 
 /// Answers a unit that has begun: by the end of its child, or by what its record replays.
-pub(crate) fn answered<P: Place>(
+pub(crate) fn answer_begun<P: Place>(
     alloc: Global,
     place: &mut P,
     store: &mut Store,
@@ -314,7 +314,7 @@ pub(crate) fn answered<P: Place>(
         (P.at place.old).counts.starts.flying }
     requires numbers { IsTrue P.is_modelled →
         HasNumbers (records store.old.folder (P.at place.old).world) store.old.numbers }
-    ensures { HasAnswered P.is_modelled P.child project.now index unit.now
+    ensures { StepAnswers P.is_modelled P.child project.now index unit.now
         (begun_with unit.now.key command.now awaited.now) result store.old store.new
         (P.at place.old) (P.at place.new) }
 {

@@ -5,14 +5,14 @@ ghost use Rattle.pb_place_types.specs.Children.{child_at, child_spawned, StaysSt
 ghost use Rattle.pb_place_types.specs.Paths.{is_path, is_at_or_below};
 ghost use Rattle.pb_place_types.specs.World.{ChangesOnly, ChangesOnlyInSome};
 ghost use Rattle.pb_run.specs.Running.{ChangesUnit, KeepsStore, AnewEnds, Calls, DropsFor, IsSpawned, LaunchEnds, Launches, SpawnStops, Spawns, SpawnsAnew};
-ghost use Rattle.pb_run.specs.Steps.{StartsRise, MayBegin, StepTakes};
+ghost use Rattle.pb_run.specs.Steps.{StartsRise, BeginFaults, StepTakes};
 ghost use Rattle.pb_run.specs.UnitSteps.{WritesTo};
 ghost use Rattle.pb_store_soundness.specs.Apart.{is_of};
 ghost use Rattle.pb_store_soundness.specs.Records.{out_of, place_of, records};
 ghost use Rattle.pb_store.specs.Folder.{IsGiven, HasNumbers};
 
 use crate::begun::SpawnedChild;
-use crate::faults::{StepFault, started};
+use crate::faults::{StepFault, start_fault};
 use crate::running::empty;
 use pb_place_types::{Command, PathText, Place};
 use pb_store::{Key, Store};
@@ -35,14 +35,14 @@ fn spawn<P: Place>(alloc: Global, place: &mut P, command: &Command) -> Result<u6
         (P.at place.new).world }
     ensures still { StaysStill (P.at place.old).counts.starts.flying (P.at place.old).world
         (P.at place.new).world (P.at place.old).still (P.at place.new).still }
-    ensures takes { (next : Option ℕ) → StepTakes StartsRise (MayBegin next) result
+    ensures takes { (next : Option ℕ) → StepTakes StartsRise (BeginFaults next) result
         (P.at place.old).counts (P.at place.new).counts }
     ensures calls { Calls (Spawns P.child command.now) SpawnStops result
         (P.at place.old).counts (P.at place.new).counts }
 {
     match place.spawn(alloc, command) {
         Ok(ticket) => Ok(ticket),
-        Err(fault) => Err(started(fault)),
+        Err(fault) => Err(start_fault(fault)),
     }
 }
 
@@ -74,7 +74,7 @@ fn spawn_anew<P: Place>(
         (P.at place.new).world }
     ensures still { KeepsStillOutside (is_at_or_below out.now)
         (P.at place.old).counts.starts.flying (P.at place.old).still (P.at place.new).still }
-    ensures takes { (next : Option ℕ) → StepTakes StartsRise (MayBegin next) result
+    ensures takes { (next : Option ℕ) → StepTakes StartsRise (BeginFaults next) result
         (P.at place.old).counts (P.at place.new).counts }
     ensures calls { Calls (SpawnsAnew P.child command.now) (AnewEnds out.now) result
         (P.at place.old).counts (P.at place.new).counts }
@@ -124,7 +124,7 @@ pub(crate) fn launch<P: Place>(
         store.old.next store.new.next (P.at place.old).world (P.at place.new).world }
     ensures store { KeepsStore P.is_modelled result store.old store.new (P.at place.new) }
     ensures changes { ChangesUnit store.old.folder key.now None
-        (λ launched. StartsRise launched.ticket) (MayBegin store.old.next) result
+        (λ launched. StartsRise launched.ticket) (BeginFaults store.old.next) result
         (P.at place.old) (P.at place.new) }
     ensures calls { Calls (λ launched. Launches P.child command.now launched.ticket)
         (LaunchEnds (place_of store.old.folder key.now) out.now) result

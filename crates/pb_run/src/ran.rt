@@ -8,7 +8,7 @@ ghost use Rattle.std.specs.FinMap as finite;
 ghost use Rattle.pb_run.specs.Outcome.{judgement_by, outcome_by, directives_in};
 
 use pb_build_result::BadUnit;
-use pb_command::answered_at;
+use pb_command::check_reply_at;
 use pb_command_types::{CheckedReply, Project, UnitFault};
 use pb_data::{Bytes, Items};
 use pb_directive::Directives;
@@ -93,7 +93,7 @@ fn bad(
 /// dep-info file, if it has one. The place determines which paths the answer means.
 ///
 /// Errors: only out of memory.
-pub fn judged<P: Place>(
+pub fn judge_reply<P: Place>(
     alloc: Global,
     place: &P,
     project: &Project,
@@ -109,7 +109,7 @@ pub fn judged<P: Place>(
     ensures directives { IfOk result (λ judgement.
         directives_in (outcome_by finite.empty judgement.ran) ≡ judgement.ran.directives) }
 {
-    match answered_at(
+    match check_reply_at(
         alloc,
         place,
         project,

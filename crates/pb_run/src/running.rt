@@ -7,7 +7,7 @@ ghost use Rattle.pb_place_types.specs.World.{removed};
 ghost use Rattle.pb_run.specs.Running.{dep_info_looked, Calls, OneCall, RemovalEnds};
 ghost use Rattle.pb_run.specs.Steps.{MayFollow, MayRemove, StepChanges, StepLooks, StepMakes};
 
-use crate::faults::{StepFault, stored};
+use crate::faults::{StepFault, store_fault};
 use pb_data::Bytes;
 use pb_place_types::{PathText, Place};
 use std::alloc::Global;
@@ -28,7 +28,7 @@ pub(crate) fn empty<P: Place>(
 {
     match place.remove_tree(alloc, folder) {
         Ok(()) => Ok(()),
-        Err(fault) => Err(stored(fault)),
+        Err(fault) => Err(store_fault(fault)),
     }
 }
 
@@ -51,6 +51,6 @@ pub(crate) fn read_at<P: Place>(
     };
     match place.read(alloc, path) {
         Ok(found) => Ok(found),
-        Err(fault) => Err(stored(fault)),
+        Err(fault) => Err(store_fault(fault)),
     }
 }

@@ -10,7 +10,7 @@ ghost use Rattle.pb_place_types.specs.declared.child_in_flight.ChildInFlight.{Ch
 ghost use Rattle.pb_command_types.specs.Targets.{unit_at};
 ghost use Rattle.pb_command_types.specs.declared.project.Setup.{Setup};
 ghost use Rattle.pb_run.specs.Running.{DropsBuild, IsOf, Begins, BeginsBuild, BeginsUnit, ChangesUnit, Differs, FailsToBegin, KeepsStore, HasTold, RunsUnit, told_of};
-ghost use Rattle.pb_run.specs.Steps.{Drops, IsOfUnit, bare, MayBegin};
+ghost use Rattle.pb_run.specs.Steps.{Drops, IsOfUnit, bare, BeginFaults};
 ghost use Rattle.pb_run.specs.UnitSteps.{Premise, BuildContext, WritesTo, build_context, child_of};
 ghost use Rattle.pb_run.specs.Invariants.{IsInOrder, records_folder};
 ghost use Rattle.pb_store_soundness.specs.Records.{records};
@@ -18,8 +18,8 @@ ghost use Rattle.pb_store.specs.Folder.{HasNumbers};
 ghost use Rattle.pb_unit.specs.declared.plan.Planned.{Planned};
 
 use crate::begun::{Awaited, Begun};
-use crate::faults::{StepFault, named};
-use crate::landing::answered;
+use crate::faults::{StepFault, unit_fault};
+use crate::landing::answer_begun;
 use crate::launching::launch;
 use crate::ordered::OrderedProject;
 use crate::ran::Ran;
@@ -124,7 +124,7 @@ pub fn begin_unit<P: Place>(
     // change.
     ensures store { KeepsStore P.is_modelled (bare result) store.old store.new (P.at place.new) }
     ensures changes { ChangesUnit (records_folder project.now) unit.now.key None Begins
-        (MayBegin store.old.next) (bare result) (P.at place.old) (P.at place.new) }
+        (BeginFaults store.old.next) (bare result) (P.at place.old) (P.at place.new) }
 {
     project.is_in_order();
     // All memory is taken before the first call, so that each child in flight has its name.
@@ -141,7 +141,7 @@ pub fn begin_unit<P: Place>(
         Ok(compared) => compared,
         Err(fault) => {
             drop(command);
-            return Err(named(key.into_text(), StepFault::Store(fault)));
+            return Err(unit_fault(key.into_text(), StepFault::Store(fault)));
         }
     };
     let difference = match compared {
@@ -164,13 +164,13 @@ pub fn begin_unit<P: Place>(
         }),
         Err(fault) => {
             drop(command);
-            Err(named(key.into_text(), fault))
+            Err(unit_fault(key.into_text(), fault))
         }
     }
 }
 
 /// Returns the outcome of a unit, with its message lines and its difference.
-fn told(
+fn outcome_of(
     alloc: Global,
     project: &OrderedProject,
     unit: &Planned,
@@ -243,7 +243,7 @@ pub fn answer_unit<P: Place>(
         awaited,
     } = begun;
     let key = Key::new(name);
-    let answer = answered(
+    let answer = answer_begun(
         alloc, place, store, project, index, unit, &key, &command, &awaited,
     );
     drop(awaited);
@@ -252,10 +252,10 @@ pub fn answer_unit<P: Place>(
         Ok(ran) => ran,
         Err(fault) => {
             drop(difference);
-            return Err(named(key.into_text(), fault));
+            return Err(unit_fault(key.into_text(), fault));
         }
     };
-    match told(alloc, project, unit, difference, ran) {
+    match outcome_of(alloc, project, unit, difference, ran) {
         Ok(outcome) => Ok(outcome),
         Err(_) => Err(BuildFault::OutOfMemory),
     }

@@ -7,7 +7,7 @@ use Rattle.std.proofs.Math.Seq.{drop-cons}
 use Rattle.pb_run_flight.specs.declared.flight.State.{State}
 use Rattle.pb_run_flight.specs.declared.flight.State.TheVariants.{Untouched, Begun, Answered}
 use Rattle.pb_run_flight.specs.Table.{is_untouched, is_good_at, is_open}
-use Rattle.pb_run_flight.specs.Working.{IsFar, count_met, units_at, AreListed, AreKnown, IsKept}
+use Rattle.pb_run_flight.specs.Working.{IsFar, count_met, units_at, AreListed, AreKnown, IsStored}
 use Rattle.pb_run_flight.proofs.Lists.{index_set_same, index_set_other, length_set, map_same, is_among, contains_none, contains_cases, get_set_other}
 use Rattle.pb_run_flight.proofs.Meeting.{met_all, met_as, met_grows, met_fresh, good_begun, good_answered}
 use Rattle.pb_run_flight.proofs.Ending.{due_begun, count_grows}
@@ -81,8 +81,8 @@ module _ {F : Type 0} where
   pub known_all : (needs : List (List ℕ)) (states : List (State F)) (met : List ℕ) → length met ≡ length needs → AreKnown needs states [] met → met ≡ map (count_met states) needs
   known_all needs states met long known = map_from (count_met states) needs met long (λ u lt. elim (known.right u lt) [ inl e ↦ e | inr none ↦ absurd (contains_none u none) ])
 
-  module _ (needs needed_by : List (List ℕ)) (met : List ℕ) (reach : ℕ) (states : List (State F)) (given : ℕ) (kept : IsKept needs needed_by met reach states given) where
-    pub kept_begun : (u : ℕ) → slice_get states u ≡ Some Untouched → IsKept needs needed_by met reach (slice_set states u Begun) given
+  module _ (needs needed_by : List (List ℕ)) (met : List ℕ) (reach : ℕ) (states : List (State F)) (given : ℕ) (kept : IsStored needs needed_by met reach states given) where
+    pub kept_begun : (u : ℕ) → slice_get states u ≡ Some Untouched → IsStored needs needed_by met reach (slice_set states u Begun) given
     kept_begun u at = record {
       states_long = length_set states u Begun ∙ kept.states_long;
       lists_long = kept.lists_long;
@@ -105,7 +105,7 @@ module _ {F : Type 0} where
         counts : (v : ℕ) → v < length needs → slice_index met v ≡ count_met states (units_at needs v)
         counts v lt = ap (λ ms. slice_index ms v) kept.counted ∙ index_map (count_met states) needs v lt
 
-    pub kept_answered : (u : ℕ) (s : State F) (now : List ℕ) (further : ℕ) → slice_get states u ≡ Some Begun → now ≡ map (count_met (slice_set states u s)) needs → IsFar needs now further → IsKept needs needed_by now further (slice_set states u s) given
+    pub kept_answered : (u : ℕ) (s : State F) (now : List ℕ) (further : ℕ) → slice_get states u ≡ Some Begun → now ≡ map (count_met (slice_set states u s)) needs → IsFar needs now further → IsStored needs needed_by now further (slice_set states u s) given
     kept_answered u s now further at counted far = record {
       states_long = length_set states u s ∙ kept.states_long;
       lists_long = kept.lists_long;
@@ -126,7 +126,7 @@ module _ {F : Type 0} where
       subst (λ ns. AreKnown ns states' units' met) (sym e) (subst (λ ss. AreKnown needs ss units' met) (sym f) (subst (λ us. AreKnown needs states us met) (sym h) known))
 
   pub kept_fresh : (needs needed_by : List (List ℕ)) (met : List ℕ) (reach : ℕ) (states : List (State F)) → length needed_by ≡ length needs → AreListed needs (length needs) needed_by → met ≡ map (λ _. 0) needs → states ≡ map (λ _. Untouched) needs
-      → IsFar needs met reach → IsKept needs needed_by met reach states 0
+      → IsFar needs met reach → IsStored needs needed_by met reach states 0
   kept_fresh needs needed_by met reach states long listed none fresh far = record {
     states_long = length_all needs states fresh;
     lists_long = long;

@@ -31,7 +31,7 @@ pub record AreKnown {F : Type 0} (needs : List (List ℕ)) (states : List (State
 -- What the table stores. `needed_by` has the needs the other way round. `met` has the number of met
 -- needs of each unit. From `reach` on, no unit has all its needs met. No more has been handed out
 -- than is due.
-pub record IsKept {F : Type 0} (needs needed_by : List (List ℕ)) (met : List ℕ) (reach : ℕ) (states : List (State F)) (given : ℕ) : Type 0 where
+pub record IsStored {F : Type 0} (needs needed_by : List (List ℕ)) (met : List ℕ) (reach : ℕ) (states : List (State F)) (given : ℕ) : Type 0 where
   pub states_long : length states ≡ length needs
   pub lists_long : length needed_by ≡ length needs
   pub listed : AreListed needs (length needs) needed_by

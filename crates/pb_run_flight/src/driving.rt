@@ -90,7 +90,7 @@ fn tell<P, O, F: Drop, E, C: Executor<P, O, F, E>>(
 {
     let lines = match flight.emit(alloc) {
         Ok(lines) => lines,
-        Err(_) => return Err(crew.refused()),
+        Err(_) => return Err(crew.out_of_memory()),
     };
     match crew.tell(place, out, lines.as_slice()) {
         Ok(()) => Ok(()),
@@ -202,11 +202,11 @@ fn step<P, O, F: Drop, E, C: Executor<P, O, F, E>, T: Turn>(
 {
     let ready = match flight.ready(alloc) {
         Ok(ready) => ready,
-        Err(_) => return Err(crew.refused()),
+        Err(_) => return Err(crew.out_of_memory()),
     };
-    let flying = match crew.flying(alloc) {
+    let flying = match crew.in_flight(alloc) {
         Ok(flying) => flying,
-        Err(_) => return Err(crew.refused()),
+        Err(_) => return Err(crew.out_of_memory()),
     };
     match turn.turn(ready.as_slice(), flying.as_slice()) {
         Step::Begin(index) => {

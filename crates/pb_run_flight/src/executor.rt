@@ -36,7 +36,7 @@ pub trait Executor<P, O, F, E> {
     /// Returns the units in flight, in order of beginning.
     ///
     /// Errors: out of memory.
-    fn flying(&self, alloc: Global) -> Result<Vec<usize>, AllocError>
+    fn in_flight(&self, alloc: Global) -> Result<Vec<usize>, AllocError>
         ensures { IfOk result (λ units. units.items ≡ flying self.now) };
 
     /// Begins a unit, and returns whether a child was started for
@@ -122,7 +122,7 @@ pub trait Executor<P, O, F, E> {
             (Gave unit answer ∷ es)) };
 
     /// Returns the fault for out of memory.
-    fn refused(&self) -> E
+    fn out_of_memory(&self) -> E
         ensures { (first : Self) (first_place last_place : P) (first_out last_out : O)
             (es : List (Event F)) (given : ℕ)
             → story first first_place first_out self.now last_place last_out es given

@@ -45,13 +45,13 @@ pub struct Flight<F> {
 
 impl<F> Model for Flight<F> {
     ghost use Rattle.pb_run_flight.specs.Table.{Table};
-    ghost use Rattle.pb_run_flight.specs.Working.{IsKept};
+    ghost use Rattle.pb_run_flight.specs.Working.{IsStored};
 
     ghost Value = { Table F };
 
     ghost view = { λ a. record { needs = a.needs; states = a.states.items; given = a.given } };
 
-    ghost invariant = { λ a. IsKept a.needs a.needed_by.items a.met.items a.reach a.states.items a.given };
+    ghost invariant = { λ a. IsStored a.needs a.needed_by.items a.met.items a.reach a.states.items a.given };
 }
 
 /// Returns whether a unit has answered and is bad.

@@ -20,7 +20,7 @@ use Rattle.pb_store_soundness.proofs.Becoming.{one, none_some}
 use Rattle.pb_store_soundness.proofs.Places.{its_key, text_at}
 use Rattle.pb_store_soundness.proofs.Renewing.{reuse}
 use Rattle.pb_store.specs.Calls.{looked, MayWrite}
-use Rattle.pb_store.specs.Folder.{MigratesRecord, PutsRecord, Stands, HasNumbers, HasNeeds, MayPut, numbered, IsMigrated, lacks_number, migrated, migrated_by, numbered_record}
+use Rattle.pb_store.specs.Folder.{MigratesRecord, PutsRecord, IsAfterPut, HasNumbers, HasNeeds, MayPut, numbered, IsMigrated, lacks_number, migrated, migrated_by, numbered_record}
 use Rattle.pb_store.specs.declared.store.Store.{Store}
 use Rattle.pb_store.specs.declared.fault.StoreFault.{StoreFault}
 use Rattle.pb_store.proofs.Called.{no_look}
@@ -102,7 +102,7 @@ module _ (child : Answers) (key : List ℕ) (needs : List (List ℕ)) (old new :
         → IfErr result MayWrite → OnOk result (HasNumbers (records old.folder now) new.numbers) → MigratesRecord child key needs result old new before now
     renumbers result put may numbers = record {
       sound = λ judge c r m sound. put.sound judge number (migrated_may judge child old.folder key c needs number before kept path is (its judge c r m) sound) sound;
-      stands = subst (λ o. Stands result o there (records old.folder now key)) (sym gets) put.stands;
+      stands = subst (λ o. IsAfterPut result o there (records old.folder now key)) (sym gets) put.stands;
       ahead = λ judge c r m ahead. subst (IsAhead (records old.folder now)) (sym taken)
           (put.ahead (after number) (migrated_before judge child old.folder key c needs number before kept path is (its judge c r m))
           (given_ahead (records old.folder before) number (subst (IsAhead (records old.folder before)) was ahead)).0);

@@ -13,7 +13,7 @@ use Rattle.pb_place_types.proofs.TakenApart.{parts_lone}
 use Rattle.pb_place_types.proofs.Within.{at_itself}
 use Rattle.pb_place_types.proofs.Worlds.{written-read, removed-read}
 use Rattle.pb_record.specs.declared.record.Record.{Record}
-use Rattle.pb_record.specs.Parts.{Reads, Says, IsReading}
+use Rattle.pb_record.specs.Parts.{ReadsAs, Says, FindsAsReading}
 use Rattle.pb_record.proofs.LawLemmas.{one_reading, first_parts}
 use Rattle.pb_store_soundness.specs.Grounded.{RecordMap}
 use Rattle.pb_store_soundness.specs.Numbers.{IsAhead, NamesBefore, after}
@@ -34,21 +34,21 @@ record_relative key is =
     ap (list_all is_name) (parts_lone (key ++ codes ".record") (record_plain key (key_facts key is).plain)) ∙ ap (λ b. b && true) (record_named key (key_facts key is).named)
 
 -- what is read of a text is its reading
-pub read_as : (read : RecordParser) (text : List ℕ) (found : Option Record) → IsReading read → Reads text found → found ≡ read text
+pub read_as : (read : RecordParser) (text : List ℕ) (found : Option Record) → FindsAsReading read → ReadsAs text found → found ≡ read text
 read_as read text found is reads = one_reading text found (read text) reads (is text)
 
-pub read_as_some : (read : RecordParser) (o : Option (List ℕ)) (text passed : List ℕ) (found : Option Record) → IsReading read → o ≡ Some text → passed ≡ text → Reads passed found → found ≡ read_text read o
+pub read_as_some : (read : RecordParser) (o : Option (List ℕ)) (text passed : List ℕ) (found : Option Record) → FindsAsReading read → o ≡ Some text → passed ≡ text → ReadsAs passed found → found ≡ read_text read o
 read_as_some read o text passed found is there given reads = read_as read passed found is reads ∙ ap read given ∙ sym (ap (read_text read) there)
 
 -- the text of a record is read as it, and a first part of it as nothing else
-pub says_read : (read : RecordParser) (text : List ℕ) (r : Record) → IsReading read → Says text r → read text ≡ Some r
+pub says_read : (read : RecordParser) (text : List ℕ) (r : Record) → FindsAsReading read → Says text r → read text ≡ Some r
 says_read read text r is says = (is text r).1 says
 
 part_short : (text : List ℕ) (r s : Record) (n : ℕ) → Says text r → n < length text → Says (take n text) s → ⊥
 part_short text r s n says less part =
     first_parts n r s (subst (λ t. n < length t) says.same less) (subst (λ t. Says (take n t) s) says.same part)
 
-pub says_parts : (read : RecordParser) (text : List ℕ) (r : Record) → IsReading read → Says text r → (n : ℕ) (s : Record) → read (take n text) ≡ Some s → s ≡ r
+pub says_parts : (read : RecordParser) (text : List ℕ) (r : Record) → FindsAsReading read → Says text r → (n : ℕ) (s : Record) → read (take n text) ≡ Some s → s ≡ r
 says_parts read text r is says n s reads = elim (cases_lt n (length text)) [
   | inl less ↦ absurd (part_short text r s n says less ((is (take n text) s).0 reads))
   | inr whole ↦ one s r (sym reads ∙ ap read (take_all n text whole) ∙ says_read read text r is says)
@@ -161,12 +161,12 @@ module _ (read : RecordParser) (judge : Judge) (child : Answers) (folder key : L
   pub partly_sound_at : (p : List ℕ) (old new : World) → PartlyRemoved p old new → p ≡ place_of folder key → Sound read judge child folder old.files → Sound read judge child folder new.files
   partly_sound_at p old new partly at sound = partly_sound old new (subst (λ x. PartlyRemoved x old new) at partly) sound
 
-  pub written_sound_at : (p passed text : List ℕ) (old new : World) (r : Record) (number : ℕ) → new ≡ written p passed old → p ≡ place_of folder key → passed ≡ text → IsReading read → Says text r → MayPut read judge child folder key old r number
+  pub written_sound_at : (p passed text : List ℕ) (old new : World) (r : Record) (number : ℕ) → new ≡ written p passed old → p ≡ place_of folder key → passed ≡ text → FindsAsReading read → Says text r → MayPut read judge child folder key old r number
       → Sound read judge child folder old.files → Sound read judge child folder new.files
   written_sound_at p passed text old new r number same at given reading says may sound =
       written_sound old new r number text may (same ∙ ap (λ x. written x passed old) at ∙ ap (λ x. written (place_of folder key) x old) given) (says_read read text r reading says) sound
 
-  pub torn_sound_at : (p passed text : List ℕ) (old new : World) (r : Record) (number : ℕ) → Torn p passed old new → p ≡ place_of folder key → passed ≡ text → IsReading read → Says text r → MayPut read judge child folder key old r number
+  pub torn_sound_at : (p passed text : List ℕ) (old new : World) (r : Record) (number : ℕ) → Torn p passed old new → p ≡ place_of folder key → passed ≡ text → FindsAsReading read → Says text r → MayPut read judge child folder key old r number
       → Sound read judge child folder old.files → Sound read judge child folder new.files
   torn_sound_at p passed text old new r number torn at given reading says may sound =
       torn_sound old new r number text may (subst (λ x. Torn (place_of folder key) x old new) given (subst (λ x. Torn x passed old new) at torn)) (says_parts read text r reading says) sound
@@ -176,7 +176,7 @@ module _ (read : RecordParser) (folder key : List ℕ) (is : is_key key ≡ true
   removed_gone_at p old new same at = none_there read folder new.files key is
       (removed-read (place_of folder key) (place_of folder key) old new (same ∙ ap (λ x. removed x old) at) ∙ ap (λ b. cond (not b) (get old.files (place_of folder key)) None) (at_itself (place_of folder key) (place_of folder key) refl))
 
-  pub written_there_at : (p passed text : List ℕ) (old new : World) (r : Record) → new ≡ written p passed old → p ≡ place_of folder key → passed ≡ text → IsReading read → Says text r → r.key ≡ key → record_at read folder new.files key ≡ Some r
+  pub written_there_at : (p passed text : List ℕ) (old new : World) (r : Record) → new ≡ written p passed old → p ≡ place_of folder key → passed ≡ text → FindsAsReading read → Says text r → r.key ≡ key → record_at read folder new.files key ≡ Some r
   written_there_at p passed text old new r same at given reading says its =
       read_there read folder new.files key text r is (written-read (place_of folder key) text old new (same ∙ ap (λ x. written x passed old) at ∙ ap (λ x. written (place_of folder key) x old) given)) (says_read read text r reading says) its
 
@@ -199,14 +199,14 @@ module _ (read : RecordParser) (folder key : List ℕ) (next : Option ℕ) (path
   text_ahead old new r text before only at only_one = place_ahead read folder key next path is old new only
       (inr (inr (λ s there. text_before new r s text (read text) before at refl only_one (sym (text_at read folder new key (Some text) is at) ∙ there))))
 
-  pub written_ahead_at : (p passed text : List ℕ) (old new : World) (r : Record) → new ≡ written p passed old → p ≡ place_of folder key → passed ≡ text → IsReading read → Says text r → NamesBefore next r
+  pub written_ahead_at : (p passed text : List ℕ) (old new : World) (r : Record) → new ≡ written p passed old → p ≡ place_of folder key → passed ≡ text → FindsAsReading read → Says text r → NamesBefore next r
       → IsAhead (record_at read folder old.files) next → IsAhead (record_at read folder new.files) next
   written_ahead_at p passed text old new r same at given reading says before =
       let there = same ∙ ap (λ x. written x passed old) at ∙ ap (λ x. written (place_of folder key) x old) given in
       text_ahead old.files new.files r text before (only_written (place_of folder key) (place_of folder key) text old new (at_itself (place_of folder key) (place_of folder key) refl) there).files
       (written-read (place_of folder key) text old new there) (λ t reads. one t r (sym reads ∙ says_read read text r reading says))
 
-  torn_ahead : (text : List ℕ) (old new : World) (r : Record) → Torn (place_of folder key) text old new → IsReading read → Says text r → NamesBefore next r
+  torn_ahead : (text : List ℕ) (old new : World) (r : Record) → Torn (place_of folder key) text old new → FindsAsReading read → Says text r → NamesBefore next r
       → IsAhead (record_at read folder old.files) next → IsAhead (record_at read folder new.files) next
   torn_ahead text old new r torn reading says before =
       let only = (only_torn (place_of folder key) (place_of folder key) text old new (at_itself (place_of folder key) (place_of folder key) refl) torn).files in
@@ -218,7 +218,7 @@ module _ (read : RecordParser) (folder key : List ℕ) (next : Option ℕ) (path
         ]
       ]
 
-  pub torn_ahead_at : (p passed text : List ℕ) (old new : World) (r : Record) → Torn p passed old new → p ≡ place_of folder key → passed ≡ text → IsReading read → Says text r → NamesBefore next r
+  pub torn_ahead_at : (p passed text : List ℕ) (old new : World) (r : Record) → Torn p passed old new → p ≡ place_of folder key → passed ≡ text → FindsAsReading read → Says text r → NamesBefore next r
       → IsAhead (record_at read folder old.files) next → IsAhead (record_at read folder new.files) next
   torn_ahead_at p passed text old new r torn at given = torn_ahead text old new r (subst (λ x. Torn (place_of folder key) x old new) given (subst (λ x. Torn x passed old new) at torn))
 
@@ -234,7 +234,7 @@ module _ (read : RecordParser) (folder key : List ℕ) (is : is_key key ≡ true
   part_left m before r part None at reads parts its = inl (unread_there read folder m key part is at reads)
   part_left m before r part (Some s) at reads parts its = inr (inr (read_there read folder m key part r is at (reads ∙ ap Some (parts s reads)) its))
 
-  torn_left : (text : List ℕ) (old new : World) (r : Record) → Torn (place_of folder key) text old new → IsReading read → Says text r → r.key ≡ key → Leaves (Some r) (record_at read folder old.files key) (record_at read folder new.files key)
+  torn_left : (text : List ℕ) (old new : World) (r : Record) → Torn (place_of folder key) text old new → FindsAsReading read → Says text r → r.key ≡ key → Leaves (Some r) (record_at read folder old.files key) (record_at read folder new.files key)
   torn_left text old new r torn reading says its = elim torn.files.there [
     | inl same ↦ inr (inl (record_same read folder old.files new.files key same))
     | inr other ↦ elim other [
@@ -243,7 +243,7 @@ module _ (read : RecordParser) (folder key : List ℕ) (is : is_key key ≡ true
     ]
   ]
 
-  pub torn_left_at : (p passed text : List ℕ) (old new : World) (r : Record) → Torn p passed old new → p ≡ place_of folder key → passed ≡ text → IsReading read → Says text r → r.key ≡ key → Leaves (Some r) (record_at read folder old.files key) (record_at read folder new.files key)
+  pub torn_left_at : (p passed text : List ℕ) (old new : World) (r : Record) → Torn p passed old new → p ≡ place_of folder key → passed ≡ text → FindsAsReading read → Says text r → r.key ≡ key → Leaves (Some r) (record_at read folder old.files key) (record_at read folder new.files key)
   torn_left_at p passed text old new r torn at given = torn_left text old new r (subst (λ x. Torn (place_of folder key) x old new) given (subst (λ x. Torn x passed old new) at torn))
 
 -- where the number is given after what was done, and the one after it is the next

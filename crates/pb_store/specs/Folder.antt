@@ -188,14 +188,14 @@ IsGiven number old new = (old ≡ Some number) × (new ≡ after number)
 
 -- The record of a unit after a call that was to put `put` there. After a success it is `put`. After
 -- a fault it is none, the old record, or `put`.
-abbrev pub Stands : {T : Type 0} → Result T StoreFault → Option Record → Option Record → Option Record → Type 0
-Stands result put old new = MatchResult result (λ x. new ≡ put) (λ e. Leaves put old new)
+abbrev pub IsAfterPut : {T : Type 0} → Result T StoreFault → Option Record → Option Record → Option Record → Type 0
+IsAfterPut result put old new = MatchResult result (λ x. new ≡ put) (λ e. Leaves put old new)
 
 -- What removing a record guarantees. The folder stays sound, and no record counts for the key after
 -- a success. A number above all others stays above them.
 pub record RemovesRecord (child : Answers) (folder key : List ℕ) (result : Result Unit StoreFault) (old new : World) : Type 0 where
   pub sound : (judge : Judge) → Sound reading judge child folder old.files → Sound reading judge child folder new.files
-  pub stands : Stands result None (records folder old key) (records folder new key)
+  pub stands : IsAfterPut result None (records folder old key) (records folder new key)
   pub ahead : (next : Option ℕ) → IsAhead (records folder old) next → IsAhead (records folder new) next
 
 -- What dropping a record guarantees. The folder stays sound, and no record counts for the key after
@@ -203,7 +203,7 @@ pub record RemovesRecord (child : Answers) (folder key : List ℕ) (result : Res
 -- the records.
 pub record DropsRecord (child : Answers) (key : List ℕ) (result : Result ℕ StoreFault) (old new : Store) (before now : World) : Type 0 where
   pub sound : (judge : Judge) → Sound reading judge child old.folder before.files → Sound reading judge child old.folder now.files
-  pub stands : Stands result None (records old.folder before key) (records old.folder now key)
+  pub stands : IsAfterPut result None (records old.folder before key) (records old.folder now key)
   pub ahead : IsAhead (records old.folder before) old.next → IsAhead (records old.folder now) new.next
   pub numbers : OnOk result (HasNumbers (records old.folder now) new.numbers)
   pub spent : old.next ≡ None → now ≡ before
@@ -213,7 +213,7 @@ pub record DropsRecord (child : Answers) (key : List ℕ) (result : Result ℕ S
 -- names only lower numbers.
 pub record PutsRecord (child : Answers) (folder key : List ℕ) (r : Record) (result : Result Unit StoreFault) (old new : World) : Type 0 where
   pub sound : (judge : Judge) (number : ℕ) → MayPut reading judge child folder key old r number → Sound reading judge child folder old.files → Sound reading judge child folder new.files
-  pub stands : Stands result (Some r) (records folder old key) (records folder new key)
+  pub stands : IsAfterPut result (Some r) (records folder old key) (records folder new key)
   pub ahead : (next : Option ℕ) → NamesBefore next r → IsAhead (records folder old) next → IsAhead (records folder new) next
 
 -- What keeping a record guarantees. If `IsKept` is true, the folder stays sound. If `number` was
@@ -221,7 +221,7 @@ pub record PutsRecord (child : Answers) (folder key : List ℕ) (r : Record) (re
 -- After a success the store has the numbers of the records. If a look failed, nothing has changed.
 pub record KeepsRecord (child : Answers) (key : List ℕ) (c : Command) (needs : List (List ℕ)) (names : List InputName) (ended : Ended) (number : ℕ) (result : Result Unit StoreFault) (old new : Store) (before now : World) : Type 0 where
   pub sound : (judge : Judge) → IsKept judge child old.folder key c needs names ended number before → Sound reading judge child old.folder before.files → Sound reading judge child old.folder now.files
-  pub stands : Stands result (Some (kept_of old.folder key c (map (input_in c.target before) names) number (numbered (records old.folder before) needs) ended)) (records old.folder before key) (records old.folder now key)
+  pub stands : IsAfterPut result (Some (kept_of old.folder key c (map (input_in c.target before) names) number (numbered (records old.folder before) needs) ended)) (records old.folder before key) (records old.folder now key)
   pub ahead : IsBefore old.next number → HasNeeds (records old.folder before) old.folder c.reads needs number → IsAhead (records old.folder before) old.next → IsAhead (records old.folder now) old.next
   pub numbers : OnOk result (HasNumbers (records old.folder now) new.numbers)
   pub looked : IfErr result (λ e. looked e ≡ true → now ≡ before)
@@ -231,7 +231,7 @@ pub record KeepsRecord (child : Answers) (key : List ℕ) (c : Command) (needs :
 -- others. After a success the store has the numbers of the records.
 pub record MigratesRecord (child : Answers) (key : List ℕ) (needs : List (List ℕ)) (result : Result Unit StoreFault) (old new : Store) (before now : World) : Type 0 where
   pub sound : (judge : Judge) (c : Command) (r : Record) → ((number : ℕ) → old.next ≡ Some number → IsMigrated judge child old.folder key c needs number before r) → Sound reading judge child old.folder before.files → Sound reading judge child old.folder now.files
-  pub stands : Stands result (migrated old.next (numbered (records old.folder before) needs) (records old.folder before key)) (records old.folder before key) (records old.folder now key)
+  pub stands : IsAfterPut result (migrated old.next (numbered (records old.folder before) needs) (records old.folder before key)) (records old.folder before key) (records old.folder now key)
   pub ahead : (judge : Judge) (c : Command) (r : Record) → ((number : ℕ) → old.next ≡ Some number → IsMigrated judge child old.folder key c needs number before r) → IsAhead (records old.folder before) old.next → IsAhead (records old.folder now) new.next
   pub numbers : OnOk result (HasNumbers (records old.folder now) new.numbers)
   -- a number is taken only for a record that counts and has no number

@@ -9,7 +9,7 @@ ghost use Rattle.pb_store_soundness.specs.Records.{place_of, records};
 ghost use Rattle.pb_store.specs.Calls.{CallsOnce, ChangesOnlyAt, MayRemove, MayDrop};
 ghost use Rattle.pb_store.specs.Folder.{DropsRecord, IsGiven, RemovesRecord, HasNumbers};
 
-use crate::fault::{StoreFault, stored};
+use crate::fault::{StoreFault, store_error};
 use crate::keys::Key;
 use crate::numbers::note;
 use crate::store::{Store, place_path};
@@ -40,7 +40,7 @@ fn remove<P: Place>(alloc: Global, place: &mut P, path: &PathText) -> Result<(),
 {
     match place.remove_tree(alloc, path) {
         Ok(()) => Ok(()),
-        Err(fault) => Err(stored(fault)),
+        Err(fault) => Err(store_error(fault)),
     }
 }
 

@@ -22,7 +22,7 @@ pub enum StoreFault {
 }
 
 /// Returns the fault of a call of the place as one of the store. Out of memory stays out of memory.
-pub(crate) fn stored(fault: PlaceFault) -> StoreFault
+pub(crate) fn store_error(fault: PlaceFault) -> StoreFault
     ensures { result ≡ stored fault }
 {
     match fault {
@@ -45,7 +45,7 @@ pub enum OpenFault {
 
 /// Returns the fault of a call of the place on this path as one of opening. Out of memory stays out
 /// of memory.
-pub(crate) fn opened(path: PathText, fault: PlaceFault) -> OpenFault
+pub(crate) fn open_error(path: PathText, fault: PlaceFault) -> OpenFault
     ensures { result ≡ opened path fault }
 {
     match fault {

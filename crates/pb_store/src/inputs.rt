@@ -12,7 +12,7 @@ ghost use Rattle.pb_store.specs.Calls.{OnlyLooks, MayRead, MayLook};
 ghost use Rattle.pb_store.specs.Looking.{Looks, name_looked, names_looked, source_looked};
 ghost use Rattle.pb_store.specs.Presence.{file_in, file_looked, files_looked};
 
-use crate::fault::{StoreFault, stored};
+use crate::fault::{StoreFault, store_error};
 use crate::store::text_of;
 use pb_data::{Bytes, Items, Text, TryCopy};
 use pb_place_types::{PathText, Place, RelativePath};
@@ -115,7 +115,7 @@ pub(crate) fn paths_outside<P: Place>(
 {
     match place.list_outside(alloc, folder, target) {
         Ok(paths) => Ok(paths),
-        Err(fault) => Err(stored(fault)),
+        Err(fault) => Err(store_error(fault)),
     }
 }
 
@@ -134,7 +134,7 @@ pub(crate) fn paths_below<P: Place>(
 {
     match place.list(alloc, folder) {
         Ok(paths) => Ok(paths),
-        Err(fault) => Err(stored(fault)),
+        Err(fault) => Err(store_error(fault)),
     }
 }
 
@@ -178,7 +178,7 @@ pub(crate) fn text_in<P: Place>(
 {
     match place.variable(alloc, name.as_str()) {
         Ok(found) => Ok(found),
-        Err(fault) => Err(stored(fault)),
+        Err(fault) => Err(store_error(fault)),
     }
 }
 

@@ -15,10 +15,10 @@ ghost use Rattle.pb_store.specs.Looking.{Looks, kept_called, names_looked};
 ghost use Rattle.pb_record.specs.Commands.{of_parts};
 ghost use Rattle.pb_record.specs.Sorted.{are_sorted};
 
-use crate::fault::{StoreFault, stored};
+use crate::fault::{StoreFault, store_error};
 use crate::inputs::present;
 use crate::keys::Key;
-use crate::numbers::{note, numbered};
+use crate::numbers::{note, with_numbers};
 use crate::store::{Store, place_path};
 use pb_data::{Bytes, Items, Table, Text, TryCopy, with_next};
 use pb_place_types::{Command, Ended, PathText, Place};
@@ -53,7 +53,7 @@ fn write<P: Place>(
 {
     match place.write_pieces(alloc, path, pieces) {
         Ok(()) => Ok(()),
-        Err(fault) => Err(stored(fault)),
+        Err(fault) => Err(store_error(fault)),
     }
 }
 
@@ -190,7 +190,7 @@ fn kept_now<P: Place>(
 {
     // The values are read before the write, so that the record contains the present values.
     let inputs = present(alloc, place, &command.target, names)?;
-    let numbers = match numbered(alloc, numbers, needs) {
+    let numbers = match with_numbers(alloc, numbers, needs) {
         Ok(numbers) => numbers,
         Err(_) => return Err(StoreFault::OutOfMemory),
     };

@@ -12,7 +12,7 @@ use crate::dropping::number_after;
 use crate::fault::StoreFault;
 use crate::keeping::{number_of, put_record};
 use crate::keys::Key;
-use crate::numbers::{note, numbered};
+use crate::numbers::{note, with_numbers};
 use crate::store::{Store, record_at};
 use pb_data::{Items, Text};
 use pb_place_types::Place;
@@ -69,7 +69,7 @@ impl Store {
             }
             Some(number) => number,
         };
-        let numbers = match numbered(alloc, &self.numbers, needs) {
+        let numbers = match with_numbers(alloc, &self.numbers, needs) {
             Ok(numbers) => numbers,
             Err(_) => {
                 drop(kept);

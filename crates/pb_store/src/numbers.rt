@@ -86,7 +86,7 @@ fn numbered_one(
 }
 
 /// Returns the needed units with their numbers from a table.
-pub(crate) fn numbered(
+pub(crate) fn with_numbers(
     alloc: Global,
     numbers: &Table<Option<u64>>,
     needs: &[Text],

@@ -12,7 +12,7 @@ ghost use Rattle.pb_store.specs.Folder.{OpensStore, greatest_if, greatest_at, gr
 ghost use Rattle.pb_store.specs.Presence.{greatest_said, greatest_told, noted, noted_at};
 
 use crate::dropping::number_after;
-use crate::fault::{OpenFault, opened};
+use crate::fault::{OpenFault, open_error};
 use crate::keys::ends_as_record;
 use crate::numbers::note_read;
 use crate::store::Store;
@@ -102,7 +102,7 @@ fn read_greatest<P: Place>(
 {
     let text = match place.read(alloc, &path) {
         Ok(text) => text,
-        Err(fault) => return Err(opened(path, fault)),
+        Err(fault) => return Err(open_error(path, fault)),
     };
     let found = match numbers_in(alloc, &text) {
         Ok(found) => found,
@@ -201,7 +201,7 @@ impl Store {
     {
         let paths = match place.list_directly(alloc, &folder) {
             Ok(paths) => paths,
-            Err(fault) => return Err(opened(folder, fault)),
+            Err(fault) => return Err(open_error(folder, fault)),
         };
         let mut numbers = Table::new(alloc);
         match greatest_of(alloc, place, &folder, &mut numbers, paths) {

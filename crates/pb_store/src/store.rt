@@ -7,7 +7,7 @@ ghost use Rattle.pb_store_soundness.specs.Records.{place_of, read_text, if_of_ke
 ghost use Rattle.pb_store.specs.Calls.{OnlyLooks, MayRead};
 ghost use Rattle.pb_store.specs.Looking.{Looks};
 
-use crate::fault::{StoreFault, stored};
+use crate::fault::{StoreFault, store_error};
 use crate::keys::Key;
 use pb_data::{Bytes, Table};
 use pb_place_types::{PathText, Place, RelativePath};
@@ -59,7 +59,7 @@ pub(crate) fn text_of<P: Place>(
 {
     match place.read(alloc, path) {
         Ok(found) => Ok(found),
-        Err(fault) => Err(stored(fault)),
+        Err(fault) => Err(store_error(fault)),
     }
 }
 

@@ -1,6 +1,6 @@
 //! Laws of soundness. Each function does nothing; its contract is the law.
 
-ghost use Rattle.pb_record.specs.Parts.{IsReading};
+ghost use Rattle.pb_record.specs.Parts.{FindsAsReading};
 ghost use Rattle.pb_store_soundness.specs.Apart.{OthersLaw};
 ghost use Rattle.pb_store_soundness.specs.Records.{reading};
 ghost use Rattle.pb_store_soundness.specs.Laws.{StaysSound, OutsideLaw, InOutputLaw, WithoutRecordLaw, PutLaw};
@@ -48,5 +48,5 @@ pub fn numbers_stay_ahead()
 /// `reading`, with which records are read from their files, returns the record of each text, or
 /// none. By `texts_have_one_reading` of `pb_record` it is the only function that does.
 pub fn records_have_a_reading()
-    ensures { IsReading reading }
+    ensures { FindsAsReading reading }
 {}

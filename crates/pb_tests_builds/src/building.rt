@@ -45,7 +45,7 @@ fn result_of<P: Place>(
 }
 
 /// Lines, and a last one.
-pub fn joined(alloc: Global, lines: &[u8], last: &str) -> Result<String, AllocError> {
+pub fn join_lines(alloc: Global, lines: &[u8], last: &str) -> Result<String, AllocError> {
     let mut said = Shown::new(alloc);
     said.put(&[str::from_utf8(lines).unwrap_or(""), last]);
     said.whole()
@@ -58,11 +58,11 @@ fn said_by<P: Place>(alloc: Global, place: &mut P, options: &Options) -> Result<
 {
     let mut out = Vec::new(alloc);
     let line = result_of(alloc, place, &mut out, options)?;
-    joined(alloc, out.as_slice(), line.as_str())
+    join_lines(alloc, out.as_slice(), line.as_str())
 }
 
 /// What a build with this number of jobs writes, and then its result line.
-pub fn built<P: Place>(alloc: Global, place: &mut P, jobs: u64) -> Result<String, Fail>
+pub fn build_text<P: Place>(alloc: Global, place: &mut P, jobs: u64) -> Result<String, Fail>
     requires none { (P.at place.old).counts.starts.flying ≡ [] }
     ensures landed { (P.at place.new).counts.starts.flying ≡ [] }
 {

@@ -3,7 +3,7 @@
 ghost use Rattle.std.specs.Prelude.{◌≡◌, []};
 ghost use Rattle.pb_place.specs.Memory.{counts_in};
 
-use crate::building::{afresh, built, last_line, lines_but_last};
+use crate::building::{afresh, build_text, last_line, lines_but_last};
 use crate::old::OLD_FOLDER;
 use pb_mini::Mini;
 use pb_place::Memory;
@@ -56,7 +56,7 @@ fn prepare(alloc: Global, place: &mut Memory<Mini>, trial: &Trial) -> Result<(),
     put_files(alloc, place, trial.files)?;
     put_files(alloc, place, trial.target)?;
     if trial.is_built {
-        built(alloc, place, trial.jobs)?;
+        build_text(alloc, place, trial.jobs)?;
     }
     put_files(alloc, place, trial.edit)?;
     Ok(())
@@ -152,7 +152,7 @@ fn fail_at(
     ensures landed { (counts_in place.new).starts.flying ≡ [] }
 {
     place.fuse(number);
-    let said = built(alloc, place, jobs)?;
+    let said = build_text(alloc, place, jobs)?;
     place.fuse(0);
     let is_failed = place.failures() > 0;
     if is_failed {
@@ -179,11 +179,11 @@ fn build_again(
     requires none { (counts_in place.old).starts.flying ≡ [] }
     ensures landed { (counts_in place.new).starts.flying ≡ [] }
 {
-    let next = built(alloc, place, jobs)?;
+    let next = build_text(alloc, place, jobs)?;
     if !is_whole(alloc, whole, next.as_str())? {
         told.put(&["wrong afterwards, "]);
     }
-    let last = built(alloc, place, jobs)?;
+    let last = build_text(alloc, place, jobs)?;
     if !is_whole(alloc, whole, last.as_str())? || last_line(last.as_str()) != "ok started=-" {
         told.put(&["wrong at last, "]);
     }
@@ -215,7 +215,7 @@ fn whole_in(alloc: Global, place: &mut Memory<Mini>, trial: &Trial) -> Result<St
 {
     put_files(alloc, place, trial.files)?;
     put_files(alloc, place, trial.edit)?;
-    built(alloc, place, 1)
+    build_text(alloc, place, 1)
 }
 
 /// The same report, in a fresh place.

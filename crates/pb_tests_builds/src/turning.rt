@@ -4,7 +4,7 @@
 ghost use Rattle.std.specs.Prelude.{◌≡◌, []};
 ghost use Rattle.pb_place.specs.Memory.{counts_in};
 
-use crate::building::{afresh, built, joined, last_line, lines_but_last, options};
+use crate::building::{afresh, build_text, join_lines, last_line, lines_but_last, options};
 use pb_build::build_turns;
 use pb_build_result::result_line;
 use pb_mini::Mini;
@@ -66,7 +66,7 @@ fn said_in_turn(
 {
     let mut out = Vec::new(alloc);
     let line = result_in_turn(alloc, place, &mut out, options, turn)?;
-    joined(alloc, out.as_slice(), line.as_str())
+    join_lines(alloc, out.as_slice(), line.as_str())
 }
 
 /// The same, for the workspace at `/w`.
@@ -101,7 +101,7 @@ fn whole_in(alloc: Global, place: &mut Memory<Mini>, files: &str) -> Result<Stri
     requires none { (counts_in place.old).starts.flying ≡ [] }
 {
     put_files(alloc, place, files)?;
-    built(alloc, place, 1)
+    build_text(alloc, place, 1)
 }
 
 /// The same in a fresh place.

@@ -92,8 +92,8 @@ impl<C: Child> Place for Untold<C> {
         self.inside.finish(alloc, ticket)
     }
 
-    fn moved(&self) -> &[Moved] {
-        self.inside.moved()
+    fn moved_paths(&self) -> &[Moved] {
+        self.inside.moved_paths()
     }
 
     fn files_have_paths(&self) {}

@@ -18,7 +18,7 @@ pub const CHANGES: &str = "write /a one -> done\n\
      read /c -> five";
 
 /// Names and values, a space after each pair.
-fn told(alloc: Global, pairs: &[(Text, Text)]) -> Result<String, AllocError> {
+fn pairs_text(alloc: Global, pairs: &[(Text, Text)]) -> Result<String, AllocError> {
     let mut text = String::new(alloc);
     for (name, value) in pairs {
         text.push_str(name.as_str())?;
@@ -58,7 +58,7 @@ fn pairs(alloc: Global) -> Result<Items<(Text, Text)>, AllocError> {
 /// Whether these are all variables, in their order.
 fn are(alloc: Global, wanted: &str) -> Result<bool, Fail> {
     let pairs = pairs(alloc)?;
-    let told = told(alloc, pairs.as_slice())?;
+    let told = pairs_text(alloc, pairs.as_slice())?;
     Ok(told.as_str() == wanted)
 }
 

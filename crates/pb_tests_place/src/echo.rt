@@ -50,7 +50,7 @@ fn leave(
 }
 
 /// What the child leaves, which sees this file and this variable.
-fn left(
+fn files_left(
     alloc: Global,
     file: &Bytes,
     value: &Bytes,
@@ -83,7 +83,7 @@ impl Child for Echo {
     ) -> Result<Reply, ViewFault> {
         let stdout = bytes_of(alloc, view.file(alloc, &command.folder)?)?;
         let stderr = text_of(alloc, view.variable(alloc, command.program.as_str())?)?;
-        let files = left(alloc, &stdout, &stderr)?;
+        let files = files_left(alloc, &stdout, &stderr)?;
         Ok(Reply {
             status: 7,
             stdout,

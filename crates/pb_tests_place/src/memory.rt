@@ -7,7 +7,7 @@ use crate::calls::CHANGES;
 use crate::echo::{Echo, say};
 use crate::flights::{DEATHS, FLIGHTS, FUSES, HALVES, ORDERS, STARTS_OF_TWO_CALLS, THREE_FILES};
 use crate::told::{
-    self, Step, compare, done, end_text, file_text, numbers, path_in, said, step_of,
+    self, Step, answer_of, compare, done_or_fault, end_text, file_text, numbers, path_in, step_of,
 };
 use pb_place::{Memory, Seen};
 use pb_place_types::{PathText, Place, StartFault};
@@ -71,7 +71,7 @@ fn ticket_text(alloc: Global, answer: Result<u64, StartFault>) -> Result<String,
 fn begin<P: Place>(alloc: Global, place: &mut P, step: &Step) -> Result<String, Fail> {
     let command = say(alloc, step.name, step.text)?;
     let text = if step.call == "start" {
-        said(alloc, place, &command)
+        answer_of(alloc, place, &command)
     } else {
         ticket_text(alloc, place.spawn(alloc, &command))
     };
@@ -80,14 +80,14 @@ fn begin<P: Place>(alloc: Global, place: &mut P, step: &Step) -> Result<String, 
 }
 
 /// Edits a place, and reports that it is done.
-fn edited(
+fn edit_place(
     alloc: Global,
     memory: &mut Memory<Echo>,
     step: &Step,
     path: &PathText,
 ) -> Result<String, Fail> {
     edit(alloc, memory, step, path)?;
-    Ok(done(alloc, Ok(()))?)
+    Ok(done_or_fault(alloc, Ok(()))?)
 }
 
 /// The text of the file at a path, as no call of the place tells it.
@@ -116,7 +116,7 @@ fn answer(
 ) -> Result<String, Fail> {
     match step.call {
         "put" | "forget" | "set" | "unset" | "die" | "fuse" => {
-            edited(alloc, &mut place.place, step, paths.0)
+            edit_place(alloc, &mut place.place, step, paths.0)
         }
         "file" => file_at(alloc, &place.place, paths.0),
         "finish" => finish(alloc, &mut place.place, step.name),

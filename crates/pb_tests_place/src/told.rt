@@ -80,7 +80,7 @@ fn names(alloc: Global, root: &str, paths: &[PathText]) -> Result<String, AllocE
 }
 
 /// The names that are listed, or the fault.
-fn listed(
+fn names_or_fault(
     alloc: Global,
     root: &str,
     answer: Result<Items<PathText>, PlaceFault>,
@@ -102,7 +102,7 @@ fn truth(alloc: Global, answer: Result<bool, PlaceFault>) -> Result<String, Allo
 }
 
 /// `done`, or the fault.
-pub fn done(alloc: Global, answer: Result<(), PlaceFault>) -> Result<String, AllocError> {
+pub fn done_or_fault(alloc: Global, answer: Result<(), PlaceFault>) -> Result<String, AllocError> {
     match answer {
         Ok(()) => String::from_str(alloc, "done"),
         Err(fault) => fault_text(alloc, fault),
@@ -147,7 +147,7 @@ fn write_pieces<P: Place>(
     step: &Step,
 ) -> Result<String, AllocError> {
     let pieces = pieces_of(alloc, step.text)?;
-    done(alloc, place.write_pieces(alloc, path, pieces.as_slice()))
+    done_or_fault(alloc, place.write_pieces(alloc, path, pieces.as_slice()))
 }
 
 /// What a step answers, of which these are the two paths. `counts` tells how many calls failed, and how many came since
@@ -163,14 +163,14 @@ pub fn answer<P: Place>(
     let said = match step.call {
         "read" => file_text(alloc, place.read(alloc, path)),
         "first" => first_text(alloc, place, path, step),
-        "list" => listed(alloc, root, place.list(alloc, path)),
-        "outside" => listed(alloc, root, place.list_outside(alloc, path, other)),
-        "directly" => listed(alloc, root, place.list_directly(alloc, path)),
-        "folders" => listed(alloc, root, place.list_folders(alloc, path, other)),
+        "list" => names_or_fault(alloc, root, place.list(alloc, path)),
+        "outside" => names_or_fault(alloc, root, place.list_outside(alloc, path, other)),
+        "directly" => names_or_fault(alloc, root, place.list_directly(alloc, path)),
+        "folders" => names_or_fault(alloc, root, place.list_folders(alloc, path, other)),
         "is" => truth(alloc, place.is_file(alloc, path)),
-        "write" => done(alloc, place.write(alloc, path, step.text.as_bytes())),
+        "write" => done_or_fault(alloc, place.write(alloc, path, step.text.as_bytes())),
         "pieces" => write_pieces(alloc, place, path, step),
-        "remove" => done(alloc, place.remove_tree(alloc, path)),
+        "remove" => done_or_fault(alloc, place.remove_tree(alloc, path)),
         "variable" => value_text(alloc, place.variable(alloc, step.name)),
         "counts" => numbers(alloc, place.failures(), place.late()),
         "starts" => numbers(alloc, place.starts(), place.most()),
@@ -215,7 +215,11 @@ pub fn end_text(alloc: Global, answer: Result<Ended, StartFault>) -> Result<Stri
 }
 
 /// How the child of a command ended, and the numbers of starts and failures.
-pub fn said<P: Place>(alloc: Global, place: &mut P, command: &Command) -> Result<String, Fail> {
+pub fn answer_of<P: Place>(
+    alloc: Global,
+    place: &mut P,
+    command: &Command,
+) -> Result<String, Fail> {
     let end = end_text(alloc, place.start(alloc, command))?;
     let (starts, failures) = (place.starts(), place.failures());
     Ok(format!(in alloc; "{} {starts} {failures}", end.as_str())?)

@@ -25,7 +25,7 @@ fn profile_in(words: &str) -> &str {
 const ROOT: &str = "@ /w/Cargo.toml\n[workspace]\nmembers = [\"*\"]\n";
 
 /// The plan of a selection.
-fn planned(
+fn selection_plan(
     alloc: Global,
     chosen: &SelectedWorkspace<'_>,
     words: &str,
@@ -44,7 +44,7 @@ fn plan_with(
     words: &str,
 ) -> Result<Result<Plan, PlanFault>, Fail> {
     let chosen = selected(alloc, workspace, options)?;
-    let plan = planned(alloc, &chosen, words);
+    let plan = selection_plan(alloc, &chosen, words);
     drop(chosen);
     plan
 }

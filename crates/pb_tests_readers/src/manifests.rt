@@ -163,7 +163,7 @@ fn requirement_of(alloc: Global, text: &str) -> Result<Requirement, ManifestFaul
 /// How many comparisons the requirement that a text says has.
 fn count_comparisons(alloc: Global, text: &str) -> Result<usize, ManifestFault> {
     let requirement = requirement_of(alloc, text)?;
-    let count = requirement.parsed().comparators.len();
+    let count = requirement.as_semver().comparators.len();
     drop(requirement);
     Ok(count)
 }

@@ -1,7 +1,7 @@
 //! Records as text: worked examples, texts that are none, and texts made at random.
 
 use crate::dice::Dice;
-use pb_place_types::joined;
+use pb_place_types::join_pieces;
 use pb_record::{Needed, Record, read_record, write_record, write_record_pieces};
 use pb_tests_files::{Shown, holds};
 use std::alloc::{AllocError, Global};
@@ -10,7 +10,7 @@ use std::alloc::{AllocError, Global};
 fn is_written(alloc: Global, kept: Record, text: &[u8]) -> Result<Option<bool>, AllocError> {
     let again = write_record(alloc, &kept)?;
     let pieces = write_record_pieces(alloc, kept)?;
-    let joined = joined(alloc, pieces.as_slice())?;
+    let joined = join_pieces(alloc, pieces.as_slice())?;
     Ok(Some(again.as_slice() == text && joined.as_slice() == text))
 }
 
@@ -160,7 +160,7 @@ static WRONG: &[(&str, &str)] = &[
 ];
 
 /// The text of a record with something put in place of something in it, once.
-fn replaced(alloc: Global, old: &str, new: &str) -> Result<String, AllocError> {
+fn replace_part(alloc: Global, old: &str, new: &str) -> Result<String, AllocError> {
     let (before, behind) = LARGEST.split_once(old).unwrap_or((LARGEST, ""));
     let mut made = Shown::new(alloc);
     made.put(&[before, new, behind]);
@@ -169,7 +169,7 @@ fn replaced(alloc: Global, old: &str, new: &str) -> Result<String, AllocError> {
 
 /// Whether the largest record with something put in place of something in it is none.
 fn is_none_with(alloc: Global, old: &str, new: &str) -> Result<bool, AllocError> {
-    let made = replaced(alloc, old, new)?;
+    let made = replace_part(alloc, old, new)?;
     Ok(is_none(alloc, made.as_bytes()))
 }
 

@@ -148,8 +148,8 @@ abbrev pub IsTaken : Choices → List Text → Type 0
 IsTaken choices words = fault_of (program choices) words ≡ []
 
 -- the words request this, according to the description of the command line
-abbrev pub Asks : List Text → Here → Invocation → Type 0
-Asks words here asked = (choices : Choices) × AreChoices choices × IsTaken choices words × AsksBy (tool_of words) here (subcommand_of (program choices) words) asked
+abbrev pub Requests : List Text → Here → Invocation → Type 0
+Requests words here asked = (choices : Choices) × AreChoices choices × IsTaken choices words × AsksBy (tool_of words) here (subcommand_of (program choices) words) asked
 
 -- Why words request nothing.
 
@@ -206,13 +206,13 @@ abbrev pub AsksForHelp : Choices → List Text → Type 0
 AsksForHelp choices words = (found : ErrorKind) × (is_help found ≡ true) × IsAmong found (fault_of (program choices) words)
 
 -- `clap` finds a fault with the words
-abbrev pub IsRefused : Choices → List Text → Type 0
-IsRefused choices words = (found : ErrorKind) × (is_help found ≡ false) × IsAmong found (fault_of (program choices) words)
+abbrev pub ClapRefuses : Choices → List Text → Type 0
+ClapRefuses choices words = (found : ErrorKind) × (is_help found ≡ false) × IsAmong found (fault_of (program choices) words)
 
 -- Why the words request nothing, and the text that is reported. We promise nothing about the texts
 -- of `clap`. Wrong values are reported only for words that `clap` accepts, so never if help is
 -- requested.
 abbrev pub Unasks : List Text → Text → ArgumentsError → Type 0
 Unasks words folder (Help text) = (choices : Choices) × AreChoices choices × AsksForHelp choices words
-Unasks words folder (Wrong text) = (choices : Choices) × AreChoices choices × (IsRefused choices words ⊎ IsTaken choices words × AsksWrongly folder (subcommand_of (program choices) words) text)
+Unasks words folder (Wrong text) = (choices : Choices) × AreChoices choices × (ClapRefuses choices words ⊎ IsTaken choices words × AsksWrongly folder (subcommand_of (program choices) words) text)
 Unasks words folder OutOfMemory = Unit {0}

@@ -4,7 +4,7 @@ use Rattle.std.specs.Prelude.{◌≡◌, ◌≢◌, true, false, List}
 use Rattle.clap.specs.Walk.{Text}
 use Rattle.clap.specs.declared.error.kind.ErrorKind.{ErrorKind}
 use Rattle.clap.specs.declared.error.kind.ErrorKind.TheVariants as kind
-use Rattle.pb_tool_arguments.specs.Asking.{AsksForHelp, IsRefused, is_help}
+use Rattle.pb_tool_arguments.specs.Asking.{AsksForHelp, ClapRefuses, is_help}
 use Rattle.pb_tool_arguments.specs.Description.{AreChoices, Choices}
 use Rattle.pb_tool_arguments.specs.declared.invocation.ArgumentsError.{ArgumentsError}
 use Rattle.pb_tool_arguments.specs.declared.invocation.ArgumentsError.TheVariants.{Help, Wrong, OutOfMemory}
@@ -24,5 +24,5 @@ TellsKind k OutOfMemory = Unit {0}
 -- the description of the command line does not accept the words
 abbrev pub RefusedBy : List Text → ArgumentsError → Type 0
 RefusedBy words (Help text) = (choices : Choices) × AreChoices choices × AsksForHelp choices words
-RefusedBy words (Wrong text) = (choices : Choices) × AreChoices choices × IsRefused choices words
+RefusedBy words (Wrong text) = (choices : Choices) × AreChoices choices × ClapRefuses choices words
 RefusedBy words OutOfMemory = Unit {0}

@@ -7,7 +7,7 @@ ghost use Rattle.pb_tool_arguments.specs.Private.{ToldWrong, TellsKind};
 ghost use Rattle.pb_tool_arguments.specs.declared.invocation.ArgumentsError.TheVariants as unasked;
 ghost use Rattle.pb_place_types.specs.declared.path.PathFault.TheVariants as path_fault;
 
-use crate::unknown::reworded;
+use crate::unknown::reword;
 use clap::Error;
 use clap::error::ErrorKind;
 use pb_data::Text;
@@ -105,7 +105,7 @@ pub(crate) fn unasked_of(alloc: Global, error: &Error) -> ArgumentsError
     if is_help(kind) {
         return ArgumentsError::Help(Text::new(text));
     }
-    match reworded(alloc, text) {
+    match reword(alloc, text) {
         Ok(text) => ArgumentsError::Wrong(Text::new(text)),
         Err(_) => ArgumentsError::OutOfMemory,
     }

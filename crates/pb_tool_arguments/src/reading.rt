@@ -7,7 +7,7 @@ ghost use Rattle.clap.specs.Simple.{subcommand_of, subcommand_rows_of};
 ghost use Rattle.pb_directive.specs.Directives.{words_of};
 ghost use Rattle.pb_place_types.specs.Paths.{joined};
 ghost use Rattle.pb_tool_arguments.specs.Description.{AreChoices, Choices, program};
-ghost use Rattle.pb_tool_arguments.specs.Asking.{IsFlag, IsProfile, IsJobs, IsOptions, IsShown, ShowsProgress, ShowsCounts, IsColored, IsForm, HasTwoForms, NamesProfile, IsTaken, BuildsWrongly, PlansWrongly, AsksBy, Asks, AsksWrongly, Unasks, manifest_of, values_of, tool_of, forms_told};
+ghost use Rattle.pb_tool_arguments.specs.Asking.{IsFlag, IsProfile, IsJobs, IsOptions, IsShown, ShowsProgress, ShowsCounts, IsColored, IsForm, HasTwoForms, NamesProfile, IsTaken, BuildsWrongly, PlansWrongly, AsksBy, Requests, AsksWrongly, Unasks, manifest_of, values_of, tool_of, forms_told};
 ghost use Rattle.pb_tool_arguments.specs.Private.{ToldWrong, RefusedBy};
 
 use crate::description::program;
@@ -16,7 +16,7 @@ use crate::invocation::{
     ArgumentsError, Invocation, PlanForm, Shown, no_command, two_forms, unasked_of,
 };
 use crate::values::{
-    first, first_or, is_given, jobs_of, parted, path_of, profile_of, value_of, values_of,
+    first, first_or, is_given, jobs_of, path_of, profile_of, split_words, value_of, values_of,
 };
 use clap::ArgMatches;
 use pb_data::{Items, Text, with_next};
@@ -129,7 +129,7 @@ fn tools_of(alloc: Global, tool: &str, matches: &ArgMatches<'_>) -> Result<Tools
         ≡ unwrap_or (first_of (codes "tool") (rows_of (found_of matches.now))) tool.now) }
 {
     let target_dir = value_of(alloc, matches, "target-dir")?;
-    let runner = parted(alloc, first_or(matches, "runner", ""))?;
+    let runner = split_words(alloc, first_or(matches, "runner", ""))?;
     let tool = told_tool(alloc, tool, matches)?;
     Ok(Tools {
         target_dir,
@@ -424,7 +424,7 @@ pub fn read_command_line<S: AsStr>(
     words: &[S],
     here: &Here,
 ) -> Result<Invocation, ArgumentsError>
-    ensures asked { IfOk result (Asks (map S.text words.now) here.now) }
+    ensures asked { IfOk result (Requests (map S.text words.now) here.now) }
     ensures unasked { IfErr result (Unasks (map S.text words.now) here.now.folder) }
 {
     match matches_of(alloc, words) {

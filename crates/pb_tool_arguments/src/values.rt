@@ -137,7 +137,7 @@ pub(crate) fn jobs_of(
 }
 
 /// Returns the words of a text, separated by spaces.
-pub(crate) fn parted(alloc: Global, text: &str) -> Result<Items<Text>, AllocError>
+pub(crate) fn split_words(alloc: Global, text: &str) -> Result<Items<Text>, AllocError>
     ensures { IfOk result (λ words. words ≡ words_of text.now) }
 {
     let mut words = Items::new(alloc);

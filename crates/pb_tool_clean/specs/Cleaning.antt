@@ -137,13 +137,13 @@ looked_in choice = unwrap_or choice.profile choice.target
 -- What is missing: the first of three things that was not listed. The three are any record or
 -- unit's folder, one under the profile, and one of the packages. If something that is chosen was
 -- listed, nothing is missing.
-abbrev pub IsMissing : Choice → Listed → Option Wanted → Type 0
-IsMissing choice listed (Some wanted.All) = chosen_of (all_of choice.target) listed ≡ []
-IsMissing choice listed (Some wanted.OfProfile) =
+abbrev pub ReportsMissing : Choice → Listed → Option Wanted → Type 0
+ReportsMissing choice listed (Some wanted.All) = chosen_of (all_of choice.target) listed ≡ []
+ReportsMissing choice listed (Some wanted.OfProfile) =
     (chosen_of (all_of choice.target) listed ≢ []) × (chosen_of (of_all_packages choice) listed ≡ [])
-IsMissing choice listed (Some wanted.OfPackages) =
+ReportsMissing choice listed (Some wanted.OfPackages) =
     (chosen_of (of_all_packages choice) listed ≢ []) × (chosen_of choice listed ≡ [])
-IsMissing choice listed None = chosen_of choice listed ≢ []
+ReportsMissing choice listed None = chosen_of choice listed ≢ []
 
 -- the folder that a refusal names, given what is missing
 abbrev pub folder_for : Wanted → Choice → List ℕ
@@ -151,11 +151,11 @@ folder_for wanted.All choice = choice.target
 folder_for some choice = looked_in choice
 
 -- if something that is chosen was listed, the choice stays as it is; otherwise it is refused
-abbrev pub Judges : Choice → Listed → Result Choice CleanFault → Type 0
-Judges choice listed (Ok judged) = (judged ≡ choice) × IsMissing choice listed None
-Judges choice listed (Err (Nothing some folder)) = IsMissing choice listed (Some some) × (folder ≡ folder_for some choice)
-Judges choice listed (Err OutOfMemory) = Unit {0}
-Judges choice listed (Err fault) = ⊥
+abbrev pub RequiresListed : Choice → Listed → Result Choice CleanFault → Type 0
+RequiresListed choice listed (Ok judged) = (judged ≡ choice) × ReportsMissing choice listed None
+RequiresListed choice listed (Err (Nothing some folder)) = ReportsMissing choice listed (Some some) × (folder ≡ folder_for some choice)
+RequiresListed choice listed (Err OutOfMemory) = Unit {0}
+RequiresListed choice listed (Err fault) = ⊥
 
 -- The folder of the named profile, which must have a name. If all profiles are chosen, there is no folder.
 abbrev pub IsProfile : List ℕ → List ℕ → Bool → Option (List ℕ) → Type 0
@@ -183,7 +183,7 @@ pub record Chooses (is_modelled : Bool) (options : Options) (one_profile : Bool)
 abbrev pub Refuses : Bool → Options → Bool → World → Counts → Counts → CleanFault → Type 0
 Refuses is_modelled options one_profile w old new (Nothing some folder) =
     (choice : Choice) × Chooses is_modelled options one_profile w choice × (folder ≡ folder_for some choice)
-    × (IsTrue is_modelled → IsMissing choice (listed_in choice.target w) (Some some)) × NoneFailed old new
+    × (IsTrue is_modelled → ReportsMissing choice (listed_in choice.target w) (Some some)) × NoneFailed old new
 Refuses is_modelled options one_profile w old new NoSuchProfile = HasNoFolder options one_profile × NoneFailed old new
 Refuses is_modelled options one_profile w old new fault = NamesCall old new fault
 
@@ -192,6 +192,6 @@ Refuses is_modelled options one_profile w old new fault = NamesCall old new faul
 pub record Finds (is_modelled : Bool) (options : Options) (one_profile : Bool) (result : Result Choice CleanFault) (old new : Moment) : Type 0 where
   pub looked : Looked old new
   pub chooses : IfOk result (Chooses is_modelled options one_profile old.world)
-  pub some : IsTrue is_modelled → IfOk result (λ choice. IsMissing choice (listed_in choice.target old.world) None)
+  pub some : IsTrue is_modelled → IfOk result (λ choice. ReportsMissing choice (listed_in choice.target old.world) None)
   pub ok : OnOk result (NoneFailed old.counts new.counts)
   pub refuses : IfErr result (Refuses is_modelled options one_profile old.world old.counts new.counts)

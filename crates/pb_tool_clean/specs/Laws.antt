@@ -7,10 +7,10 @@ use Rattle.pb_tool_clean.specs.declared.choice.Choice.{Choice}
 use Rattle.pb_tool_clean.specs.declared.looking.Listed.{Listed}
 
 -- the path is below the target folder, and its last part is the name of a record or of a unit's folder
-pub record IsMade (target path : List ℕ) : Type 0 where
+pub record IsMadeByBuild (target path : List ℕ) : Type 0 where
   pub inside : is_below target path ≡ true
   pub name : (is_record (words_in (last_part path)) ≡ true) ⊎ (is_unit (words_in (last_part path)) ≡ true)
 
--- Whatever a place lists, each chosen path is as `IsMade` says.
+-- Whatever a place lists, each chosen path is as `IsMadeByBuild` says.
 abbrev pub ChosenAreMade : Type 0
-ChosenAreMade = (choice : Choice) (listed : Listed) → All (IsMade choice.target) (chosen_of choice listed)
+ChosenAreMade = (choice : Choice) (listed : Listed) → All (IsMadeByBuild choice.target) (chosen_of choice listed)

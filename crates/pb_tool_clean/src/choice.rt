@@ -93,7 +93,7 @@ fn push_folders(
 /// Returns the chosen part of what was listed: records first, then the folders of units.
 ///
 /// Errors: out of memory.
-pub fn chosen(
+pub fn choose(
     alloc: Global,
     choice: &Choice,
     listed: &Listed,

@@ -4,10 +4,10 @@ ghost use Rattle.std.specs.Prelude.{◌≡◌, ◌⊎◌, [], IfOk, IfErr, true,
 ghost use Rattle.pb_place_types.specs.Paths.{below, is_relative};
 ghost use Rattle.pb_profile.specs.Line.{folder_of as profile_folder};
 ghost use Rattle.pb_tool_clean.specs.Calls.{moment_of};
-ghost use Rattle.pb_tool_clean.specs.Cleaning.{IsProfile, RefusesChoice, IsMissing, Judges, Finds, all_of, of_all_packages, chosen_of, looked_in};
+ghost use Rattle.pb_tool_clean.specs.Cleaning.{IsProfile, RefusesChoice, ReportsMissing, RequiresListed, Finds, all_of, of_all_packages, chosen_of, looked_in};
 ghost use Rattle.pb_tool_clean.specs.declared.fault.CleanFault.TheVariants.{NoSuchProfile, OutOfMemory};
 
-use crate::choice::{Choice, chosen};
+use crate::choice::{Choice, choose};
 use crate::fault::{CleanFault, Wanted};
 use crate::looking::{Listed, look};
 use crate::target::target_of;
@@ -63,12 +63,12 @@ fn looked_in(choice: Choice) -> PathText
 fn has_nothing(alloc: Global, choice: &Choice, listed: &Listed) -> Result<bool, AllocError>
     ensures { IfOk result (λ nothing. Decides nothing (chosen_of choice.now listed.now ≡ [])) }
 {
-    Ok(chosen(alloc, choice, listed)?.is_empty())
+    Ok(choose(alloc, choice, listed)?.is_empty())
 }
 
 /// Returns what a choice needs but was not listed, if there is something.
 fn missing_in(alloc: Global, choice: &Choice, listed: &Listed) -> Result<Option<Wanted>, AllocError>
-    ensures { IfOk result (IsMissing choice.now listed.now) }
+    ensures { IfOk result (ReportsMissing choice.now listed.now) }
 {
     if has_nothing(alloc, &all_of(alloc, &choice.target)?, listed)? {
         return Ok(Some(Wanted::All));
@@ -85,8 +85,8 @@ fn missing_in(alloc: Global, choice: &Choice, listed: &Listed) -> Result<Option<
 /// Returns a choice, if something of it was listed.
 ///
 /// Errors: `Nothing`, with the folder in which the choice looks; `OutOfMemory`.
-fn judged(alloc: Global, choice: Choice, listed: &Listed) -> Result<Choice, CleanFault>
-    ensures { Judges choice listed.now result }
+fn require_listed(alloc: Global, choice: Choice, listed: &Listed) -> Result<Choice, CleanFault>
+    ensures { RequiresListed choice listed.now result }
 {
     match missing_in(alloc, &choice, listed) {
         Ok(None) => Ok(choice),
@@ -192,7 +192,7 @@ pub fn find<P: Place>(
         Err(fault) => return Err(fault),
     };
     match look(alloc, place, &choice.target) {
-        Ok(listed) => judged(alloc, choice, &listed),
+        Ok(listed) => require_listed(alloc, choice, &listed),
         Err(fault) => {
             drop(choice);
             Err(fault)

@@ -6,7 +6,7 @@ ghost use Rattle.pb_place_types.specs.World.{listed, removed};
 ghost use Rattle.pb_tool_clean.specs.Calls.{Cut, Looks, Removes, moment_of, tag_in};
 ghost use Rattle.pb_tool_clean.specs.Cleaning.{RemovesEach, RemovesRest, GoesOn, Cleans, CleansNow, is_bare, is_emptied, is_tag_alone, is_whole, chosen_of, listed_in};
 
-use crate::choice::{Choice, chosen, is_whole};
+use crate::choice::{Choice, choose, is_whole};
 use crate::fault::{CleanFault, fault_of};
 use crate::looking::{Listed, look, tag_in};
 use pb_data::{Items, TryCopy};
@@ -156,7 +156,7 @@ fn remove_chosen<P: Place>(
     ensures { RemovesEach P.is_modelled (chosen_of choice.now listed.now) result
         (moment_of (P.at place.old)) (moment_of (P.at place.new)) }
 {
-    match chosen(alloc, choice, listed) {
+    match choose(alloc, choice, listed) {
         Ok(paths) => remove_each(alloc, place, paths.as_slice()),
         Err(_) => Err(CleanFault::OutOfMemory),
     }

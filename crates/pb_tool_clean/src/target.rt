@@ -16,7 +16,7 @@ use std::alloc::{AllocError, Global};
 const VARIABLE: &str = "CARGO_TARGET_DIR";
 
 /// Returns a text, unless it is empty.
-fn filled(found: Option<Text>) -> Option<Text>
+fn unless_empty(found: Option<Text>) -> Option<Text>
     ensures { result ≡ set_text found }
 {
     match found {
@@ -42,7 +42,7 @@ fn variable<P: Place>(alloc: Global, place: &mut P) -> Result<Option<Text>, Clea
         Err(_) => return Err(CleanFault::OutOfMemory),
     };
     match place.variable(alloc, VARIABLE) {
-        Ok(found) => Ok(filled(found)),
+        Ok(found) => Ok(unless_empty(found)),
         Err(fault) => Err(fault_of(name, fault)),
     }
 }

@@ -2,7 +2,8 @@
 
 use pb_manifest_types::letters::is_name;
 use pb_tool_notes_pages::{
-    Kind, Notes, Page, Spot, expected, fits, rule_of, shown, spots_of, tell_key, tell_page,
+    Kind, Notes, Page, Spot, describe_value, expectation, fits, rule_of, spots_of, tell_key,
+    tell_page,
 };
 use std::alloc::{AllocError, Global};
 use toml::{Table, Value};
@@ -17,8 +18,8 @@ fn tell_values(
     for (key, value) in spot.table {
         if let Some(rule) = rule_of(spot.kind, key.as_str()) {
             if !fits(rule, value) {
-                let shown = shown(alloc, value)?;
-                let may = expected(rule);
+                let shown = describe_value(alloc, value)?;
+                let may = expectation(rule);
                 let text = format!(in alloc; "{}; it may be {may}", shown.as_str())?;
                 tell_key(
                     alloc,

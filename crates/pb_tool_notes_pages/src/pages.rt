@@ -33,7 +33,7 @@ impl Pages {
     }
 
     /// Returns the manifest of a package, by its name.
-    pub fn named(&self, name: &str) -> Option<&Page> {
+    pub fn page_of(&self, name: &str) -> Option<&Page> {
         self.pages
             .iter()
             .find(|page| page.package_text("name") == name)

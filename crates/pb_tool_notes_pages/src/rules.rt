@@ -197,7 +197,7 @@ pub fn fits(rule: &str, value: &Value) -> bool {
 }
 
 /// Returns what is allowed, in words.
-pub fn expected(rule: &str) -> &'static str {
+pub fn expectation(rule: &str) -> &'static str {
     match rule.strip_suffix('+').unwrap_or(rule) {
         "text" => "a text",
         "texts" => "a list of texts",

@@ -53,7 +53,7 @@ pub fn tell_page(
 }
 
 /// Returns what a value is: `2021 is a number`, `it is a table`.
-pub fn shown(alloc: Global, value: &Value) -> Result<String, AllocError> {
+pub fn describe_value(alloc: Global, value: &Value) -> Result<String, AllocError> {
     match value {
         Value::String(text) => format!(in alloc; "\"{}\" is a text", text.as_str()),
         Value::Integer(number) => format!(in alloc; "{number} is a number"),

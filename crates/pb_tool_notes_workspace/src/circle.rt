@@ -109,7 +109,7 @@ pub fn tell_circle(
         Some(first) => first.as_str(),
         None => return Ok(()),
     };
-    let Some(page) = pages.named(first) else {
+    let Some(page) = pages.page_of(first) else {
         return Ok(());
     };
     let mut steps = Vec::new(alloc);

@@ -299,7 +299,7 @@ fn tell_asked_of(
     name: &str,
     feature: &str,
 ) -> Result<(), AllocError> {
-    match pages.named(name) {
+    match pages.page_of(name) {
         Some(page) => {
             let lacks = lacks(alloc, page, feature)?;
             let text = if lacks.is_empty() {

@@ -9,7 +9,7 @@ use Rattle.pb_run.specs.declared.faults.StepFault.TheVariants as step
 use Rattle.pb_store.specs.Calls as causes
 use Rattle.pb_store.specs.declared.fault.StoreFault.{StoreFault}
 use Rattle.pb_store.specs.declared.fault.StoreFault.TheVariants.{Place, NumbersSpent, OutOfMemory}
-use Rattle.pb_tool_preview.specs.Foreseeing.{Looks, LooksAt}
+use Rattle.pb_tool_preview.specs.Foreseeing.{Looks, LookFails}
 
 -- it has its cause
 pub look_caused : (key : List ℕ) (e : StoreFault) (old new : Counts) → causes.MayLook e → causes.HasCause e old new → HasCause (named key (step.Store e)) old new
@@ -18,7 +18,7 @@ look_caused key NumbersSpent old new may cause = absurd may
 look_caused key OutOfMemory old new may cause = cause
 
 -- it has the unit's key
-pub look_named : (key : List ℕ) (e : StoreFault) → causes.MayLook e → LooksAt key (named key (step.Store e))
+pub look_named : (key : List ℕ) (e : StoreFault) → causes.MayLook e → LookFails key (named key (step.Store e))
 look_named key (Place fault) may = refl
 look_named key NumbersSpent may = absurd may
 look_named key OutOfMemory may = tt

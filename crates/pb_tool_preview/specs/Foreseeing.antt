@@ -108,11 +108,11 @@ pub record Looks {T : Type 0} (result : Result T BuildFault) (old new : At) : Ty
 
 -- The fault is that of a look at the unit with this key. A file, a folder or a variable could not
 -- be read, or memory ran out.
-abbrev pub LooksAt : List ℕ → BuildFault → Type 0
-LooksAt key (Device unit (device.Place fault)) = unit ≡ key
-LooksAt key OutOfMemory = Unit {0}
-LooksAt key fault = ⊥
+abbrev pub LookFails : List ℕ → BuildFault → Type 0
+LookFails key (Device unit (device.Place fault)) = unit ≡ key
+LookFails key OutOfMemory = Unit {0}
+LookFails key fault = ⊥
 
 -- the fault is that of a look at one of the units of a project
 abbrev pub LooksAtSome : Project → BuildFault → Type 0
-LooksAtSome project fault = (index : ℕ) × (u : Planned) × (unit_at project index ≡ Some u) × LooksAt u.key fault
+LooksAtSome project fault = (index : ℕ) × (u : Planned) × (unit_at project index ≡ Some u) × LookFails u.key fault

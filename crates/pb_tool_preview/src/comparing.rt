@@ -8,10 +8,10 @@ ghost use Rattle.pb_run.specs.declared.faults.StepFault.TheVariants as step;
 ghost use Rattle.pb_store.specs.Calls.{MayLook, OnlyLooks};
 ghost use Rattle.pb_store.specs.Folder.{HasNumbers};
 ghost use Rattle.pb_store_soundness.specs.Records.{records};
-ghost use Rattle.pb_tool_preview.specs.Foreseeing.{IsCompared, Looks, LooksAt};
+ghost use Rattle.pb_tool_preview.specs.Foreseeing.{IsCompared, Looks, LookFails};
 
 use crate::fate::Fate;
-use crate::replaying::replayed;
+use crate::replaying::replay_record;
 use pb_build_result::{BuildFault, DeviceFault};
 use pb_command::command;
 use pb_command_types::{Done, Setup};
@@ -25,7 +25,7 @@ use std::alloc::Global;
 
 /// Returns a fault of the store as the build's fault, with the unit's key. Out of memory has no
 /// key.
-fn named(unit: Text, fault: StoreFault) -> BuildFault
+fn unit_fault(unit: Text, fault: StoreFault) -> BuildFault
     ensures { result ≡ named unit (step.Store fault) }
 {
     match fault {
@@ -42,7 +42,7 @@ fn named(unit: Text, fault: StoreFault) -> BuildFault
 }
 
 /// Returns the fate of a unit, from its record, and its directives, if the record replays some.
-fn seen<P: Place>(
+fn compare_record<P: Place>(
     alloc: Global,
     place: &mut P,
     project: &OrderedProject,
@@ -66,7 +66,7 @@ fn seen<P: Place>(
     };
     match compared {
         Compared::Differs(difference) => Ok((Fate::Starts(difference), None)),
-        Compared::Same(again) => replayed(alloc, place, project, unit, command, &again.ended),
+        Compared::Same(again) => replay_record(alloc, place, project, unit, command, &again.ended),
     }
 }
 
@@ -75,7 +75,7 @@ fn seen<P: Place>(
 ///
 /// Errors: `Device` with the unit's key, if a file, a folder or a variable cannot be read;
 /// `OutOfMemory`.
-pub(crate) fn compared<P: Place>(
+pub(crate) fn compare_kept<P: Place>(
     alloc: Global,
     place: &mut P,
     setup: &Setup,
@@ -94,7 +94,7 @@ pub(crate) fn compared<P: Place>(
         project.now (P.at place.old).world unit.now
         (command_of setup.now project.now unit.now done.now) seen.0 seen.1) }
     ensures quiet { Looks result (P.at place.old) (P.at place.new) }
-    ensures fault { IfErr result (LooksAt unit.now.key) }
+    ensures fault { IfErr result (LookFails unit.now.key) }
 {
     project.is_in_order();
     let key = match unit.key.copy(alloc) {
@@ -105,11 +105,11 @@ pub(crate) fn compared<P: Place>(
         Ok(command) => command,
         Err(_) => return Err(BuildFault::OutOfMemory),
     };
-    match seen(alloc, place, project, store, unit, &key, &command) {
+    match compare_record(alloc, place, project, store, unit, &key, &command) {
         Ok(seen) => Ok(seen),
         Err(fault) => {
             drop(command);
-            Err(named(key.into_text(), fault))
+            Err(unit_fault(key.into_text(), fault))
         }
     }
 }

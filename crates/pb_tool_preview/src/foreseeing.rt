@@ -7,7 +7,7 @@ ghost use Rattle.pb_store.specs.Folder.{HasNumbers};
 ghost use Rattle.pb_store_soundness.specs.Records.{records};
 ghost use Rattle.pb_tool_preview.specs.Foreseeing.{Foresees, IsFate, Looks, LooksAtSome};
 
-use crate::comparing::compared;
+use crate::comparing::compare_kept;
 use crate::fate::Fate;
 use crate::waiting::{first_unkept, waits_for};
 use pb_build_result::BuildFault;
@@ -47,7 +47,7 @@ fn fate_of<P: Place>(
     if let Some(first) = first_unkept(fates, unit.reaches.as_slice()) {
         return Ok((waits_for(fates, first), None));
     }
-    match compared(alloc, place, setup, project, store, done, index, unit) {
+    match compare_kept(alloc, place, setup, project, store, done, index, unit) {
         Ok(seen) => Ok(seen),
         Err(fault) => Err(fault),
     }

@@ -13,13 +13,13 @@ use pb_data::Bytes;
 use pb_directive::Directives;
 use pb_place_types::{Command, Ended, PathText, Place, PlaceFault};
 use pb_run::OrderedProject;
-use pb_run::ran::{Ran, judged};
+use pb_run::ran::{Ran, judge_reply};
 use pb_store::StoreFault;
 use pb_unit::Planned;
 use std::alloc::Global;
 
 /// Returns the fault of a call of the place as one of the store.
-fn stored(fault: PlaceFault) -> StoreFault
+fn store_fault(fault: PlaceFault) -> StoreFault
     ensures { result ≡ stored fault }
 {
     match fault {
@@ -45,7 +45,7 @@ fn read_at<P: Place>(
     };
     match place.read(alloc, path) {
         Ok(found) => Ok(found),
-        Err(fault) => Err(stored(fault)),
+        Err(fault) => Err(store_fault(fault)),
     }
 }
 
@@ -62,7 +62,7 @@ fn fate_of(ran: Ran) -> (Fate, Option<Directives>)
 
 /// Returns the fate of a unit whose record replays this end of a child, and its directives. The
 /// unit's dep-info is read, if it has one.
-pub(crate) fn replayed<P: Place>(
+pub(crate) fn replay_record<P: Place>(
     alloc: Global,
     place: &mut P,
     project: &OrderedProject,
@@ -83,7 +83,7 @@ pub(crate) fn replayed<P: Place>(
         Ok(dep_info) => dep_info,
         Err(fault) => return Err(fault),
     };
-    match judged(alloc, place, project.get(), unit, command, ended, &dep_info) {
+    match judge_reply(alloc, place, project.get(), unit, command, ended, &dep_info) {
         Ok(judgement) => Ok(fate_of(judgement.ran)),
         Err(_) => Err(StoreFault::OutOfMemory),
     }

@@ -8,7 +8,7 @@ ghost use Rattle.pb_tool_reasons.specs.declared.grouping.Row.{Row};
 
 use crate::fate::Fate;
 use pb_data::{Items, Text, TryCopy};
-use pb_tool_reasons::{Row, grouped, if_some, reason};
+use pb_tool_reasons::{Row, group_rows, if_some, reason};
 use pb_unit::Planned;
 use std::alloc::{AllocError, Global};
 
@@ -222,7 +222,7 @@ pub fn preview_lines(alloc: Global, units: &[Planned], fates: &[Fate]) -> Result
     ensures { IfOk result (λ text. string_bytes text ≡ preview_lines units.now fates.now) }
 {
     let rows = rows_of(alloc, units, fates)?;
-    let mut text = grouped(alloc, rows.as_slice())?;
+    let mut text = group_rows(alloc, rows.as_slice())?;
     let counts = counts_line(alloc, fates)?;
     text.push_str(counts.as_str())?;
     Ok(text)

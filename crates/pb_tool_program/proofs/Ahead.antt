@@ -13,7 +13,7 @@ use Rattle.pb_place_types.specs.Counts.{Counts, Starts, up_starts}
 use Rattle.pb_place_types.specs.Sinks.{SinkState}
 use Rattle.pb_place_types.specs.World.{World, Answers}
 use Rattle.pb_tool_arguments.specs.declared.invocation.Shown.{Shown}
-use Rattle.pb_tool_program.specs.Building.{LooksOver}
+use Rattle.pb_tool_program.specs.Building.{LooksTwice}
 use Rattle.pb_tool_program.specs.Planning.{EndsPlan, PlanFails}
 use Rattle.pb_tool_program.specs.Previewing.{ForetellsIf, LooksAhead}
 use Rattle.pb_tool_program.specs.Shown.{ShownChangesNothing}
@@ -55,7 +55,7 @@ foretold_world is_modelled (Ok prepared) answer old new before after foretells =
 foretold_world is_modelled (Err fault) answer old new before after foretells = ap (λ (s : BuildState). s.world) foretells.1
 
 -- nor does a second look
-over_starts : (fault : BuildFault) (notes : List (List ℕ)) (old new : BuildState) → LooksOver (Err fault) notes old new → new.counts.starts ≡ old.counts.starts
+over_starts : (fault : BuildFault) (notes : List (List ℕ)) (old new : BuildState) → LooksTwice (Err fault) notes old new → new.counts.starts ≡ old.counts.starts
 over_starts (Plan why) notes old new looked = looked.starts
 over_starts Toolchain notes old new looked = ap (λ (s : BuildState). s.counts.starts) looked.0
 over_starts (Child unit fault) notes old new looked = ap (λ (s : BuildState). s.counts.starts) looked.0
@@ -63,7 +63,7 @@ over_starts (Device unit fault) notes old new looked = ap (λ (s : BuildState). 
 over_starts Sink notes old new looked = ap (λ (s : BuildState). s.counts.starts) looked.0
 over_starts OutOfMemory notes old new looked = ap (λ (s : BuildState). s.counts.starts) looked.0
 
-over_world : (fault : BuildFault) (notes : List (List ℕ)) (old new : BuildState) → LooksOver (Err fault) notes old new → new.world ≡ old.world
+over_world : (fault : BuildFault) (notes : List (List ℕ)) (old new : BuildState) → LooksTwice (Err fault) notes old new → new.world ≡ old.world
 over_world (Plan why) notes old new looked = looked.world
 over_world Toolchain notes old new looked = ap (λ (s : BuildState). s.world) looked.0
 over_world (Child unit fault) notes old new looked = ap (λ (s : BuildState). s.world) looked.0
@@ -103,7 +103,7 @@ none_more a b c is (inr up) = inr (up ∙ ap up_starts is)
 
 -- Behind a build.
 
-over_heard : (fault : BuildFault) (notes : List (List ℕ)) (old new : BuildState) → LooksOver (Err fault) notes old new → new.heard ≡ old.heard
+over_heard : (fault : BuildFault) (notes : List (List ℕ)) (old new : BuildState) → LooksTwice (Err fault) notes old new → new.heard ≡ old.heard
 over_heard (Plan why) notes old new looked = looked.heard
 over_heard Toolchain notes old new looked = ap (λ (s : BuildState). s.heard) looked.0
 over_heard (Child unit fault) notes old new looked = ap (λ (s : BuildState). s.heard) looked.0
@@ -115,7 +115,7 @@ over_heard OutOfMemory notes old new looked = ap (λ (s : BuildState). s.heard) 
 abbrev Rests : BuildState → BuildState → Type 0
 Rests old new = (new.world ≡ old.world) × (new.counts.starts ≡ old.counts.starts) × (new.heard ≡ old.heard)
 
-behind : (answer : Result Summary BuildFault) (notes : List (List ℕ)) (old new : BuildState) → LooksOver answer notes old new → Rests old new
+behind : (answer : Result Summary BuildFault) (notes : List (List ℕ)) (old new : BuildState) → LooksTwice answer notes old new → Rests old new
 behind (Ok summary) notes old new looked = (looked.world, looked.starts, looked.heard)
 behind (Err fault) notes old new looked = (over_world fault notes old new looked, over_starts fault notes old new looked, over_heard fault notes old new looked)
 

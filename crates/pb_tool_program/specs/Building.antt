@@ -146,10 +146,10 @@ pub record Looked (old new : BuildState) : Type 0 where
 
 -- A second look, for notes about a build that was refused or ended without a fault. After any other
 -- fault there is no second look.
-abbrev pub LooksOver : Result Summary BuildFault → List (List ℕ) → BuildState → BuildState → Type 0
-LooksOver (Ok summary) notes old new = Looked old new
-LooksOver (Err (build.Plan refusal)) notes old new = Looked old new
-LooksOver (Err fault) notes old new = (new ≡ old) × (notes ≡ [])
+abbrev pub LooksTwice : Result Summary BuildFault → List (List ℕ) → BuildState → BuildState → Type 0
+LooksTwice (Ok summary) notes old new = Looked old new
+LooksTwice (Err (build.Plan refusal)) notes old new = Looked old new
+LooksTwice (Err fault) notes old new = (new ≡ old) × (notes ≡ [])
 
 -- What is written before a build: notes about the packages without a library in its plan, or that
 -- memory ran out for the notes. Without such packages, or without a plan, nothing is written.
@@ -184,7 +184,7 @@ pub record BuildsTold (is_modelled : Bool) (child : Answers) (Guards : Option (L
   -- a second look was made for at most ten notes
   pub notes_again : List (List ℕ)
   pub are_notes : AreNotes notes_again
-  pub looked : LooksOver answer notes_again built new
+  pub looked : LooksTwice answer notes_again built new
   -- Each path that has changed while a child was at work is reported. Over a modelled place no path has.
   pub stood : IsTrue is_modelled → moved ≡ []
   pub marked : SinkState

@@ -10,7 +10,7 @@ use Rattle.pb_tool_arguments.specs.declared.invocation.PlanForm.{PlanForm}
 use Rattle.pb_tool_arguments.specs.declared.invocation.PlanForm.TheVariants.{Lines, Json, Dot}
 use Rattle.pb_tool_notes_pages.specs.Notes.{AreNotes}
 use Rattle.pb_tool_plan.specs.Texts.{plan_lines, plan_json, plan_dot}
-use Rattle.pb_tool_program.specs.Building.{Concludes, LooksOver, Reported}
+use Rattle.pb_tool_program.specs.Building.{Concludes, LooksTwice, Reported}
 use Rattle.pb_tool_program.specs.Writing.{Writes}
 use Rattle.pb_unit.specs.declared.plan.Plan.{Plan}
 use Rattle.pb_workspace_types.specs.declared.options.Options.{Options}
@@ -49,7 +49,7 @@ pub record PrintsFrom (is_modelled : Bool) (options : Options) (form : PlanForm)
 pub record PlanFails (fault : BuildFault) (status : ℕ) (old new : BuildState) (said_before said_after : SinkState) : Type 0 where
   pub notes : List (List ℕ)
   pub are_notes : AreNotes notes
-  pub looked : LooksOver (Err fault) notes old new
+  pub looked : LooksTwice (Err fault) notes old new
   pub report : List (List ℕ)
   pub reports : Reported (Err fault) report
   pub concluded : Concludes None (Err fault) report notes status said_before said_after

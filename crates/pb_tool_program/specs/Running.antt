@@ -7,7 +7,7 @@ use Rattle.pb_place_types.specs.World.{Answers}
 use Rattle.pb_place_types.specs.declared.moved.Moved.{Moved}
 use Rattle.pb_place_types.specs.declared.place.PlaceFault.{PlaceFault}
 use Rattle.pb_build_result.specs.declared.fault.BuildFault.TheVariants as build_fault
-use Rattle.pb_tool_arguments.specs.Asking.{Asks, Unasks}
+use Rattle.pb_tool_arguments.specs.Asking.{Requests, Unasks}
 use Rattle.pb_tool_arguments.specs.declared.invocation.Invocation.{Invocation}
 use Rattle.pb_tool_arguments.specs.declared.invocation.Invocation.TheVariants.{Build, Session, Explain, Plan, Clean, Preview}
 use Rattle.pb_tool_arguments.specs.declared.invocation.Shown.{Shown}
@@ -74,31 +74,31 @@ Explains OutOfMemory status old new said_before said_after = (status ≡ 101) ×
 -- What a build shows beside its lines was set before it. The place was told if it names its
 -- children, and the sink of the lines if it shows them as text. Both were told if they erase a
 -- status line. Both sinks of text were told if levels have colours.
-abbrev pub IsTold : {P O E : Type 0} → (P → Bool → Bool → P → Type 0) → (O → Bool → Bool → Bool → O → Type 0) → (E → Bool → E → Type 0) → P → O → E → Shown → Type 0
-IsTold {P} {O} {E} Speaks Shows Colors place out err shown =
+abbrev pub IsShownAs : {P O E : Type 0} → (P → Bool → Bool → P → Type 0) → (O → Bool → Bool → Bool → O → Type 0) → (E → Bool → E → Type 0) → P → O → E → Shown → Type 0
+IsShownAs {P} {O} {E} Speaks Shows Colors place out err shown =
     ((told : P) × Speaks place shown.verbose shown.progress told) × ((told : O) × Shows out shown.render shown.progress shown.colors told)
     × ((told : E) × Colors err shown.colors told)
 
 -- the arguments request this, or they request nothing for this reason
 abbrev pub AsksOrNot : List (List ℕ) → Here → Result Invocation ArgumentsError → Type 0
-AsksOrNot words here (Ok asked) = Asks words here asked
+AsksOrNot words here (Ok asked) = Requests words here asked
 AsksOrNot words here (Err unasked) = Unasks words here.folder unasked
 
 -- What the program does for its arguments: the requested build, preview, session, plan, removal or
 -- explanation. If nothing is requested, the place is not used. Only a build and a removal ask the
 -- guard for a folder. What a build shows changes nothing else: `BuildsTold` depends on `explain`
 -- only.
-abbrev pub Does : Bool → Answers → (Option (List ℕ) → Counts → SinkState → SinkState → Type 0) → (Shown → Type 0) → Page → List Moved → Result Invocation ArgumentsError → ℕ → BuildState → BuildState → SinkState → SinkState → Type 0
-Does is_modelled child Guards Told page moved (Ok (Build options shown)) status old new said_before said_after = Told shown × BuildsTold is_modelled child Guards moved options shown.explain status old new said_before said_after
-Does is_modelled child Guards Told page moved (Ok (Preview options)) status old new said_before said_after = PreviewsTold is_modelled child options status old new said_before said_after × Guards None old.counts said_before said_before
-Does is_modelled child Guards Told page moved (Ok (Session path)) status old new said_before said_after = RunsFile is_modelled path status old new said_before said_after × Guards None old.counts said_before said_before
-Does is_modelled child Guards Told page moved (Ok (Plan options form)) status old new said_before said_after = PlansTold is_modelled options form status old new said_before said_after × Guards None old.counts said_before said_before
-Does is_modelled child Guards Told page moved (Ok (Clean options one_profile)) status old new said_before said_after = CleansTold is_modelled Guards options one_profile status old new said_before said_after
-Does is_modelled child Guards Told page moved (Ok (Explain name)) status old new said_before said_after = (new ≡ record old { heard = new.heard }) × Means page name status old.heard new.heard said_before said_after × Guards None old.counts said_before said_before
-Does is_modelled child Guards Told page moved (Err unasked) status old new said_before said_after = (new ≡ record old { heard = new.heard }) × Explains unasked status old.heard new.heard said_before said_after × Guards None old.counts said_before said_before
+abbrev pub CarriesOut : Bool → Answers → (Option (List ℕ) → Counts → SinkState → SinkState → Type 0) → (Shown → Type 0) → Page → List Moved → Result Invocation ArgumentsError → ℕ → BuildState → BuildState → SinkState → SinkState → Type 0
+CarriesOut is_modelled child Guards Told page moved (Ok (Build options shown)) status old new said_before said_after = Told shown × BuildsTold is_modelled child Guards moved options shown.explain status old new said_before said_after
+CarriesOut is_modelled child Guards Told page moved (Ok (Preview options)) status old new said_before said_after = PreviewsTold is_modelled child options status old new said_before said_after × Guards None old.counts said_before said_before
+CarriesOut is_modelled child Guards Told page moved (Ok (Session path)) status old new said_before said_after = RunsFile is_modelled path status old new said_before said_after × Guards None old.counts said_before said_before
+CarriesOut is_modelled child Guards Told page moved (Ok (Plan options form)) status old new said_before said_after = PlansTold is_modelled options form status old new said_before said_after × Guards None old.counts said_before said_before
+CarriesOut is_modelled child Guards Told page moved (Ok (Clean options one_profile)) status old new said_before said_after = CleansTold is_modelled Guards options one_profile status old new said_before said_after
+CarriesOut is_modelled child Guards Told page moved (Ok (Explain name)) status old new said_before said_after = (new ≡ record old { heard = new.heard }) × Means page name status old.heard new.heard said_before said_after × Guards None old.counts said_before said_before
+CarriesOut is_modelled child Guards Told page moved (Err unasked) status old new said_before said_after = (new ≡ record old { heard = new.heard }) × Explains unasked status old.heard new.heard said_before said_after × Guards None old.counts said_before said_before
 
 -- The program did what these arguments request, with the folder and the processors of `here`.
 -- `moved` is the list that its place has afterwards.
 abbrev pub Runs : Bool → Answers → (Option (List ℕ) → Counts → SinkState → SinkState → Type 0) → (Shown → Type 0) → Page → List Moved → List (List ℕ) → Here → ℕ → BuildState → BuildState → SinkState → SinkState → Type 0
 Runs is_modelled child Guards Told page moved words here status old new said_before said_after =
-    (meant : Result Invocation ArgumentsError) × AsksOrNot words here meant × Does is_modelled child Guards Told page moved meant status old new said_before said_after
+    (meant : Result Invocation ArgumentsError) × AsksOrNot words here meant × CarriesOut is_modelled child Guards Told page moved meant status old new said_before said_after

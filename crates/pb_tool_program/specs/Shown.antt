@@ -12,7 +12,7 @@ use Rattle.pb_tool_arguments.specs.declared.invocation.Invocation.TheVariants.{B
 use Rattle.pb_tool_arguments.specs.declared.invocation.Shown.{Shown}
 use Rattle.pb_tool_explain.specs.declared.entry.Page.{Page}
 use Rattle.pb_tool_program.specs.Building.{status_of}
-use Rattle.pb_tool_program.specs.Running.{Does}
+use Rattle.pb_tool_program.specs.Running.{CarriesOut}
 use Rattle.pb_workspace_types.specs.declared.options.Options.{Options}
 
 -- A build with these options, of which nothing is shown. The status is that of its answer. After
@@ -32,5 +32,5 @@ abbrev pub ShownChangesNothing : {G P O E : Type 0} → Bool → Answers → (G 
 ShownChangesNothing {G} {P} {O} {E} is_modelled child Guards Told =
     (guard_before guard_after : G) (place : P) (out : O) (err : E) (page : Page) (moved : List Moved)
     (options : Options) (shown : Shown) (status : ℕ) (old new : BuildState) (said_before said_after : SinkState)
-    → Does is_modelled child (Guards guard_before guard_after) (Told place out err) page moved (Ok (Build options shown)) status old new said_before said_after
+    → CarriesOut is_modelled child (Guards guard_before guard_after) (Told place out err) page moved (Ok (Build options shown)) status old new said_before said_after
     → IsBuilt is_modelled child options status old new

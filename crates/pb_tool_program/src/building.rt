@@ -11,15 +11,15 @@ ghost use Rattle.pb_build_result.specs.declared.fault.BuildFault.{BuildFault};
 ghost use Rattle.pb_build_result.specs.declared.summary.Summary.{Summary};
 ghost use Rattle.pb_tool_notes_pages.specs.Looks.{LooksAgain};
 ghost use Rattle.pb_tool_notes_pages.specs.Notes.{lines_of};
-ghost use Rattle.pb_tool_program.specs.Building.{status_of, notes_of, moved_lost, moved_note, moved_notes, look_lost, error_of, folder_of, units_if, LooksOver, NotesOf, TellsDetail, TellsReasons, TellsSaid, TellsWhy, Concludes, BuildsTold};
+ghost use Rattle.pb_tool_program.specs.Building.{status_of, notes_of, moved_lost, moved_note, moved_notes, look_lost, error_of, folder_of, units_if, LooksTwice, NotesOf, TellsDetail, TellsReasons, TellsSaid, TellsWhy, Concludes, BuildsTold};
 ghost use Rattle.pb_tool_program.specs.Guarding.{Guarded, waiting};
 ghost use Rattle.pb_tool_program.specs.Writing.{Tells, TellsOr};
 
 use crate::details::detail;
 use crate::guard::Guard;
-use crate::reports::{reported, tell_report};
+use crate::reports::{reports_of, tell_report};
 use pb_build::{BuildPlan, plan_build};
-use pb_build_result::{BuildFault, Refusal, Summary, result_line, said};
+use pb_build_result::{BuildFault, Refusal, Summary, result_line, summary_text};
 use pb_data::Text;
 use pb_place_host::Reporting;
 use pb_place_types::{Moved, Out, PathText, Place, write_all};
@@ -250,7 +250,7 @@ fn repeat_to<E: Out>(alloc: Global, err: &mut E, answer: &Result<Summary, BuildF
     if summary.bad.is_none() || summary.said.as_slice().is_empty() {
         return;
     }
-    match said(alloc, summary) {
+    match summary_text(alloc, summary) {
         Ok(text) => write_all(err, text.as_slice()),
         Err(_) => write_all(err, b"note: out of memory for what a child said\n"),
     };
@@ -292,7 +292,7 @@ pub(crate) fn look<P: Place>(
     options: &Options,
     answer: &Result<Summary, BuildFault>,
 ) -> Notes
-    ensures { (heard : SinkState) → LooksOver answer.now result
+    ensures { (heard : SinkState) → LooksTwice answer.now result
         (moment (P.at place.old) heard) (moment (P.at place.new) heard) }
 {
     match answer {
@@ -383,7 +383,7 @@ pub fn build_options<P: Place + Reporting, G: Guard<P, E>, O: Out, E: Out, L: Ou
     let notes = look(alloc, place, options, &answer);
     // For the proof: they are at most ten lines.
     notes.texts();
-    mark(alloc, err, place.moved());
-    let report = reported(place, &answer);
+    mark(alloc, err, place.moved_paths());
+    let report = reports_of(place, &answer);
     conclude(alloc, err, units, &answer, report, &notes)
 }

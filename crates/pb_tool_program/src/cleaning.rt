@@ -11,7 +11,7 @@ ghost use Rattle.pb_tool_program.specs.Writing.{Tells};
 
 use crate::building::{conclude, take};
 use crate::guard::Guard;
-use crate::reports::reported;
+use crate::reports::reports_of;
 use crate::running::FAILED;
 use pb_build_result::{BuildFault, DeviceFault, Refusal};
 use pb_place_host::Reporting;
@@ -97,7 +97,7 @@ fn tell_fault<P: Place + Reporting, E: Out>(
     ensures { TellsFault fault result (E.heard err.old) (E.heard err.new) }
 {
     let answer = Err(fault);
-    let report = reported(place, &answer);
+    let report = reports_of(place, &answer);
     let notes = Notes::new(alloc);
     conclude(alloc, err, None, &answer, report, &notes)
 }

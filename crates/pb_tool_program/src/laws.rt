@@ -1,7 +1,7 @@
 //! A law of what the program does. The function does nothing: its contract is the law.
 
 ghost use Rattle.pb_tool_program.specs.Guarding.{Guarded};
-ghost use Rattle.pb_tool_program.specs.Running.{IsTold};
+ghost use Rattle.pb_tool_program.specs.Running.{IsShownAs};
 ghost use Rattle.pb_tool_program.specs.Shown.{ShownChangesNothing};
 
 use crate::guard::Guard;
@@ -11,5 +11,5 @@ use pb_tool_screen::{Coloring, Screen, Speaking};
 /// lines, the children that it starts and the files that it leaves do not change.
 pub fn shown_changes_nothing<P: Speaking, G: Guard<P, E>, O: Screen, E: Coloring>()
     ensures { ShownChangesNothing P.is_modelled P.child (Guarded G.asks G.waits)
-        (IsTold P.speaks O.shows E.colors) }
+        (IsShownAs P.speaks O.shows E.colors) }
 {}

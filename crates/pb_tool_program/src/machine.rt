@@ -119,7 +119,7 @@ pub fn tool(rt: &HostRuntime) -> u8 {
         &mut line,
     );
     // The time is taken here alone: nothing that is proved depends on it.
-    if let (Ok(start), Some(counted)) = (start, line.counted()) {
+    if let (Ok(start), Some(counted)) = (start, line.last_count()) {
         let _ = say_counts(rt, counted, start);
     }
     status

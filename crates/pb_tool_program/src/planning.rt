@@ -6,7 +6,7 @@ ghost use Rattle.pb_build_turns.specs.Executor.{moment};
 ghost use Rattle.pb_tool_program.specs.Planning.{plan_text, PrintsText, PrintsPlan, PrintsFrom, PlanFails, PlansTold};
 
 use crate::building::{conclude, look};
-use crate::reports::reported;
+use crate::reports::reports_of;
 use pb_build::{BuildPlan, plan_build};
 use pb_build_result::BuildFault;
 use pb_place_host::Reporting;
@@ -92,7 +92,7 @@ pub(crate) fn fail<P: Place + Reporting, E: Out>(
     let notes = look(alloc, place, options, &answer);
     // For the proof: they are at most ten lines.
     notes.texts();
-    let report = reported(place, &answer);
+    let report = reports_of(place, &answer);
     conclude(alloc, err, None, &answer, report, &notes)
 }
 

@@ -12,7 +12,7 @@ use std::alloc::{AllocError, Global};
 
 /// Returns what a place reports of a build that ended with a fault of the outside. After any other
 /// end this is nothing. No call of the outside is made.
-pub(crate) fn reported<'p, P: Reporting>(
+pub(crate) fn reports_of<'p, P: Reporting>(
     place: &'p P,
     answer: &Result<Summary, BuildFault>,
 ) -> &'p [Text]

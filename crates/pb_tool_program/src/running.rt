@@ -4,7 +4,7 @@ ghost use Rattle.std.specs.Prelude.{◌≡◌, [], map};
 ghost use Rattle.pb_build_turns.specs.Executor.{moment};
 ghost use Rattle.pb_tool_program.specs.Guarding.{Guarded};
 ghost use Rattle.pb_tool_program.specs.Building.{BuildsTold};
-ghost use Rattle.pb_tool_program.specs.Running.{RunsFile, Explains, IsTold, Runs};
+ghost use Rattle.pb_tool_program.specs.Running.{RunsFile, Explains, IsShownAs, Runs};
 
 use crate::building::build_options;
 use crate::cleaning::clean_options;
@@ -82,7 +82,7 @@ fn build<P: Speaking, G: Guard<P, E>, O: Screen, E: Coloring, L: Out>(
     shown: Shown,
 ) -> u8
     requires none { (P.at place.old).counts.starts.flying ≡ [] }
-    ensures told { IsTold P.speaks O.shows E.colors place.old out.old err.old shown }
+    ensures told { IsShownAs P.speaks O.shows E.colors place.old out.old err.old shown }
     ensures builds { BuildsTold P.is_modelled P.child (Guarded G.asks G.waits guard.old guard.new)
         (P.at place.new).moved options.now shown.explain result
         (moment (P.at place.old) (O.heard out.old)) (moment (P.at place.new) (O.heard out.new))
@@ -122,7 +122,7 @@ pub fn run<S: AsStr, P: Speaking, G: Guard<P, E>, O: Screen, E: Coloring, L: Out
 ) -> u8
     requires none { (P.at place.old).counts.starts.flying ≡ [] }
     ensures { Runs P.is_modelled P.child (Guarded G.asks G.waits guard.old guard.new)
-        (IsTold P.speaks O.shows E.colors place.old out.old err.old) page.now (P.at place.new).moved
+        (IsShownAs P.speaks O.shows E.colors place.old out.old err.old) page.now (P.at place.new).moved
         (map S.text words.now) here.now result
         (moment (P.at place.old) (O.heard out.old)) (moment (P.at place.new) (O.heard out.new))
         (E.heard err.old) (E.heard err.new) }

@@ -78,7 +78,7 @@ fn line_in(alloc: Global, rows: &[Row], index: usize, row: &Row) -> Result<Strin
 /// same, there is one line for them, at the first of them: `N units: SAID`.
 ///
 /// Errors: out of memory.
-pub fn grouped(alloc: Global, rows: &[Row]) -> Result<String, AllocError>
+pub fn group_rows(alloc: Global, rows: &[Row]) -> Result<String, AllocError>
     ensures { IfOk result (λ text. string_bytes text ≡ grouped rows.now) }
 {
     let mut text = String::new(alloc);

@@ -5,6 +5,6 @@ pub mod grouping;
 mod started;
 mod wording;
 
-pub use grouping::{Row, grouped};
+pub use grouping::{Row, group_rows};
 pub use started::explanation;
 pub use wording::{if_some, reason};

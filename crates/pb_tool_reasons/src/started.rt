@@ -6,7 +6,7 @@ ghost use Rattle.std.specs.Option.{option_copied};
 ghost use Rattle.pb_tool_reasons.specs.Started.{counts_line, explanation, is_tool, note_if, row_if, rows_of, started_row, tool_note};
 ghost use Rattle.pb_tool_reasons.specs.declared.grouping.Row.{Row};
 
-use crate::grouping::{Row, grouped};
+use crate::grouping::{Row, group_rows};
 use crate::wording::{if_some, reason};
 use pb_build_result::Summary;
 use pb_data::{Items, Text, TryCopy};
@@ -128,7 +128,7 @@ pub fn explanation(alloc: Global, summary: &Summary, units: usize) -> Result<Str
         summary.started.as_slice(),
         summary.differences.as_slice(),
     )?;
-    let mut text = grouped(alloc, rows.as_slice())?;
+    let mut text = group_rows(alloc, rows.as_slice())?;
     text.push_str(tool_note(summary.differences.as_slice()))?;
     let started = summary.started.len();
     let kept = summary.kept.len();

@@ -9,7 +9,7 @@ pub const ERASE: &[u8] = b"\r\x1b[K";
 const LONGEST: usize = 79;
 
 /// Returns a number with blanks before it, as wide as another one.
-fn padded(alloc: Global, number: usize, widest: usize) -> Result<String, AllocError> {
+fn pad_number(alloc: Global, number: usize, widest: usize) -> Result<String, AllocError> {
     let digits = format!(in alloc; "{number}")?;
     let wide = format!(in alloc; "{widest}")?;
     let mut text = String::new(alloc);
@@ -28,7 +28,7 @@ pub(crate) fn status_line(
     units: usize,
     key: &str,
 ) -> Result<String, AllocError> {
-    let number = padded(alloc, number, units)?;
+    let number = pad_number(alloc, number, units)?;
     let mut text = format!(in alloc; "[{number}/{units}] {key}")?;
     text = cut(alloc, text)?;
     let mut line = String::from_str(alloc, "\r\x1b[K")?;

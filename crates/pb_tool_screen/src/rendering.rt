@@ -28,7 +28,7 @@ fn text_or_none<'v>(value: &'v Value, path: &str) -> &'v str
 }
 
 /// Returns a line with a level and a text.
-fn told(alloc: Global, level: &str, text: &str) -> Result<String, AllocError>
+fn level_line(alloc: Global, level: &str, text: &str) -> Result<String, AllocError>
     ensures { IfOk result (λ line. string_bytes line ≡ told level.now text.now) }
 {
     let mut line = String::from_str(alloc, level)?;
@@ -43,7 +43,7 @@ fn told_at(alloc: Global, value: &Value, level: &str, text: &str) -> Result<Stri
     ensures { IfOk result
         (λ line. string_bytes line ≡ told_at level.now text.now (view value.now)) }
 {
-    told(alloc, text_or_none(value, level), text_or_none(value, text))
+    level_line(alloc, text_or_none(value, level), text_or_none(value, text))
 }
 
 /// Returns the text of a diagnostic: the compiler's own, or its level and its message if there is

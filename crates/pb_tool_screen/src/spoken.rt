@@ -8,7 +8,7 @@ use crate::long_record::{long_record_line, may_be_long};
 use pb_data::{Bytes, Items, Text};
 use pb_place_host::Reporting;
 use pb_place_types::{
-    Command, Ended, Moved, Out, PathFault, PathText, Place, PlaceFault, StartFault, joined,
+    Command, Ended, Moved, Out, PathFault, PathText, Place, PlaceFault, StartFault, join_pieces,
     length_of, write_all,
 };
 use std::alloc::{AllocError, Global};
@@ -123,7 +123,7 @@ fn weigh_pieces<S: Out>(
     if !may_be_long(path, length_of(pieces)) {
         return;
     }
-    match joined(alloc, pieces) {
+    match join_pieces(alloc, pieces) {
         Ok(bytes) => weigh(alloc, aside, erases, path, bytes.as_slice()),
         Err(_) => write_text(aside, erases, NO_MEMORY),
     }
@@ -299,8 +299,8 @@ impl<P: Place + Reporting, S: Out> Place for Spoken<P, S> {
         self.inside.stood_still(command)
     }
 
-    fn moved(&self) -> &[Moved] {
-        self.inside.moved()
+    fn moved_paths(&self) -> &[Moved] {
+        self.inside.moved_paths()
     }
 
     fn files_have_paths(&self) {

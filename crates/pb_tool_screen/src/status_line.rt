@@ -80,7 +80,7 @@ impl<S: Out> StatusLine<S> {
     }
 
     /// Returns how the last build ended, if one was noted.
-    pub fn counted(&self) -> Option<Counted> {
+    pub fn last_count(&self) -> Option<Counted> {
         self.counted
     }
 }

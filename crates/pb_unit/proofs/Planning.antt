@@ -32,8 +32,8 @@ use Rattle.pb_unit.specs.declared.plan.Planned.{Planned}
 use Rattle.pb_unit.specs.declared.fault.PlanFault.{PlanFault}
 use Rattle.pb_unit.specs.declared.fault.PlanFault.TheVariants.{OutOfMemory}
 use Rattle.pb_unit.specs.Units.{name_at, key_of, needs, Reaches, IsRoot, IsPlanned}
-use Rattle.pb_unit.specs.Drawing.{node_of, IsDrawn, IsMade, IsRefusal, owner_of, name_behind}
-use Rattle.pb_unit.specs.Plan.{IsBelow, ComesBefore, above, level_of, level_at, ArePlaces, profile_line, profile_folder, HasSettings, AreWithoutLibrary, IsCycle, IsStraight, IsPlan, IsCrowd, Stops, by_cycle, by_number, LieApart}
+use Rattle.pb_unit.specs.Drawing.{node_of, IsDrawn, IsPlannedFrom, IsRefusal, owner_of, name_behind}
+use Rattle.pb_unit.specs.Plan.{IsBelow, ComesBefore, above, level_of, level_at, ArePlaces, profile_line, profile_folder, HasSettings, AreWithoutLibrary, IsCycle, IsStraight, IsPlan, IsCrowd, LacksPlan, by_cycle, by_number, LieApart}
 use Rattle.pb_unit.proofs.Keys.{key_named, name_is, one_unit}
 use Rattle.pb_unit.proofs.Graphs.{AreNumbered, is_graph, need_to, need_from, reach_to, reach_at, reached_to, reached_from, roots_within, key_behind}
 use Rattle.pb_unit.proofs.Drafting.{numbered, well, root_there, roots_are}
@@ -156,16 +156,16 @@ module _ (ws : Workspace) (features : Features) (selection : Selection) (settled
       omega (arith, lt, none, length-map steps (λ (p : Step). p.node))
 
   -- why an order is refused is why the units have no plan
-  pub stops : (lent : List Node) (given : List ℕ) (shown : List Unit) (fault : OrderFault) (e : PlanFault) → lent ≡ nodes → given ≡ roots → shown ≡ units → order.IsWhy lent given 4096 fault → (e ≡ OutOfMemory) ⊎ IsRefusal ws shown fault e → (e ≡ OutOfMemory) ⊎ Stops ws features selection e
+  pub stops : (lent : List Node) (given : List ℕ) (shown : List Unit) (fault : OrderFault) (e : PlanFault) → lent ≡ nodes → given ≡ roots → shown ≡ units → order.IsWhy lent given 4096 fault → (e ≡ OutOfMemory) ⊎ IsRefusal ws shown fault e → (e ≡ OutOfMemory) ⊎ LacksPlan ws features selection e
   stops lent given shown fault e same is shows why refused = elim refused [
     | inl memory ↦ inl memory
     | inr told ↦ by fault (subst (λ (l : List ℕ). order.IsWhy nodes l 4096 fault) is (subst (λ (l : List Node). order.IsWhy l given 4096 fault) same why)) (subst (λ (l : List Unit). IsRefusal ws l fault e) shows told)
   ]
     where
-      by : (f : OrderFault) → order.IsWhy nodes roots 4096 f → IsRefusal ws units f e → (e ≡ OutOfMemory) ⊎ Stops ws features selection e
+      by : (f : OrderFault) → order.IsWhy nodes roots 4096 f → IsRefusal ws units f e → (e ≡ OutOfMemory) ⊎ LacksPlan ws features selection e
       by order_fault.OutOfMemory h r = inl r
-      by order_fault.TooMany h r = inr (subst (Stops ws features selection) (sym r) (by_number (straight_crowd h) (crowd_is h)))
-      by (order_fault.Circle circle) h (names, r, rises, same') = inr (subst (Stops ws features selection) (sym r) (by_cycle names (cycle_is circle names h rises same')))
+      by order_fault.TooMany h r = inr (subst (LacksPlan ws features selection) (sym r) (by_number (straight_crowd h) (crowd_is h)))
+      by (order_fault.Circle circle) h (names, r, rises, same') = inr (subst (LacksPlan ws features selection) (sym r) (by_cycle names (cycle_is circle names h rises same')))
 
   pub order_lent : (lent : List Node) (given : List ℕ) (steps : List Step) → lent ≡ nodes → given ≡ roots → order.IsOrder lent given steps → order.IsOrder nodes roots steps
   order_lent lent given steps same is h = subst (λ (l : List ℕ). order.IsOrder nodes l steps) is (subst (λ (l : List Node). order.IsOrder l given steps) same h)
@@ -192,15 +192,15 @@ module _ (ws : Workspace) (features : Features) (selection : Selection) (settled
     pub steps_relative : All (λ (s : Step). is_relative s.key ≡ true) steps
     steps_relative = all_from_at (λ (s : Step). is_relative s.key ≡ true) steps (λ k s at. (step_named k s at).0)
 
-    module _ (line : List Seen) (folder : List ℕ) (planned : List Planned) (made : AllZip (IsMade ws line folder units) steps planned) where
+    module _ (line : List Seen) (folder : List ℕ) (planned : List Planned) (made : AllZip (IsPlannedFrom ws line folder units) steps planned) where
       -- the step behind a unit of the plan, and the unit of a step
       record Made (k : ℕ) (p : Planned) : Type 0 where
         pub step : Step
         pub at : slice_get steps k ≡ Some step
-        pub is : IsMade ws line folder units step p
+        pub is : IsPlannedFrom ws line folder units step p
 
       step_of : (k : ℕ) (p : Planned) → slice_get planned k ≡ Some p → Made k p
-      step_of k p at = let (s, there, is) = zip_right (IsMade ws line folder units) steps planned made k p at in record { step = s; at = there; is = is }
+      step_of k p at = let (s, there, is) = zip_right (IsPlannedFrom ws line folder units) steps planned made k p at in record { step = s; at = there; is = is }
 
       unit_reached : (k : ℕ) (p : Planned) → slice_get planned k ≡ Some p → IsPlanned ws features selection p.unit
       unit_reached k p at =
@@ -218,7 +218,7 @@ module _ (ws : Workspace) (features : Features) (selection : Selection) (settled
             let (i, at, reached) = from_unit u is in
             let (s, in', e) = map_contains (λ (x : Step). x.node) steps i ((h.units i).1 reached) in
             let (k, place) = at_from_contains steps s in' in
-            let (p, there, m) = zip_left (IsMade ws line folder units) steps planned made k s place in
+            let (p, there, m) = zip_left (IsPlannedFrom ws line folder units) steps planned made k s place in
             let same : p.unit ≡ u = some_eq p.unit u (sym m.unit_at ∙ ap (slice_get units) e ∙ at) in
             subst (Contains (map (λ (x : Planned). x.unit) planned)) same (contains_map (λ (x : Planned). x.unit) planned p (contains_from_at planned k p there)),
       )
@@ -231,7 +231,7 @@ module _ (ws : Workspace) (features : Features) (selection : Selection) (settled
             where
               by_none : (q : Option Step) → slice_get steps k ≡ q → order.level_at steps k ≡ level_at planned k
               by_none None here = ap order.level_of here ∙ sym (ap level_of at)
-              by_none (Some s) here = let (p, there, m) = zip_left (IsMade ws line folder units) steps planned made k s here in absurd (let no : None ≡ Some p = sym at ∙ there in cc)
+              by_none (Some s) here = let (p, there, m) = zip_left (IsPlannedFrom ws line folder units) steps planned made k s here in absurd (let no : None ≡ Some p = sym at ∙ there in cc)
           by (Some p) at = let m = step_of k p at in ap order.level_of m.at ∙ sym m.is.level ∙ sym (ap level_of at)
 
       -- places of steps are places of units
@@ -243,7 +243,7 @@ module _ (ws : Workspace) (features : Features) (selection : Selection) (settled
         same = λ place. (
           λ has.
               let (s, at, wanted) = (are.same place).0 (subst (λ (l : List ℕ). Contains l place) same has) in
-              let (p, there, m) = zip_left (IsMade ws line folder units) steps planned made place s at in
+              let (p, there, m) = zip_left (IsPlannedFrom ws line folder units) steps planned made place s at in
               (p, there, to s.node p.unit m.unit_at wanted),
           λ some.
               let (p, at, asked) = some in
@@ -287,7 +287,7 @@ module _ (ws : Workspace) (features : Features) (selection : Selection) (settled
           map_levels [] = refl
           map_levels (x ∷ xs) = ap (λ n. n ∷ map (order.level_at steps) xs) (level_same x) ∙ ap (λ l. level_at planned x ∷ l) (map_levels xs)
 
-      comes_before : (a b : Step) (p q : Planned) → IsMade ws line folder units a p → IsMade ws line folder units b q → order.ComesBefore a b → ComesBefore p q
+      comes_before : (a b : Step) (p q : Planned) → IsPlannedFrom ws line folder units a p → IsPlannedFrom ws line folder units b q → order.ComesBefore a b → ComesBefore p q
       comes_before a b p q ma mb before = record {
         order = elim before.order [
           | inl lt ↦ inl (omega (arith, lt, ma.level, mb.level))
@@ -303,7 +303,7 @@ module _ (ws : Workspace) (features : Features) (selection : Selection) (settled
 
       pub plan_is : (profile : List ℕ) (names : List (List ℕ)) → profile_line ws profile ≡ Ok line → folder ≡ profile_folder ws profile → 0 < length steps → length steps ≤ 4096 → AreWithoutLibrary ws features names → IsPlan ws features selection profile (record { planned = planned; without_library = names })
       plan_is profile names line_is folder_is some few missing =
-          let long : length planned ≡ length steps = AllZip-long (IsMade ws line folder units) steps planned made in
+          let long : length planned ≡ length steps = AllZip-long (IsPlannedFrom ws line folder units) steps planned made in
           record {
             line = line;
             profile_has = line_is;

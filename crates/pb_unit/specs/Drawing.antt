@@ -171,7 +171,7 @@ IsRefusal ws units (order_fault.Circle circle) e = (names : List (List ℕ)) × 
 -- Planned units.
 
 -- a planned unit is made from a step of the order, with its folder and its settings
-pub record IsMade (ws : Workspace) (line : List Seen) (folder : List ℕ) (units : List Unit) (step : Step) (p : Planned) : Type 0 where
+pub record IsPlannedFrom (ws : Workspace) (line : List Seen) (folder : List ℕ) (units : List Unit) (step : Step) (p : Planned) : Type 0 where
   pub unit_at : slice_get units step.node ≡ Some p.unit
   pub key : p.key ≡ step.key
   pub out : p.out ≡ below folder step.key

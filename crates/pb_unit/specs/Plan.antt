@@ -133,15 +133,15 @@ pub record IsUsable (ws : Workspace) (profile : List ℕ) : Type 0 where
   pub is : profile_line ws profile ≡ Ok line
 
 -- Why the units have no plan. A cycle is the first reason, too many units the second, and no units the third.
-pub data Stops (ws : Workspace) (features : Features) (selection : Selection) : PlanFault → Type 0 where
-  by_cycle : (names : List (List ℕ)) (cycle : IsCycle ws features selection names) → Stops ws features selection (Cycle names)
-  by_number : (straight : IsStraight ws features selection) (crowd : IsCrowd ws features selection) → Stops ws features selection TooManyUnits
-  by_nothing : (none : (u : Unit) → IsPlanned ws features selection u → ⊥) → Stops ws features selection NothingToBuild
+pub data LacksPlan (ws : Workspace) (features : Features) (selection : Selection) : PlanFault → Type 0 where
+  by_cycle : (names : List (List ℕ)) (cycle : IsCycle ws features selection names) → LacksPlan ws features selection (Cycle names)
+  by_number : (straight : IsStraight ws features selection) (crowd : IsCrowd ws features selection) → LacksPlan ws features selection TooManyUnits
+  by_nothing : (none : (u : Unit) → IsPlanned ws features selection u → ⊥) → LacksPlan ws features selection NothingToBuild
 
 -- Why there is no plan. The profile has no line, or otherwise the units have no plan.
 pub data Refuses (ws : Workspace) (features : Features) (selection : Selection) (profile : List ℕ) : PlanFault → Type 0 where
   by_profile : (fault : ProfileFault) (told : profile_line ws profile ≡ Err fault) → Refuses ws features selection profile (Profile fault)
-  by_units : (fault : PlanFault) (usable : IsUsable ws profile) (stops : Stops ws features selection fault) → Refuses ws features selection profile fault
+  by_units : (fault : PlanFault) (usable : IsUsable ws profile) (stops : LacksPlan ws features selection fault) → Refuses ws features selection profile fault
 
 -- Laws.
 

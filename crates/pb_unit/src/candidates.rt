@@ -198,7 +198,7 @@ fn add_fixed(units: &mut Vec<Unit>, place: usize, owner: &Package) -> Result<(),
 }
 
 /// Returns the units of each package that are not binaries.
-fn fixed(alloc: Global, packages: &[Package]) -> Result<Vec<Unit>, AllocError>
+fn units_without_binaries(alloc: Global, packages: &[Package]) -> Result<Vec<Unit>, AllocError>
     ensures { IfOk result (λ units. units.items ≡ fixed packages.now) }
 {
     let mut units = Vec::new(alloc);
@@ -230,7 +230,7 @@ pub(crate) fn candidates(
         AreCandidates workspace.now features.now selection.now units.items) }
 {
     let named = named_roots(alloc, workspace, features, selection)?;
-    let mut units = fixed(alloc, workspace.packages.as_slice())?;
+    let mut units = units_without_binaries(alloc, workspace.packages.as_slice())?;
     add_named(alloc, &mut units, named.as_slice())?;
     Ok(units)
 }

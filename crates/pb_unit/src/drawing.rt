@@ -62,7 +62,7 @@ fn nodes_of(
 }
 
 /// Returns the graph of the units that a plan may have.
-pub(crate) fn drawn(
+pub(crate) fn draw_graph(
     alloc: Global,
     selected: &SelectedWorkspace<'_>,
     features: &Features,

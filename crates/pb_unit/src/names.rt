@@ -16,7 +16,7 @@ use pb_workspace_types::{Entry, Side, Workspace};
 use std::alloc::{AllocError, Global};
 
 /// Returns names in byte order, each once.
-fn sorted(names: Vec<Text>) -> Items<Text>
+fn sort_names(names: Vec<Text>) -> Items<Text>
     ensures order { IsAscending result }
     ensures same { (name : List ℕ) → Contains result name ↔ Contains names.items name }
 {
@@ -98,7 +98,7 @@ pub(crate) fn without_library(
     ensures { IfOk result (AreWithoutLibrary workspace.now features.now) }
 {
     let names = all_missing(alloc, workspace, features)?;
-    Ok(sorted(names))
+    Ok(sort_names(names))
 }
 
 /// Returns the name of the package of the unit at an index.
@@ -141,5 +141,5 @@ pub(crate) fn names_behind(
         (map (name_behind workspace.now units.now) circle.now) name) }
 {
     let names = all_behind(alloc, workspace, units, circle)?;
-    Ok(sorted(names))
+    Ok(sort_names(names))
 }

@@ -11,11 +11,11 @@ ghost use Rattle.pb_profile.specs.Settings.{settings_along};
 ghost use Rattle.pb_profile.specs.declared.fault.ProfileFault.{ProfileFault};
 ghost use Rattle.pb_graph.specs.declared.graph.Step.{Step};
 ghost use Rattle.pb_unit.specs.declared.fault.PlanFault.TheVariants.{OutOfMemory, Profile};
-ghost use Rattle.pb_unit.specs.Drawing.{IsDrawn, IsMade, IsRefusal};
+ghost use Rattle.pb_unit.specs.Drawing.{IsDrawn, IsPlannedFrom, IsRefusal};
 ghost use Rattle.pb_unit.specs.Units.{role_of};
-ghost use Rattle.pb_unit.specs.Plan.{profile_line, profile_folder, level_at, needs_in, reaches_in, IsPlan, Refuses, Stops, LieApart};
+ghost use Rattle.pb_unit.specs.Plan.{profile_line, profile_folder, level_at, needs_in, reaches_in, IsPlan, Refuses, LacksPlan, LieApart};
 
-use crate::drawing::{Drawing, drawn};
+use crate::drawing::{Drawing, draw_graph};
 use crate::fault::PlanFault;
 use crate::names::{names_behind, without_library};
 use crate::unit::Unit;
@@ -102,7 +102,7 @@ fn folder_in(
 }
 
 /// Returns the line of the requested profile, and the folder of its output.
-fn framed<'a>(
+fn profile_context<'a>(
     alloc: Global,
     workspace: &'a Workspace,
     profile: &'a str,
@@ -144,7 +144,7 @@ fn refusal(alloc: Global, workspace: &Workspace, units: &[Unit], fault: OrderFau
 }
 
 /// Returns the order of the roots and all that they reach.
-fn ordered(
+fn order_units(
     alloc: Global,
     selected: &SelectedWorkspace<'_>,
     features: &Features,
@@ -156,7 +156,7 @@ fn ordered(
     ensures some { IfOk result (λ steps. 0 < length steps) }
     ensures few { IfOk result (λ steps. length steps ≤ 4096) }
     ensures stopped { IfErr result (λ e. (e ≡ OutOfMemory)
-        ⊎ Stops selected.now.workspace features.now selected.now.selection e) }
+        ⊎ LacksPlan selected.now.workspace features.now selected.now.selection e) }
 {
     let workspace = workspace_of(selected);
     let nodes = drawing.nodes.as_slice();
@@ -191,7 +191,7 @@ fn settings_of(workspace: &Workspace, frame: &ProfileContext<'_>, unit: &Unit) -
 }
 
 /// Returns a step of the order as a unit of the plan.
-fn made(
+fn planned_unit(
     alloc: Global,
     workspace: &Workspace,
     frame: &ProfileContext<'_>,
@@ -201,7 +201,7 @@ fn made(
     requires node { step.node < length units.now }
     requires owners { All (λ u. u.owner < length workspace.now.packages) units.now }
     requires name { is_relative step.key ≡ true }
-    ensures { IfOk result (IsMade workspace.now
+    ensures { IfOk result (IsPlannedFrom workspace.now
         (map seen frame.now.line.items) frame.now.folder units.now step) }
 {
     let unit = units[step.node].copy(alloc)?;
@@ -230,12 +230,12 @@ fn all_made(
     requires owners { All (λ u. u.owner < length workspace.now.packages) units.now }
     requires names { All (λ (s : Step). is_relative s.key ≡ true) steps.items }
     ensures { IfOk result (λ planned.
-        AllZip (IsMade workspace.now (map seen frame.now.line.items) frame.now.folder units.now)
+        AllZip (IsPlannedFrom workspace.now (map seen frame.now.line.items) frame.now.folder units.now)
         steps.items planned.items) }
 {
     let mut planned = Vec::new(alloc);
     for step in steps {
-        planned.push(made(alloc, workspace, frame, units, step)?)?;
+        planned.push(planned_unit(alloc, workspace, frame, units, step)?)?;
     }
     Ok(planned)
 }
@@ -271,18 +271,18 @@ impl Plan {
             ⊎ Refuses selected.now.workspace features.now selected.now.selection profile.now e) }
     {
         let workspace = workspace_of(selected);
-        let frame = match framed(alloc, workspace, profile) {
+        let frame = match profile_context(alloc, workspace, profile) {
             Ok(frame) => frame,
             Err(fault) => return Err(fault),
         };
-        let drawing = match drawn(alloc, selected, features) {
+        let drawing = match draw_graph(alloc, selected, features) {
             Ok(drawing) => drawing,
             Err(_) => {
                 drop(frame);
                 return Err(PlanFault::OutOfMemory);
             }
         };
-        let steps = match ordered(alloc, selected, features, &drawing) {
+        let steps = match order_units(alloc, selected, features, &drawing) {
             Ok(steps) => steps,
             Err(fault) => {
                 drop(frame);

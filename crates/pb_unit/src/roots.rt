@@ -8,7 +8,7 @@ ghost use Rattle.pb_unit.specs.Drawing.{is_target, is_root, root_at, AreRoots};
 use crate::candidates::asks_libraries;
 use crate::dependencies::has_library;
 use crate::unit::{Unit, What};
-use pb_graph::derived;
+use pb_graph::derive;
 use pb_workspace_types::{SelectedWorkspace, SettledWorkspace, Side};
 use std::alloc::{AllocError, Global};
 
@@ -28,7 +28,7 @@ fn selected_marks(alloc: Global, count: usize, places: &[usize]) -> Result<Vec<b
     ensures { IfOk result (λ marks. (p : ℕ) →
         (is_on marks.items p ≡ true) ↔ Contains places.now p) }
 {
-    let marks = derived(alloc, count, places, &[])?;
+    let marks = derive(alloc, count, places, &[])?;
     Ok(marks)
 }
 

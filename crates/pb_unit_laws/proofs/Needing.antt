@@ -18,7 +18,7 @@ use Rattle.pb_unit.specs.Units.{unit, has_library, has_script, hands_on, entries
 use Rattle.pb_unit.specs.declared.unit.Unit.{Unit}
 use Rattle.pb_unit.specs.declared.unit.What.{What}
 use Rattle.pb_unit.specs.declared.unit.What.TheVariants.{Lib, Bin, Script, Run}
-use Rattle.pb_unit_laws.specs.Needs.{IsLinked, a_library, a_binary, Needs, dependency, own_run, own_library, tool, own_script, handed_on, NeedsAreThese}
+use Rattle.pb_unit_laws.specs.Needs.{UsesDependencies, a_library, a_binary, Needs, dependency, own_run, own_library, tool, own_script, handed_on, NeedsAreThese}
 
 first_on : (a b : Bool) → (a && b) ≡ true → a ≡ true
 first_on true b e = refl
@@ -84,7 +84,7 @@ module _ (ws : Workspace) (features : Features) where
 
   -- what is needed, by where it stands
 
-  by_library : (p : ℕ) (s : Side) (what : What) (linked : IsLinked what) (v : Unit) → Contains (libraries ws features p s) v → Needs ws features (unit p s what) v
+  by_library : (p : ℕ) (s : Side) (what : What) (linked : UsesDependencies what) (v : Unit) → Contains (libraries ws features p s) v → Needs ws features (unit p s what) v
   by_library p s what linked v among =
       let (n, e, at, one) = placed_from (library_by ws features p s) (entries_at ws p) v among in
       let (on, there) = where_true (is_enabled features p s n && is_normal e.kind && has_library (slice_get ws.packages e.to)) (unit e.to s Lib ∷ []) v one in
@@ -111,7 +111,7 @@ module _ (ws : Workspace) (features : Features) where
       subst (Needs ws features (unit p s Run)) (single (unit e.to s Run) v there)
       (handed_on p s n e h.to (entry_of p n e at) (first_on (is_enabled features p s n) (is_normal e.kind) both) (normal_is e.kind (second_on (is_enabled features p s n) (is_normal e.kind) both)) h.there h.made h.links h.script)
 
-  by_own_run : (p : ℕ) (s : Side) (what : What) (linked : IsLinked what) (v : Unit) → Contains (own_runs ws p s) v → Needs ws features (unit p s what) v
+  by_own_run : (p : ℕ) (s : Side) (what : What) (linked : UsesDependencies what) (v : Unit) → Contains (own_runs ws p s) v → Needs ws features (unit p s what) v
   by_own_run p s what linked v among =
       let (on, there) = where_true (has_script (slice_get ws.packages p)) (unit p s Run ∷ []) v among in
       let w = with_script (slice_get ws.packages p) on in
@@ -122,7 +122,7 @@ module _ (ws : Workspace) (features : Features) where
       let (on, there) = where_true (has_library (slice_get ws.packages p)) (unit p s Lib ∷ []) v among in
       subst (Needs ws features (unit p s (Bin name))) (single (unit p s Lib) v there) (own_library p s name on)
 
-  by_linked : (p : ℕ) (s : Side) (what : What) (linked : IsLinked what) (v : Unit) → Contains (libraries ws features p s ++ own_runs ws p s) v → Needs ws features (unit p s what) v
+  by_linked : (p : ℕ) (s : Side) (what : What) (linked : UsesDependencies what) (v : Unit) → Contains (libraries ws features p s ++ own_runs ws p s) v → Needs ws features (unit p s what) v
   by_linked p s what linked v among = elim (Contains-append_cases (libraries ws features p s) (own_runs ws p s) v among) [ inl here ↦ by_library p s what linked v here | inr run ↦ by_own_run p s what linked v run ]
 
   from_needs : (p : ℕ) (s : Side) (what : What) (v : Unit) → Contains (needs_of ws features p s what) v → Needs ws features (unit p s what) v
@@ -139,7 +139,7 @@ module _ (ws : Workspace) (features : Features) where
   one_at : (b : Bool) (v : Unit) → b ≡ true → Contains (if b then v ∷ [] else []) v
   one_at b v on = at_true b (v ∷ []) v on (head v [])
 
-  linked_in : (p : ℕ) (s : Side) (what : What) → IsLinked what → (v : Unit) → Contains (libraries ws features p s ++ own_runs ws p s) v → Contains (needs_of ws features p s what) v
+  linked_in : (p : ℕ) (s : Side) (what : What) → UsesDependencies what → (v : Unit) → Contains (libraries ws features p s ++ own_runs ws p s) v → Contains (needs_of ws features p s what) v
   linked_in p s _ a_library v among = among
   linked_in p s _ (a_binary name) v among = Contains-append_right (own_libraries ws p s) (libraries ws features p s ++ own_runs ws p s) v among
 

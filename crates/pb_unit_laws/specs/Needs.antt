@@ -16,15 +16,15 @@ use Rattle.pb_unit.specs.declared.unit.What.{What}
 use Rattle.pb_unit.specs.declared.unit.What.TheVariants.{Lib, Bin, Script, Run}
 
 -- the unit is compiled with the `[dependencies]` of its package
-pub data IsLinked : What → Type 0 where
-  a_library : IsLinked Lib
-  a_binary : (name : List ℕ) → IsLinked (Bin name)
+pub data UsesDependencies : What → Type 0 where
+  a_library : UsesDependencies Lib
+  a_binary : (name : List ℕ) → UsesDependencies (Bin name)
 
 pub data Needs (ws : Workspace) (features : Features) : Unit → Unit → Type 0 where
   -- A library or a binary needs the library of an enabled normal entry, on the same side, and the
   -- run of its package's script.
-  dependency : (p : ℕ) (s : Side) (what : What) (n : ℕ) (e : Entry) (linked : IsLinked what) (has : HasEntry ws p n e) (enabled : is_enabled features p s n ≡ true) (normal : e.kind ≡ Normal) (made : has_library (slice_get ws.packages e.to) ≡ true) → Needs ws features (unit p s what) (unit e.to s Lib)
-  own_run : (p : ℕ) (s : Side) (what : What) (owner : Package) (linked : IsLinked what) (there : slice_get ws.packages p ≡ Some owner) (script : is_some owner.script ≡ true) → Needs ws features (unit p s what) (unit p s Run)
+  dependency : (p : ℕ) (s : Side) (what : What) (n : ℕ) (e : Entry) (linked : UsesDependencies what) (has : HasEntry ws p n e) (enabled : is_enabled features p s n ≡ true) (normal : e.kind ≡ Normal) (made : has_library (slice_get ws.packages e.to) ≡ true) → Needs ws features (unit p s what) (unit e.to s Lib)
+  own_run : (p : ℕ) (s : Side) (what : What) (owner : Package) (linked : UsesDependencies what) (there : slice_get ws.packages p ≡ Some owner) (script : is_some owner.script ≡ true) → Needs ws features (unit p s what) (unit p s Run)
   -- a binary needs its package's library
   own_library : (p : ℕ) (s : Side) (name : List ℕ) (made : has_library (slice_get ws.packages p) ≡ true) → Needs ws features (unit p s (Bin name)) (unit p s Lib)
   -- a script needs the library of an enabled build entry, on the host's side

@@ -46,10 +46,10 @@ abbrev pub RunsMakeNone : Type 0
 RunsMakeNone = (project : Project) (u : Planned) → u.unit.what ≡ Run → (made_file_of project u ≡ None) × (dep_info_of project u ≡ None)
 
 -- The package of a unit has a target of the unit's kind. The package of a run has a script.
-pub data HasTarget (ws : Workspace) : OfPlan → Type 0 where
-  compile : (p : ℕ) (s : Side) (what : What) (owner : Package) (there : slice_get ws.packages p ≡ Some owner) (crate : List ℕ) (types : List CrateType) (source file : List ℕ) (is : IsTarget owner what crate types source file) → HasTarget ws (unit p s what)
-  run : (p : ℕ) (s : Side) (owner : Package) (there : slice_get ws.packages p ≡ Some owner) (source : List ℕ) (has : owner.script ≡ Some source) → HasTarget ws (unit p s Run)
+pub data UnitHasTarget (ws : Workspace) : OfPlan → Type 0 where
+  compile : (p : ℕ) (s : Side) (what : What) (owner : Package) (there : slice_get ws.packages p ≡ Some owner) (crate : List ℕ) (types : List CrateType) (source file : List ℕ) (is : IsTarget owner what crate types source file) → UnitHasTarget ws (unit p s what)
+  run : (p : ℕ) (s : Side) (owner : Package) (there : slice_get ws.packages p ≡ Some owner) (source : List ℕ) (has : owner.script ≡ Some source) → UnitHasTarget ws (unit p s Run)
 
--- the package of each unit of a plan has the unit's target, as `HasTarget` states
+-- the package of each unit of a plan has the unit's target, as `UnitHasTarget` states
 abbrev pub PlansHaveTargets : Type 0
-PlansHaveTargets = (ws : Workspace) (features : Features) (selection : Selection) (u : OfPlan) → IsPlanned ws features selection u → HasTarget ws u
+PlansHaveTargets = (ws : Workspace) (features : Features) (selection : Selection) (u : OfPlan) → IsPlanned ws features selection u → UnitHasTarget ws u

@@ -13,7 +13,7 @@ use Rattle.pb_workspace.specs.Assembled.{assembled, package_at}
 use Rattle.pb_workspace.specs.ByFolder.{values_of}
 use Rattle.pb_workspace.specs.Checks.{fault_of, has_same_names}
 use Rattle.pb_workspace.specs.Frames.{frame_of}
-use Rattle.pb_workspace.specs.Laws.{NamesDiffer, HasTarget, HasRoot, LooksAtSources}
+use Rattle.pb_workspace.specs.Laws.{NamesDiffer, HasTargetFolder, HasRoot, LooksAtSources}
 use Rattle.pb_workspace.specs.Loaded.{packages_read, root_parts, unless, workspace_from, workspace_in, workspace_of}
 use Rattle.pb_workspace.specs.Places.{places_of}
 use Rattle.pb_workspace_package.specs.declared.unresolved_package.UnresolvedPackage.{UnresolvedPackage}
@@ -85,7 +85,7 @@ module _ (manifest target : List ℕ) (w : World) (ws : Workspace) (is : workspa
       let (read, made) = bound (packages_read (from_nothing target w) (frame_of (folder_of manifest) manifest parts.workspace) parts.tables parts.found) (λ (read : LoadState). workspace_from target (frame_of (folder_of manifest) manifest parts.workspace) parts.profiles (values_of read.found)) ws inside in
       (parts, read, made)
 
-pub target_kept : HasTarget
+pub target_kept : HasTargetFolder
 target_kept manifest target w ws is =
     let (parts, read, made) = where_from manifest target w ws is in
     target_from target (frame_of (folder_of manifest) manifest parts.workspace) parts.profiles (values_of read.found) ws made

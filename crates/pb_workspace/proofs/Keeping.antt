@@ -30,7 +30,7 @@ use Rattle.pb_workspace.specs.Assembled.{assembled, default_members_of, entry_at
 use Rattle.pb_workspace.specs.ByFolder.{folders_of, value_of, values_of}
 use Rattle.pb_workspace.specs.Checks.{fault_of, has_same_names}
 use Rattle.pb_workspace_package.specs.Drafted.{IsDraft}
-use Rattle.pb_workspace.specs.Readings.{IsPut, IsReading}
+use Rattle.pb_workspace.specs.Readings.{IsStoredAt, IsReading}
 use Rattle.pb_workspace.specs.Loaded.{unless, workspace_from}
 use Rattle.pb_workspace.specs.Places.{numbered, places_of}
 use Rattle.pb_workspace.specs.Rounds.{with_draft}
@@ -44,8 +44,8 @@ use Rattle.pb_workspace_package.proofs.Puttings.{with_entry_all, with_entry_leng
 pub few_kept : (r made : LoadState) (folder : List ℕ) (d : UnresolvedPackage) → length r.found < 256 → made ≡ with_draft r folder d → length made.found ≤ 256
 few_kept r made folder d few same = let h = with_entry_length r.found folder d in let found : made.found ≡ with_entry r.found folder d = ap (λ (x : LoadState). x.found) same in subst (λ es. length es ≤ 256) (sym found) (omega arith)
 
-pub each_kept : (r made : LoadState) (folder : List ℕ) (d : UnresolvedPackage) → AllByRecursion IsPut r.found → d.folder ≡ folder → IsDraft d → made ≡ with_draft r folder d → AllByRecursion IsPut made.found
-each_kept r made folder d all at good same = let found : made.found ≡ with_entry r.found folder d = ap (λ (x : LoadState). x.found) same in subst (AllByRecursion IsPut) (sym found) (with_entry_all IsPut r.found folder d all (at, good))
+pub each_kept : (r made : LoadState) (folder : List ℕ) (d : UnresolvedPackage) → AllByRecursion IsStoredAt r.found → d.folder ≡ folder → IsDraft d → made ≡ with_draft r folder d → AllByRecursion IsStoredAt made.found
+each_kept r made folder d all at good same = let found : made.found ≡ with_entry r.found folder d = ap (λ (x : LoadState). x.found) same in subst (AllByRecursion IsStoredAt) (sym found) (with_entry_all IsStoredAt r.found folder d all (at, good))
 
 pub ruleset draft_laws = (few_kept, each_kept)
 
@@ -106,7 +106,7 @@ package_kept count places d some below is = record {
 abbrev draft_of_entry : List ℕ × UnresolvedPackage → UnresolvedPackage
 draft_of_entry e = e.1
 
-own_folders : (es : List (List ℕ × UnresolvedPackage)) → AllByRecursion IsPut es → map (λ e. e.1.folder) es ≡ map (λ e. e.0) es
+own_folders : (es : List (List ℕ × UnresolvedPackage)) → AllByRecursion IsStoredAt es → map (λ e. e.1.folder) es ≡ map (λ e. e.0) es
 own_folders [] all = refl
 own_folders (e ∷ es) all = ap (λ p. p ∷ map (λ (x : List ℕ × UnresolvedPackage). x.1.folder) es) all.0.0 ∙ ap (λ ps. e.0 ∷ ps) (own_folders es all.1)
 
@@ -122,7 +122,7 @@ defaults_below root packages (Some texts) = by (list_all (is_known root packages
     by true = All-from_recursion _ _ (places_below (is_default root texts) 0 (length packages) packages (omega arith))
     by false = tt
 
-pub assembled_settled : (target : List ℕ) (f : WorkspaceRoot) (profiles : List Profile) (es : List (List ℕ × UnresolvedPackage)) → length es ≤ 256 → AllByRecursion IsPut es → IsAscending (folders_of es) → has_same_names (values_of es) ≡ false
+pub assembled_settled : (target : List ℕ) (f : WorkspaceRoot) (profiles : List Profile) (es : List (List ℕ × UnresolvedPackage)) → length es ≤ 256 → AllByRecursion IsStoredAt es → IsAscending (folders_of es) → has_same_names (values_of es) ≡ false
     → IsSettled (assembled target f profiles (values_of es))
 unfolding assembled
 assembled_settled target f profiles es few all order names =
@@ -137,7 +137,7 @@ assembled_settled target f profiles es few all order names =
       packages = subst (λ n. All (IsPackage n) (map (package_at places) drafts)) (sym long)
           (All-from_recursion _ _ (all_map (IsPackage (length drafts)) (package_at places) drafts
           (some_there _ drafts (λ some. all_map (λ d. IsPackage (length drafts) (package_at places d)) draft_of_entry es
-          (all_given IsPut _ (λ e put. package_kept (length drafts) places e.1 some (numbered_below (length drafts) [] 0 drafts tt (omega arith)) put.1) es all)))));
+          (all_given IsStoredAt _ (λ e put. package_kept (length drafts) places e.1 some (numbered_below (length drafts) [] 0 drafts tt (omega arith)) put.1) es all)))));
       root = subst (λ n. IfSome (value_of f.root places) (λ place. place < n)) (sym long)
           (All-lookup (λ place. place < length drafts) (is_at (slice_cmp nat_cmp f.root)) places (All-from_recursion _ places (numbered_below (length drafts) [] 0 drafts tt (omega arith))));
       defaults = defaults_below f.root (map (package_at places) drafts) f.default_members;

@@ -14,8 +14,8 @@ NamesDiffer = (manifest target : List ℕ) (w : World) (ws : Workspace) → work
 
 -- A workspace has the target folder for which it was read. `HasRoot` says that its root is the
 -- folder of the manifest.
-abbrev pub HasTarget : Type 0
-HasTarget = (manifest target : List ℕ) (w : World) (ws : Workspace) → workspace_of manifest target w ≡ Ok ws → ws.target ≡ target
+abbrev pub HasTargetFolder : Type 0
+HasTargetFolder = (manifest target : List ℕ) (w : World) (ws : Workspace) → workspace_of manifest target w ≡ Ok ws → ws.target ≡ target
 
 abbrev pub HasRoot : Type 0
 HasRoot = (manifest target : List ℕ) (w : World) (ws : Workspace) → workspace_of manifest target w ≡ Ok ws → ws.root ≡ folder_of manifest

@@ -19,14 +19,14 @@ abbrev pub HasSharedInOrder : WorkspaceTable → Type 0
 HasSharedInOrder w = IsAscending (map (λ (d : WorkspaceDependency). d.key) w.dependencies)
 
 -- what each manifest that was read promises about its `[package]`, if it has one, and about its other tables
-pub record AreRead (tables : Tables) (found : Option Package) : Type 0 where
+pub record ManifestsAreRead (tables : Tables) (found : Option Package) : Type 0 where
   pub named : IfSome found (λ p. is_name p.name ≡ true)
   pub binaries : All (λ b. is_name b.name ≡ true) tables.binaries
   pub promised : ArePromised tables
 
 -- a package is stored under its own folder, and is as `IsDraft` says
-abbrev pub IsPut : List ℕ × UnresolvedPackage → Type 0
-IsPut e = (e.1.folder ≡ e.0) × IsDraft e.1
+abbrev pub IsStoredAt : List ℕ × UnresolvedPackage → Type 0
+IsStoredAt e = (e.1.folder ≡ e.0) × IsDraft e.1
 
 abbrev pub IsReading : LoadState → Type 0
-IsReading r = (length r.found ≤ max_packages) × AllByRecursion IsPut r.found
+IsReading r = (length r.found ≤ max_packages) × AllByRecursion IsStoredAt r.found

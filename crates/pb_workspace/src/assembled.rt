@@ -276,7 +276,7 @@ fn both(alloc: Global, one: &PathText, other: &PathText) -> Result<(PathText, Pa
 ///
 /// Errors: out of memory only.
 #[tactic(auto, unfolding(crate::specs::Assembled::assembled))]
-pub fn assembled(
+pub fn assemble(
     alloc: Global,
     target: &PathText,
     frame: &WorkspaceRoot,

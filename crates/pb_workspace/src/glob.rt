@@ -117,7 +117,7 @@ fn byte_cells(
 }
 
 /// Returns the row of the pattern that is one byte and then the pattern of this row.
-fn stepped(alloc: Global, byte: u8, row: &Row) -> Result<Row, AllocError>
+fn next_row(alloc: Global, byte: u8, row: &Row) -> Result<Row, AllocError>
     ensures { IfOk result (λ made. made ≡ stepped byte row.now) }
 {
     if byte == b'*' {
@@ -146,7 +146,7 @@ fn row_of(alloc: Global, pattern: &[u8], name: &[u8]) -> Result<Row, AllocError>
     let mut row = last_row(alloc, before.as_slice())?;
     for done in 0..pattern.len() {
         let place = pattern.len() - 1 - done;
-        row = stepped(alloc, pattern[place], &row)?;
+        row = next_row(alloc, pattern[place], &row)?;
     }
     Ok(row)
 }

@@ -1,7 +1,7 @@
 //! Laws of workspaces. Each function does nothing; its contract is the law.
 
 ghost use Rattle.pb_workspace.specs.GlobWords.{DecidesGlobs};
-ghost use Rattle.pb_workspace.specs.Laws.{NamesDiffer, HasTarget, HasRoot, LooksAtSources};
+ghost use Rattle.pb_workspace.specs.Laws.{NamesDiffer, HasTargetFolder, HasRoot, LooksAtSources};
 ghost use Rattle.pb_workspace.specs.PackageFolders.{FuelIsEnough};
 
 /// The limit on rounds never cuts the reading of a workspace short. At most 256 packages are read,
@@ -21,7 +21,7 @@ pub fn globs_stand_for_names()
 /// other promises.
 pub fn workspaces_are_settled()
     ensures names { NamesDiffer }
-    ensures target { HasTarget }
+    ensures target { HasTargetFolder }
     ensures root { HasRoot }
 {}
 

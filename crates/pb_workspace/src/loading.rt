@@ -12,10 +12,10 @@ ghost use Rattle.pb_workspace.specs.LookedAt.{package_looked, root_looked, other
 ghost use Rattle.pb_workspace_package.specs.Causes.{is_failure, UnlessFailed, OnlyLooks};
 ghost use Rattle.pb_workspace.specs.Frames.{frame_of};
 ghost use Rattle.pb_workspace.specs.Loaded.{root_parts, at_root, nothing_read, root_read, others_read, packages_read, workspace_from, workspace_in, workspace_of};
-ghost use Rattle.pb_workspace.specs.Readings.{AreRead, HasSharedInOrder, IsReading};
+ghost use Rattle.pb_workspace.specs.Readings.{ManifestsAreRead, HasSharedInOrder, IsReading};
 ghost use Rattle.pb_workspace.specs.NormalPaths.{HasNormalPaths};
 
-use crate::assembled::assembled;
+use crate::assembled::assemble;
 use crate::by_folder::ByFolder;
 use crate::checks::fault_of;
 use crate::member_folders::{is_manifest, member_folders};
@@ -44,7 +44,7 @@ fn root_parts<P: Place>(
 ) -> Result<Parts, LoadFault>
     ensures ok { IsTrue P.is_modelled → UnlessFailed result
         (root_parts (from_nothing target.now (P.at place.old).world) path.now) }
-    ensures read { IfOk result (λ parts. AreRead parts.tables parts.found) }
+    ensures read { IfOk result (λ parts. ManifestsAreRead parts.tables parts.found) }
     ensures shared { IfOk result (λ parts. IfSome parts.workspace HasSharedInOrder) }
     ensures quiet { OnlyLooks result (P.at place.old) (P.at place.new) }
     ensures looks { Looks result (root_looked target.now path.now)
@@ -101,7 +101,7 @@ fn root_package_read<P: Place>(
     tables: Tables,
     found: &Package,
 ) -> Result<LoadState, LoadFault>
-    requires { AreRead tables (Some found.now) }
+    requires { ManifestsAreRead tables (Some found.now) }
     ensures ok { IsTrue P.is_modelled → UnlessFailed result
         (root_read (from_nothing target.now (P.at place.old).world) frame.now tables
         (Some found.now)) }
@@ -126,7 +126,7 @@ fn root_read<P: Place>(
     tables: Tables,
     found: Option<Package>,
 ) -> Result<LoadState, LoadFault>
-    requires { AreRead tables found }
+    requires { ManifestsAreRead tables found }
     ensures ok { IsTrue P.is_modelled → UnlessFailed result
         (root_read (from_nothing target.now (P.at place.old).world) frame.now tables found) }
     ensures kept { IfOk result IsReading }
@@ -181,7 +181,7 @@ fn packages_read<P: Place>(
     tables: Tables,
     found: Option<Package>,
 ) -> Result<LoadState, LoadFault>
-    requires { AreRead tables found }
+    requires { ManifestsAreRead tables found }
     ensures ok { IsTrue P.is_modelled → UnlessFailed result
         (packages_read (from_nothing target.now (P.at place.old).world) frame.now tables found) }
     ensures kept { IfOk result IsReading }
@@ -212,12 +212,12 @@ fn workspace_from(
     if let Some(fault) = fault_of(alloc, drafts.as_slice(), &places)? {
         return Err(fault);
     }
-    let made = assembled(alloc, target, frame, profiles, &places, drafts)?;
+    let made = assemble(alloc, target, frame, profiles, &places, drafts)?;
     Ok(made)
 }
 
 /// Returns the workspace of a reading.
-fn finished(
+fn workspace_of(
     alloc: Global,
     target: &PathText,
     frame: &WorkspaceRoot,
@@ -247,7 +247,7 @@ fn workspace_in<P: Place>(
     tables: Tables,
     found: Option<Package>,
 ) -> Result<SettledWorkspace, LoadFault>
-    requires { AreRead tables found }
+    requires { ManifestsAreRead tables found }
     ensures ok { IsTrue P.is_modelled → UnlessFailed result
         (workspace_in (from_nothing target.now (P.at place.old).world) target.now frame.now
         profiles tables found) }
@@ -259,7 +259,7 @@ fn workspace_in<P: Place>(
         (P.at place.old).counts (P.at place.new).counts }
 {
     let read = packages_read(alloc, place, target, frame, tables, found)?;
-    let made = finished(alloc, target, frame, profiles, read)?;
+    let made = workspace_of(alloc, target, frame, profiles, read)?;
     Ok(made)
 }
 

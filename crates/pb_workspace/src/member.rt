@@ -10,7 +10,7 @@ ghost use Rattle.pb_workspace_package.specs.Sources.{resolved};
 use crate::glob::matches;
 use pb_manifest_types::WrittenPath;
 use pb_place_types::{PathText, RelativePath};
-use pb_workspace_package::source::resolved;
+use pb_workspace_package::source::resolve_path;
 use pb_workspace_package::{cut_at_slashes, names_in};
 use std::alloc::{AllocError, Global};
 
@@ -36,7 +36,7 @@ pub fn is_excluded(
     ensures { IfOk result (λ answer. answer ≡ is_excluded root.now exclude.now folder.now) }
 {
     for text in exclude {
-        let path = resolved(alloc, root, text)?;
+        let path = resolve_path(alloc, root, text)?;
         if folder.starts_with(&path) {
             return Ok(true);
         }

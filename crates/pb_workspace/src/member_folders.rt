@@ -18,7 +18,7 @@ use crate::workspace_root::WorkspaceRoot;
 use pb_data::Items;
 use pb_manifest_types::WrittenPath;
 use pb_place_types::{PathText, Place};
-use pb_workspace_package::source::{is_source, own_path, resolved, source_folders};
+use pb_workspace_package::source::{is_source, own_path, resolve_path, source_folders};
 use pb_workspace_types::LoadFault;
 use std::alloc::{AllocError, Global};
 
@@ -39,7 +39,7 @@ fn is_fixed(part: &Part) -> bool
 /// Returns the folders whose names match a pattern.
 ///
 /// Errors: out of memory only.
-fn matching(
+fn folders_matching(
     alloc: Global,
     pattern: &str,
     folders: Items<PathText>,
@@ -106,7 +106,7 @@ fn one_step<P: Place>(
         return Ok(named);
     }
     let folders = source_folders(alloc, place, target, folder)?;
-    let named = matching(alloc, part.text.as_str(), folders)?;
+    let named = folders_matching(alloc, part.text.as_str(), folders)?;
     Ok(named)
 }
 
@@ -314,7 +314,7 @@ fn folder_written(
 ) -> Result<Items<PathText>, AllocError>
     ensures { IfOk result (λ folders. folders ≡ resolved root.now text.now ∷ []) }
 {
-    let folder = resolved(alloc, root, text)?;
+    let folder = resolve_path(alloc, root, text)?;
     alone(alloc, folder)
 }
 

@@ -13,7 +13,7 @@ ghost use Rattle.pb_workspace.specs.Frames.{given_to, nothing};
 ghost use Rattle.pb_workspace_types.specs.declared.fault.LoadFault.TheVariants as load_fault;
 ghost use Rattle.pb_workspace.specs.Rounds.{read_found, manifest_at, tables_in, parts_in, parts_at, no_package, draft_if, standing_in, draft_in_file, draft_at, leads_to, with_draft, one_read, all_read, round, rounds};
 ghost use Rattle.pb_workspace_package.specs.Drafted.{IsDraft};
-ghost use Rattle.pb_workspace.specs.Readings.{AreRead, HasSharedInOrder, IsReading};
+ghost use Rattle.pb_workspace.specs.Readings.{ManifestsAreRead, HasSharedInOrder, IsReading};
 
 use crate::by_folder::{ByFolder, put_folders};
 use crate::workspace_root::{WorkspaceRoot, is_member, nothing};
@@ -51,7 +51,7 @@ pub fn no_manifest(alloc: Global, path: &PathText) -> LoadFault
 }
 
 /// Returns the refusal of a manifest.
-fn refused(alloc: Global, path: &PathText, fault: ManifestFault) -> LoadFault
+fn manifest_refusal(alloc: Global, path: &PathText, fault: ManifestFault) -> LoadFault
     ensures refusal { is_outside result ≡ false → result ≡ load_fault.Manifest path.now fault }
     ensures here { is_failure result ≡ false }
 {
@@ -75,7 +75,7 @@ fn read_found(alloc: Global, path: &PathText, found: Option<Bytes>) -> Result<Ma
     match read_manifest(alloc, bytes.as_slice()) {
         Ok(manifest) => Ok(manifest),
         Err(ManifestFault::OutOfMemory) => Err(LoadFault::OutOfMemory),
-        Err(fault) => Err(refused(alloc, path, fault)),
+        Err(fault) => Err(manifest_refusal(alloc, path, fault)),
     }
 }
 
@@ -126,7 +126,7 @@ pub fn draft_if<P: Place>(
     tables: Tables,
     found: Option<Package>,
 ) -> Result<UnresolvedPackage, LoadFault>
-    requires { AreRead tables found }
+    requires { ManifestsAreRead tables found }
     ensures ok { IsTrue P.is_modelled → UnlessFailed result
         (draft_if (from_nothing target.now (P.at place.old).world) frame.now is_member at
         tables found) }
@@ -147,7 +147,7 @@ pub fn draft_if<P: Place>(
         }
         None => {
             drop(tables);
-            Err(refused(alloc, &at.manifest, ManifestFault::BadKind(Key::Package)))
+            Err(manifest_refusal(alloc, &at.manifest, ManifestFault::BadKind(Key::Package)))
         }
     }
 }
@@ -188,7 +188,7 @@ pub struct Parts {
 pub fn parts_of(read: Manifest) -> Parts
     requires { IsManifest read }
     ensures parts { result ≡ parts_in read }
-    ensures read { AreRead result.tables result.found }
+    ensures read { ManifestsAreRead result.tables result.found }
     ensures shared { IfSome result.workspace HasSharedInOrder }
 {
     Parts {
@@ -218,7 +218,7 @@ pub fn parts_at<P: Place>(
 ) -> Result<Parts, LoadFault>
     ensures ok { IsTrue P.is_modelled → UnlessFailed result
         (parts_at (from_nothing target.now (P.at place.old).world) path.now) }
-    ensures read { IfOk result (λ parts. AreRead parts.tables parts.found) }
+    ensures read { IfOk result (λ parts. ManifestsAreRead parts.tables parts.found) }
     ensures shared { IfOk result (λ parts. IfSome parts.workspace HasSharedInOrder) }
     ensures quiet { OnlyLooks result (P.at place.old) (P.at place.new) }
     ensures looks { Looks result (looked target.now (call.Read path.now))
@@ -285,7 +285,7 @@ fn draft_at<P: Place>(
         (P.at place.old).counts (P.at place.new).counts }
 {
     if *folder == frame.root {
-        return Err(refused(alloc, &frame.manifest, ManifestFault::BadKind(Key::Package)));
+        return Err(manifest_refusal(alloc, &frame.manifest, ManifestFault::BadKind(Key::Package)));
     }
     let at = standing_in(alloc, frame, folder)?;
     let member = is_member(alloc, frame, meant, folder)?;

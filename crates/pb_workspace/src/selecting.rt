@@ -128,7 +128,7 @@ fn by_default(alloc: Global, workspace: &Workspace) -> Result<Items<usize>, Load
             Ok(places)
         }
         DefaultMembers::Named(places) => {
-            let places = copied(alloc, places.as_slice())?;
+            let places = copy_indices(alloc, places.as_slice())?;
             Ok(places)
         }
         DefaultMembers::Unknown => Err(LoadFault::NoSuchPackage),
@@ -136,7 +136,7 @@ fn by_default(alloc: Global, workspace: &Workspace) -> Result<Items<usize>, Load
 }
 
 /// Returns a copy of these indices.
-fn copied(alloc: Global, places: &[usize]) -> Result<Items<usize>, AllocError>
+fn copy_indices(alloc: Global, places: &[usize]) -> Result<Items<usize>, AllocError>
     ensures { IfOk result (λ made. made ≡ places.now) }
 {
     Ok(Items::from_vec(places.to_vec(alloc)?))

@@ -23,7 +23,7 @@ use Rattle.pb_workspace.specs.ByFolder.{value_of}
 use Rattle.pb_workspace_package.specs.Wanted.{is_renamed, wanted_at, shared_at, taken_from, wanted_by, wanted_of, each_wanted}
 use Rattle.pb_workspace_package.specs.declared.wanted.Wanted.{Wanted}
 use Rattle.pb_workspace.proofs.FoldersPut.{opened}
-use Rattle.pb_workspace_laws.specs.Packages.{Asks, path, workspace, IsEntry}
+use Rattle.pb_workspace_laws.specs.Packages.{RequestsPackage, path, workspace, IsEntry}
 
 -- the package to which an entry leads
 pub record Leads (places : List (List ℕ × ℕ)) (ws : Workspace) (w : Wanted) : Type 0 where
@@ -67,7 +67,7 @@ module _ (root folder manifest : List ℕ) (given : List WorkspaceDependency) (k
     pub kind_is : w.kind ≡ kind
     pub optional : w.optional ≡ d.optional
     pub s : PathSource
-    pub asks : Asks root folder given d w.folder s w.default_features w.features
+    pub asks : RequestsPackage root folder given d w.folder s w.default_features w.features
     pub name : w.name ≡ unwrap_or s.package w.key
     pub renamed : w.renamed ≡ not (bytes_eq w.name w.key)
     pub version : w.version ≡ s.version
@@ -152,7 +152,7 @@ module _ (root folder manifest : List ℕ) (given : List WorkspaceDependency) (k
       optional = is.optional;
       s = is.s;
       found = leads.found;
-      asks = subst (λ x. Asks root folder given d x is.s w.default_features w.features) (sym leads.folder) is.asks;
+      asks = subst (λ x. RequestsPackage root folder given d x is.s w.default_features w.features) (sym leads.folder) is.asks;
       there = leads.there;
       name = leads.name ∙ is.name;
       renamed = is.renamed ∙ ap (λ x. not (bytes_eq x w.key)) (sym leads.name);

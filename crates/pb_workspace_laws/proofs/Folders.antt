@@ -27,8 +27,8 @@ use Rattle.pb_workspace.specs.declared.workspace_root.WorkspaceRoot.{WorkspaceRo
 use Rattle.pb_workspace.specs.declared.rounds.LoadState.{LoadState}
 use Rattle.pb_workspace_package.specs.declared.wanted.Wanted.{Wanted}
 use Rattle.pb_workspace.proofs.WholeWorkspace.{map_only, map_each}
-use Rattle.pb_workspace_laws.specs.Folders.{IsFirst, LeadsTo, IsPackageFolder, root, member}
-use Rattle.pb_workspace_laws.specs.Packages.{Asks, path, workspace}
+use Rattle.pb_workspace_laws.specs.Folders.{IsRootOrMember, LeadsTo, IsPackageFolder, root, member}
+use Rattle.pb_workspace_laws.specs.Packages.{RequestsPackage, path, workspace}
 use Rattle.pb_workspace_laws.proofs.Entries.{each_asked, each_has}
 use Rattle.pb_workspace_laws.proofs.Reading.{all_at, one_manifest, drafted, wanted_so}
 use Rattle.pb_workspace_laws.proofs.Sorting.{Rises, one_of_key}
@@ -50,7 +50,7 @@ pub record IsOne (to other : List ℕ) (s t : PathSource) (a b : Bool) (xs ys : 
   pub features_are : xs ≡ ys
 
 module _ (base folder : List ℕ) (entries : List WorkspaceDependency) (up : Keyed entries) (d : Dependency) where
-  pub asks_one : (to other : List ℕ) (s t : PathSource) (a b : Bool) (xs ys : List (List ℕ)) → Asks base folder entries d to s a xs → Asks base folder entries d other t b ys → IsOne to other s t a b xs ys
+  pub asks_one : (to other : List ℕ) (s t : PathSource) (a b : Bool) (xs ys : List (List ℕ)) → RequestsPackage base folder entries d to s a xs → RequestsPackage base folder entries d other t b ys → IsOne to other s t a b xs ys
   asks_one _ _ _ _ _ _ _ _ (path s is) (path t other) =
       let both : source.Path s ≡ source.Path t = sym is ∙ other in
       let same : s ≡ t = cc in
@@ -72,8 +72,8 @@ module _ (base folder : List ℕ) (entries : List WorkspaceDependency) (up : Key
 
 module _ (sources : World) (f : WorkspaceRoot) (up : Keyed f.given.dependencies) where
   -- what is taken from the workspace is taken from its entries
-  widened : (b : Bool) (x : List ℕ) (d : Dependency) (to : List ℕ) (s : PathSource) (default : Bool) (features : List (List ℕ)) → Asks f.root x (given_to f b).dependencies d to s default features
-      → Asks f.root x f.given.dependencies d to s default features
+  widened : (b : Bool) (x : List ℕ) (d : Dependency) (to : List ℕ) (s : PathSource) (default : Bool) (features : List (List ℕ)) → RequestsPackage f.root x (given_to f b).dependencies d to s default features
+      → RequestsPackage f.root x f.given.dependencies d to s default features
   widened true x d to s default features asks = asks
   widened false x d _ _ _ _ (path s is) = path s is
   widened false x d _ _ _ _ (workspace default is w there same s has) = absurd (none w there)
@@ -85,7 +85,7 @@ module _ (sources : World) (f : WorkspaceRoot) (up : Keyed f.given.dependencies)
       let b : Bool = is_member f (member_folders sources f) x in
       let wanted = wanted_so sources (standing_in f x) b (given_to f b) own.written own.own d own.made in
       let m = map_only (λ (w : Wanted). w.folder) d.wanted y there in
-      let leads : (dd : Dependency) → Contains (own.own.dependencies ++ own.own.build_dependencies) dd → (s : PathSource) → Asks f.root x (given_to f b).dependencies dd m.0.folder s m.0.default_features m.0.features → LeadsTo sources f x y =
+      let leads : (dd : Dependency) → Contains (own.own.dependencies ++ own.own.build_dependencies) dd → (s : PathSource) → RequestsPackage f.root x (given_to f b).dependencies dd m.0.folder s m.0.default_features m.0.features → LeadsTo sources f x y =
       (λ dd among s asks. record {
         own = own.own;
         read = own.read;
@@ -94,7 +94,7 @@ module _ (sources : World) (f : WorkspaceRoot) (up : Keyed f.given.dependencies)
         s = s;
         default = m.0.default_features;
         features = m.0.features;
-        asks = subst (λ z. Asks f.root x f.given.dependencies dd z s m.0.default_features m.0.features) m.2 (widened b x dd m.0.folder s m.0.default_features m.0.features asks);
+        asks = subst (λ z. RequestsPackage f.root x f.given.dependencies dd z s m.0.default_features m.0.features) m.2 (widened b x dd m.0.folder s m.0.default_features m.0.features asks);
       }) in
       elim (Contains-append_cases wanted.normal wanted.for_script m.0 (subst (λ ws. Contains ws m.0) (sym wanted.whole) m.1)) [
         | inl first ↦ (let e = each_asked f.root x (standing_in f x).manifest (given_to f b).dependencies Normal own.own.dependencies wanted.normal wanted.of_dependencies m.0 first in
@@ -110,7 +110,7 @@ module _ (sources : World) (f : WorkspaceRoot) (up : Keyed f.given.dependencies)
       let wanted = wanted_so sources (standing_in f x) b (given_to f b) own.written own.own d own.made in
       let same : l.own ≡ own.own = one_manifest sources _ l.own own.own l.read own.read in
       let there : Contains (own.own.dependencies ++ own.own.build_dependencies) l.d = subst (λ (m : Manifest). Contains (m.dependencies ++ m.build_dependencies) l.d) same l.is_there in
-      let leads : (w : Wanted) → Contains d.wanted w → (s : PathSource) → Asks f.root x (given_to f b).dependencies l.d w.folder s w.default_features w.features → Contains (map (λ (w : Wanted). w.folder) d.wanted) y =
+      let leads : (w : Wanted) → Contains d.wanted w → (s : PathSource) → RequestsPackage f.root x (given_to f b).dependencies l.d w.folder s w.default_features w.features → Contains (map (λ (w : Wanted). w.folder) d.wanted) y =
       (λ w among s asks. subst (Contains (map (λ (w : Wanted). w.folder) d.wanted))
       (asks_one f.root x f.given.dependencies up l.d w.folder y s l.s w.default_features l.default w.features l.features (widened b x l.d w.folder s w.default_features w.features asks) l.asks).to_is
       (map_each (λ (w : Wanted). w.folder) d.wanted w among)) in
@@ -129,11 +129,11 @@ module _ (sources : World) (f : WorkspaceRoot) (up : Keyed f.given.dependencies)
         let m = map_only (λ (e : List ℕ × UnresolvedPackage). e.0) reading.found x there in
         (m.0.1, ap (drafts.package_in sources f) (sym m.2) ∙ all_at (λ (e : List ℕ × UnresolvedPackage). drafts.package_in sources f e.0 ≡ Ok e.1) reading.found m.0 packs m.1)
 
-    first_to : (x : List ℕ) → drafts.IsRootOrMember sources f r.package x → IsFirst sources f r x
+    first_to : (x : List ℕ) → drafts.IsRootOrMember sources f r.package x → IsRootOrMember sources f r x
     first_to _ (drafts.root p is) = root p is refl
     first_to _ (drafts.member text x written means) = member text written means
 
-    first_from : (x : List ℕ) → IsFirst sources f r x → drafts.IsRootOrMember sources f r.package x
+    first_from : (x : List ℕ) → IsRootOrMember sources f r x → drafts.IsRootOrMember sources f r.package x
     first_from x (root p is here) = subst (drafts.IsRootOrMember sources f r.package) (sym here) (drafts.root p is)
     first_from x (member text written means) = drafts.member text x written means
 

@@ -66,7 +66,7 @@ use Rattle.pb_workspace_laws.proofs.AllBinaries.{all_rise, all_are}
 use Rattle.pb_workspace_package.specs.Binaries.{binaries_of, written_binary}
 use Rattle.pb_workspace_types.specs.declared.package.Binary.{Binary}
 use Rattle.pb_workspace_types.specs.Settled.{IsAscending, IsSettled}
-use Rattle.pb_workspace.specs.Readings.{IsPut}
+use Rattle.pb_workspace.specs.Readings.{IsStoredAt}
 use Rattle.pb_manifest_types.specs.Letters.{is_name}
 use Rattle.pb_workspace_laws.specs.Packages.{IsOwnOrTaken, library, script, IsEntry, IsPackageOf}
 use Rattle.pb_workspace_laws.proofs.Fine.{AreFine, fine_so, not_off, matched}
@@ -372,7 +372,7 @@ module _ (manifest target : List ℕ) (w : World) (ws : Workspace) (path : is_pa
             root_place ∙ h.2 ∙ ap (λ k. Some k) same
 
     -- what is promised of each package
-    put_so : (es : List (List ℕ × UnresolvedPackage)) → AllByRecursion (λ (e : List ℕ × UnresolvedPackage). package_in sources f e.0 ≡ Ok e.1) es → AllByRecursion IsPut es
+    put_so : (es : List (List ℕ × UnresolvedPackage)) → AllByRecursion (λ (e : List ℕ × UnresolvedPackage). package_in sources f e.0 ≡ Ok e.1) es → AllByRecursion IsStoredAt es
     put_so [] all = tt
     put_so (e ∷ es) all =
         let b : Bool = is_member f (member_folders sources f) e.0 in

@@ -11,12 +11,12 @@ use Rattle.pb_place_types.specs.World.{World}
 use Rattle.pb_workspace.specs.MemberFolders.{folders_meant}
 use Rattle.pb_workspace.specs.declared.workspace_root.WorkspaceRoot.{WorkspaceRoot}
 use Rattle.pb_workspace_laws.specs.Files.{IsManifestAt}
-use Rattle.pb_workspace_laws.specs.Packages.{Asks}
+use Rattle.pb_workspace_laws.specs.Packages.{RequestsPackage}
 
 -- The folder is the root's, if the root manifest describes a package, or a text of `members` means it.
-pub data IsFirst (sources : World) (f : WorkspaceRoot) (r : Manifest) (folder : List ℕ) : Type 0 where
-  root : (w : Written) (is_package : r.package ≡ Some w) (is : folder ≡ f.root) → IsFirst sources f r folder
-  member : (text : List ℕ) (written : Contains f.members text) (means : Contains (folders_meant sources f text) folder) → IsFirst sources f r folder
+pub data IsRootOrMember (sources : World) (f : WorkspaceRoot) (r : Manifest) (folder : List ℕ) : Type 0 where
+  root : (w : Written) (is_package : r.package ≡ Some w) (is : folder ≡ f.root) → IsRootOrMember sources f r folder
+  member : (text : List ℕ) (written : Contains f.members text) (means : Contains (folders_meant sources f text) folder) → IsRootOrMember sources f r folder
 
 -- a dependency in the manifest of the folder `from` requests the package in the folder `to`
 pub record LeadsTo (sources : World) (f : WorkspaceRoot) (from to : List ℕ) : Type 0 where
@@ -27,9 +27,9 @@ pub record LeadsTo (sources : World) (f : WorkspaceRoot) (from to : List ℕ) : 
   pub s : PathSource
   pub default : Bool
   pub features : List (List ℕ)
-  pub asks : Asks f.root from f.given.dependencies d to s default features
+  pub asks : RequestsPackage f.root from f.given.dependencies d to s default features
 
 -- The least set of folders that contains the folders of the root package and of the members. If a
 -- package's folder is in the set, so is the folder of each path dependency of this package.
 abbrev pub IsPackageFolder : World → WorkspaceRoot → Manifest → List ℕ → Type 0
-IsPackageFolder sources f r = Reached (IsFirst sources f r) (LeadsTo sources f)
+IsPackageFolder sources f r = Reached (IsRootOrMember sources f r) (LeadsTo sources f)

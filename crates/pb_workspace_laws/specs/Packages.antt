@@ -113,10 +113,10 @@ pub data IsFeature (m : Manifest) (f : Feature) : Type 0 where
 -- inherits the workspace's entry with its key, the path is that of the entry and starts at the
 -- root's folder. An inherited dependency requests the features of both entries, and `default` if
 -- one of the two entries does.
-pub data Asks (root folder : List ℕ) (entries : List WorkspaceDependency) (d : Dependency) : List ℕ → PathSource → Bool → List (List ℕ) → Type 0 where
-  path : (s : PathSource) (is : d.source ≡ source.Path s) → Asks root folder entries d (resolved folder s.path) s s.default_features d.features
+pub data RequestsPackage (root folder : List ℕ) (entries : List WorkspaceDependency) (d : Dependency) : List ℕ → PathSource → Bool → List (List ℕ) → Type 0 where
+  path : (s : PathSource) (is : d.source ≡ source.Path s) → RequestsPackage root folder entries d (resolved folder s.path) s s.default_features d.features
   workspace : (default : Bool) (is : d.source ≡ source.Workspace default) (w : WorkspaceDependency) (there : Contains entries w) (same : w.key ≡ d.key) (s : PathSource) (has_path : w.source ≡ shared.Path s)
-      → Asks root folder entries d (resolved root s.path) s (s.default_features || default) (w.features ++ d.features)
+      → RequestsPackage root folder entries d (resolved root s.path) s (s.default_features || default) (w.features ++ d.features)
 
 -- The entry of a dependency leads to the package in the requested folder. This package has a
 -- matching version. The package's name is what `package` says, or else the key.
@@ -126,7 +126,7 @@ pub record IsEntry (root folder : List ℕ) (entries : List WorkspaceDependency)
   pub optional : e.optional ≡ d.optional
   pub s : PathSource
   pub found : Package
-  pub asks : Asks root folder entries d found.folder s e.default_features e.features
+  pub asks : RequestsPackage root folder entries d found.folder s e.default_features e.features
   pub there : slice_get ws.packages e.to ≡ Some found
   pub name : found.name ≡ unwrap_or s.package e.key
   pub renamed : e.renamed ≡ not (bytes_eq found.name e.key)

@@ -8,7 +8,7 @@ use Rattle.pb_place_types.specs.Paths.{is_at_or_below}
 use Rattle.pb_place_types.specs.declared.place.PlaceFault.{PlaceFault}
 use Rattle.pb_place_types.specs.declared.place.PlaceFault.TheVariants as place
 use Rattle.pb_workspace_types.specs.declared.fault.LoadFault.TheVariants.{Place, OutOfMemory}
-use Rattle.pb_workspace_package.specs.Causes.{fault_at, is_outside, is_read, Reads}
+use Rattle.pb_workspace_package.specs.Causes.{fault_at, is_outside, is_read, ReadsOnly}
 use Rattle.pb_workspace_package.specs.Looks.{looked}
 use Rattle.pb_workspace_package.proofs.Looking.{Ends}
 
@@ -35,14 +35,14 @@ of_list path _ only = refl
 
 module _ (call : Call) (old new : Counts) where
   -- how the counters moved
-  pub call_reads : (fault : PlaceFault) → is_read (fault_at (name_given call) fault) ≡ true → new ≡ past_place_fault call fault old → Reads {T = ℕ} (Err (fault_at (name_given call) fault)) old new
-  call_reads place.Read reads at = subst (λ c. Reads {T = ℕ} (Err (Place (name_given call) place.Read)) old c) (sym at) (refl, (λ n. absurd (false≢true (sym n))), (λ y. refl), (λ y. refl), (λ y. refl), (λ y. refl), refl)
-  call_reads place.List reads at = subst (λ c. Reads {T = ℕ} (Err (Place (name_given call) place.List)) old c) (sym at) (refl, (λ n. absurd (false≢true (sym n))), (λ y. refl), (λ y. refl), (λ y. refl), (λ y. refl), refl)
+  pub call_reads : (fault : PlaceFault) → is_read (fault_at (name_given call) fault) ≡ true → new ≡ past_place_fault call fault old → ReadsOnly {T = ℕ} (Err (fault_at (name_given call) fault)) old new
+  call_reads place.Read reads at = subst (λ c. ReadsOnly {T = ℕ} (Err (Place (name_given call) place.Read)) old c) (sym at) (refl, (λ n. absurd (false≢true (sym n))), (λ y. refl), (λ y. refl), (λ y. refl), (λ y. refl), refl)
+  call_reads place.List reads at = subst (λ c. ReadsOnly {T = ℕ} (Err (Place (name_given call) place.List)) old c) (sym at) (refl, (λ n. absurd (false≢true (sym n))), (λ y. refl), (λ y. refl), (λ y. refl), (λ y. refl), refl)
   call_reads place.Write reads at = absurd (false≢true reads)
   call_reads place.Remove reads at = absurd (false≢true reads)
   call_reads place.Variable reads at = absurd (false≢true reads)
   call_reads place.OutOfMemory reads at =
-      subst (λ c. Reads {T = ℕ} (Err OutOfMemory) old c) (sym at) (refl, (λ n. refl), (λ y. absurd (false≢true y)), (λ y. absurd (false≢true y)), (λ y. absurd (false≢true y)), (λ y. absurd (false≢true y)), refl)
+      subst (λ c. ReadsOnly {T = ℕ} (Err OutOfMemory) old c) (sym at) (refl, (λ n. refl), (λ y. absurd (false≢true y)), (λ y. absurd (false≢true y)), (λ y. absurd (false≢true y)), (λ y. absurd (false≢true y)), refl)
 
 -- what was looked at
 module _ (call : Call) (old new : Counts) where

@@ -5,7 +5,7 @@ use Rattle.pb_data.specs.UnlessOom.{UnlessOom, ◌>>=◌}
 use Rattle.pb_place_types.specs.At.{At}
 use Rattle.pb_place_types.specs.Counts.{Counts, up}
 use Rattle.pb_place_types.specs.World.{World}
-use Rattle.pb_workspace_package.specs.Causes.{UnlessFailed, Reads, OnlyLooks, is_outside}
+use Rattle.pb_workspace_package.specs.Causes.{UnlessFailed, ReadsOnly, OnlyLooks, is_outside}
 use Rattle.pb_workspace_types.specs.declared.fault.LoadFault.{LoadFault}
 use Rattle.pb_workspace_types.specs.declared.fault.LoadFault.TheVariants.{OutOfMemory}
 
@@ -20,7 +20,7 @@ pub told_step : {A B : Type 0} (next : World → A → Result B LoadFault) (firs
 told_step next first w now x result is same told = subst (λ v. UnlessFailed result (v >>= next w)) (sym is) (subst (λ v. UnlessFailed result (next v x)) same told)
 
 -- how the counters move over both
-pub reads_step : {T : Type 0} (result : Result T LoadFault) (old mid new : Counts) → mid.failures ≡ old.failures → mid.starts ≡ old.starts → Reads result mid new → Reads result old new
+pub reads_step : {T : Type 0} (result : Result T LoadFault) (old mid new : Counts) → mid.failures ≡ old.failures → mid.starts ≡ old.starts → ReadsOnly result mid new → ReadsOnly result old new
 reads_step (Ok x) old mid new f s r = (r.0 ∙ f, r.1 ∙ s)
 reads_step (Err e) old mid new f s r = (r.0 ∙ s, (λ n. r.1 n ∙ f), (λ y. r.2 y ∙ ap up f), r.3, r.4, r.5, r.6)
 

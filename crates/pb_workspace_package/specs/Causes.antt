@@ -54,8 +54,8 @@ UnlessFailed result answer = MatchResult result (λ x. answer ≡ Ok x) (λ e. i
 
 -- No child was started. The fault says that a call failed if and only if a call failed. This call
 -- then had the fault and the path that are reported, and was the last call.
-abbrev pub Reads : {T : Type 0} → Result T LoadFault → Counts → Counts → Type 0
-Reads result old new = MatchResult result (λ _. (new.failures ≡ old.failures) × (new.starts ≡ old.starts))
+abbrev pub ReadsOnly : {T : Type 0} → Result T LoadFault → Counts → Counts → Type 0
+ReadsOnly result old new = MatchResult result (λ _. (new.failures ≡ old.failures) × (new.starts ≡ old.starts))
     (λ e. (new.starts ≡ old.starts) × (is_failure e ≡ false → new.failures ≡ old.failures) × (is_failure e ≡ true → new.failures ≡ up old.failures) × (is_failure e ≡ true → new.late ≡ 0) × (is_failure e ≡ true → new.last ≡ failure_of e) × (is_failure e ≡ true → named_in new ≡ path_told e) × (is_read e ≡ true))
 
 -- The step changes nothing but the counters. If a call failed, it was the last call.
@@ -63,4 +63,4 @@ pub record OnlyLooks {T : Type 0} (result : Result T LoadFault) (old new : At) :
   pub world : new.world ≡ old.world
   pub most : new.most ≡ old.most
   pub still : KeepsStill old.still new.still
-  pub reads : Reads result old.counts new.counts
+  pub reads : ReadsOnly result old.counts new.counts

@@ -119,7 +119,7 @@ fn add_slashed(text: &mut String, names: &[&str]) -> Result<(), AllocError>
 }
 
 /// Returns the names with a slash between them.
-fn spelled(alloc: Global, names: &[&str]) -> Result<Text, AllocError>
+fn join_names(alloc: Global, names: &[&str]) -> Result<Text, AllocError>
     ensures { IfOk result (λ text. text ≡ spelled (map (λ name. name.now) names.now)) }
 {
     let (first, rest) = match names {
@@ -140,5 +140,5 @@ pub fn text_between(alloc: Global, folder: &PathText, path: &PathText) -> Result
     let names = names_in(alloc, folder.as_str())?;
     let others = names_in(alloc, path.as_str())?;
     let steps = steps_between(alloc, names.as_slice(), others.as_slice())?;
-    spelled(alloc, steps.as_slice())
+    join_names(alloc, steps.as_slice())
 }

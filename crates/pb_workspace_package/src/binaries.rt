@@ -12,7 +12,7 @@ ghost use Rattle.pb_workspace_package.specs.Drafted.{IsBinaryNamed, AreBinaries}
 use crate::listings::{Listings, bin_path, bin_source, own_source};
 use crate::own_file::OwnFile;
 use crate::sorted::Sorted;
-use crate::source::resolved;
+use crate::source::resolve_path;
 use pb_data::{Items, Text, TryCopy};
 use pb_manifest_types::WrittenPath;
 use pb_place_types::PathText;
@@ -116,7 +116,7 @@ pub fn binary_source(
         (λ source. source ≡ binary_source folder.now sources package_name.now name.now path.now) }
 {
     if let Some(path) = path {
-        return resolved(alloc, folder, path);
+        return resolve_path(alloc, folder, path);
     }
     if *name == *package_name {
         return looked_for_main(alloc, listings, folder, name.as_str());

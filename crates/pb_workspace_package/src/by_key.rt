@@ -106,7 +106,7 @@ impl SharedByKey {
     }
 
     /// Returns the entry of a key, if there is one.
-    pub fn keyed(&self, key: &Text) -> Option<&WorkspaceDependency>
+    pub fn entry_of(&self, key: &Text) -> Option<&WorkspaceDependency>
         ensures { option_copied result ≡ find (λ entry. bytes_eq key.now entry.key) self.now }
     {
         let entries = self.inside.as_slice();

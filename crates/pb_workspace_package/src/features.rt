@@ -137,7 +137,7 @@ fn add_written(
 }
 
 /// Returns the entries as features.
-fn listed(
+fn features_from(
     alloc: Global,
     entries: Items<(Text, Items<FeatureItem>)>,
 ) -> Result<Items<Feature>, AllocError>
@@ -207,6 +207,6 @@ pub fn features_of(
     let (written, mut made) = with_next(written, made)?;
     add_written(&mut made, written)?;
     let items = made.into_items(alloc)?;
-    let features = listed(alloc, items)?;
+    let features = features_from(alloc, items)?;
     Ok(FeaturesByName::from_items(features))
 }

@@ -9,7 +9,7 @@ ghost use Rattle.pb_workspace_package.specs.Drafted.{IsWrittenLibrary, IsLibrary
 
 use crate::listings::{Listings, has_own_file, own_source};
 use crate::own_file::OwnFile;
-use crate::source::resolved;
+use crate::source::resolve_path;
 use pb_data::{Items, Text, with_next};
 use pb_manifest_types::{Build, CrateType, WrittenPath, library_name};
 use pb_place_types::PathText;
@@ -63,7 +63,7 @@ pub fn script_of(
         }
         Build::Never => Ok(None),
         Build::At(path) => {
-            let script = resolved(alloc, folder, path)?;
+            let script = resolve_path(alloc, folder, path)?;
             Ok(Some(script))
         }
     }
@@ -78,7 +78,7 @@ fn library_source(
     ensures { IfOk result (λ source. source ≡ library_source folder.now path.now) }
 {
     match path {
-        Some(path) => resolved(alloc, folder, path),
+        Some(path) => resolve_path(alloc, folder, path),
         None => OwnFile::Library.path(alloc, folder),
     }
 }

@@ -68,7 +68,7 @@ pub fn readme_found(
 }
 
 /// Returns the entries of both lists, one after the other.
-fn joined(first: Items<Wanted>, second: Items<Wanted>) -> Result<Items<Wanted>, AllocError>
+fn join_entries(first: Items<Wanted>, second: Items<Wanted>) -> Result<Items<Wanted>, AllocError>
     ensures { IfOk result (λ made. made ≡ first ++ second) }
 {
     let mut made = first;
@@ -103,12 +103,12 @@ pub fn wanted_in(
     let shared = &given.dependencies;
     let normal = each_wanted(alloc, at, shared, DependencyKind::Normal, dependencies)?;
     let for_script = each_wanted(alloc, at, shared, DependencyKind::Build, build)?;
-    let wanted = joined(normal, for_script)?;
+    let wanted = join_entries(normal, for_script)?;
     Ok(WantedByKey::from_items(wanted))
 }
 
 /// Returns the binaries that are found, unless `autobins` is false.
-fn discovered(
+fn discover_binaries(
     alloc: Global,
     listings: &Listings,
     folder: &PathText,
@@ -149,7 +149,7 @@ pub fn targets_of(
     let name = &keys.name;
     let written = written_binaries(alloc, listings, folder, name, binaries);
     let (library, written) = with_next(library, written)?;
-    let found = discovered(alloc, listings, folder, name, keys.autobins);
+    let found = discover_binaries(alloc, listings, folder, name, keys.autobins);
     let ((library, written), found) = with_next((library, written), found)?;
     let (library, binaries) = with_next(library, binaries_of(alloc, found, written))?;
     let library = library_of(alloc, listings, folder, name.as_str(), library);

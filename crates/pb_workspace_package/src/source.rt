@@ -17,7 +17,7 @@ use pb_workspace_types::LoadFault;
 use std::alloc::{AllocError, Global};
 
 /// Returns the fault of a failed call on a path; out of memory stays so. It uses no memory.
-pub fn failed(path: PathText, fault: PlaceFault) -> LoadFault
+pub fn call_fault(path: PathText, fault: PlaceFault) -> LoadFault
     ensures { result ≡ fault_at path fault }
 {
     match fault {
@@ -51,7 +51,7 @@ pub fn source<P: Place>(
     let named = path.copy(alloc)?;
     match place.read_first(alloc, path, most) {
         Ok(found) => Ok(found),
-        Err(fault) => Err(failed(named, fault)),
+        Err(fault) => Err(call_fault(named, fault)),
     }
 }
 
@@ -79,7 +79,7 @@ pub fn is_source<P: Place>(
     let named = path.copy(alloc)?;
     match place.is_file(alloc, path) {
         Ok(answer) => Ok(answer),
-        Err(fault) => Err(failed(named, fault)),
+        Err(fault) => Err(call_fault(named, fault)),
     }
 }
 
@@ -107,7 +107,7 @@ pub fn listed_sources<P: Place>(
     let named = folder.copy(alloc)?;
     match place.list_outside(alloc, folder, target) {
         Ok(paths) => Ok(paths),
-        Err(fault) => Err(failed(named, fault)),
+        Err(fault) => Err(call_fault(named, fault)),
     }
 }
 
@@ -135,7 +135,7 @@ pub fn source_folders<P: Place>(
     let named = folder.copy(alloc)?;
     match place.list_folders(alloc, folder, target) {
         Ok(folders) => Ok(folders),
-        Err(fault) => Err(failed(named, fault)),
+        Err(fault) => Err(call_fault(named, fault)),
     }
 }
 
@@ -155,7 +155,7 @@ pub fn own_path(alloc: Global, folder: &PathText, name: &str) -> Result<PathText
 ///
 /// Errors: out of memory.
 #[tactic(auto, using(crate::proofs::Resolving::resolving_laws))]
-pub fn resolved(
+pub fn resolve_path(
     alloc: Global,
     folder: &PathText,
     path: &WrittenPath,

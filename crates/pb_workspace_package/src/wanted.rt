@@ -7,7 +7,7 @@ ghost use Rattle.pb_workspace_package.specs.Wanted.{is_renamed, wanted_at, taken
 ghost use Rattle.pb_workspace_types.specs.declared.fault.LoadFault.TheVariants as load_fault;
 
 use crate::by_key::SharedByKey;
-use crate::source::resolved;
+use crate::source::resolve_path;
 use pb_data::{Items, Text, TryCopy};
 use pb_manifest_types::{
     Dependency, ManifestFault, PathSource, Requirement, Source, WorkspaceDependency,
@@ -87,7 +87,7 @@ fn wanted_at(
         default_features features source.now) }
 {
     let key = entry.key.copy(alloc)?;
-    let folder = resolved(alloc, base, &source.path)?;
+    let folder = resolve_path(alloc, base, &source.path)?;
     let name = name_of(alloc, &entry.key, &source.package)?;
     let version = source.version.copy(alloc)?;
     Ok(Wanted {
@@ -128,7 +128,7 @@ fn joined_features(
 }
 
 /// Returns the refusal of a source that is taken from the workspace.
-fn unsupported(alloc: Global, manifest: &PathText) -> Result<LoadFault, AllocError>
+fn unsupported_source(alloc: Global, manifest: &PathText) -> Result<LoadFault, AllocError>
     ensures { IfOk result
         (λ fault. fault ≡ load_fault.Manifest manifest.now ManifestFault.UnsupportedSource) }
 {
@@ -152,7 +152,7 @@ fn taken_from(
 {
     let source = match &shared.source {
         WorkspaceSource::Path(source) => source,
-        WorkspaceSource::Unsupported => return Err(unsupported(alloc, &at.manifest)?),
+        WorkspaceSource::Unsupported => return Err(unsupported_source(alloc, &at.manifest)?),
     };
     let features = joined_features(alloc, shared.features.as_slice(), entry.features.as_slice())?;
     let default_features = source.default_features || default_features;
@@ -198,7 +198,7 @@ fn wanted_of(
             )?;
             Ok(wanted)
         }
-        Source::Workspace { default_features } => match given.keyed(&entry.key) {
+        Source::Workspace { default_features } => match given.entry_of(&entry.key) {
             None => Err(LoadFault::NoInherited),
             Some(shared) => { taken_from(alloc, at, kind, entry, *default_features, shared) }
         },

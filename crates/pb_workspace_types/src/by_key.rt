@@ -17,7 +17,7 @@ use std::cmp::Ordering;
 use std::marker::Model;
 
 /// Returns how an entry compares to a key of a table.
-fn compared(entry: &Entry, kind: DependencyKind, key: &[u8]) -> Ordering
+fn compare_entry(entry: &Entry, kind: DependencyKind, key: &[u8]) -> Ordering
     ensures { result ≡ slice_cmp nat_cmp (table_key entry.now.kind entry.now.key)
         (table_key kind key.now) }
 {
@@ -86,7 +86,7 @@ impl EntriesByKey {
             table_key entry.kind entry.key) self.now) }
     {
         let entries = self.inside.as_slice();
-        match entries.binary_search_by(|entry| compared(entry, kind, key)) {
+        match entries.binary_search_by(|entry| compare_entry(entry, kind, key)) {
             Ok(place) => Some(place),
             Err(_) => None,
         }

@@ -63,7 +63,7 @@ impl BinariesByName {
     }
 
     /// Returns the binary with a name, if there is one.
-    pub fn named(&self, name: &Text) -> Option<&Binary>
+    pub fn get_named(&self, name: &Text) -> Option<&Binary>
         ensures { option_copied result ≡ find (λ binary. bytes_eq name.now binary.name) self.now }
     {
         let binaries = self.inside.as_slice();

@@ -19,7 +19,7 @@ use crate::memory::Memory;
 use crate::sight::file_in;
 use pb_data::{Bytes, Items, Text};
 use pb_place_types::{
-    Call, Child, Command, Ended, Moved, PathText, Place, PlaceFault, StartFault, joined,
+    Call, Child, Command, Ended, Moved, PathText, Place, PlaceFault, StartFault, join_pieces,
 };
 use std::alloc::{AllocError, Global};
 
@@ -45,7 +45,7 @@ impl<C> Memory<C> {
         ensures refused { OnErr call
             (self.new ≡ record self.old { tally = past_call self.old.tally }) }
     {
-        let call = self.tally.kept(call)?;
+        let call = self.tally.note_call(call)?;
         self.fuse = 0;
         let own = call.own_fault();
         self.tally.count(call, Err(own))
@@ -77,7 +77,7 @@ impl<C> Memory<C> {
           world = after_write result path.now bytes.now self.old.world;
         } }
     {
-        let call = self.tally.kept(Call::write(alloc, path))?;
+        let call = self.tally.note_call(Call::write(alloc, path))?;
         match self.files.insert(alloc, path, &bytes[..bytes.len() / 2]) {
             Ok(()) => {
                 self.fuse = 0;
@@ -100,7 +100,7 @@ impl<C> Memory<C> {
           world = after_removal result path.now self.old.world;
         } }
     {
-        let call = self.tally.kept(Call::remove(alloc, path))?;
+        let call = self.tally.note_call(Call::remove(alloc, path))?;
         match self.files.remove_half(alloc, path) {
             Ok(()) => {
                 self.fuse = 0;
@@ -245,7 +245,7 @@ impl<C: Child> Place for Memory<C> {
           world = after_write result path.now (concat pieces.now) self.old.world;
         } }
     {
-        match joined(alloc, pieces) {
+        match join_pieces(alloc, pieces) {
             Ok(bytes) => self.write(alloc, path, bytes.as_slice()),
             Err(_) => {
                 self.refuse();
@@ -324,7 +324,7 @@ impl<C: Child> Place for Memory<C> {
         self.finish(alloc, ticket)
     }
 
-    fn moved(&self) -> &[Moved] {
+    fn moved_paths(&self) -> &[Moved] {
         &[]
     }
 

@@ -93,7 +93,7 @@ fn child_in_flight(
 
 /// Returns the fault with which a child in flight ends. `CannotStart` is no end, so no child in
 /// flight has that fate.
-fn ending(fault: StartFault) -> StartFault
+fn fault_at_end(fault: StartFault) -> StartFault
     ensures kept { fault ≢ StartFault.CannotStart → result ≡ fault }
     ensures end { (result ≡ StartFault.OutOfMemory)
         ⊎ ((result ≡ StartFault.Died) ⊎ (result ≡ StartFault.Capture)) }
@@ -121,7 +121,7 @@ fn fate_now(fails_now: bool, kept: Option<StartFault>) -> Option<StartFault>
         return Some(StartFault::Died);
     }
     match kept {
-        Some(fault) => Some(ending(fault)),
+        Some(fault) => Some(fault_at_end(fault)),
         None => None,
     }
 }
@@ -153,7 +153,7 @@ impl<C: Child> Memory<C> {
     }
 
     /// Returns the child that is spawned for a command now.
-    fn spawned(
+    fn child_for(
         &self,
         alloc: Global,
         command: &Command,
@@ -220,7 +220,7 @@ impl<C: Child> Memory<C> {
         let Some(ticket) = free_ticket(self.flying.as_slice()) else {
             return Err(StartFault::OutOfMemory);
         };
-        let child = self.spawned(alloc, command, ticket)?;
+        let child = self.child_for(alloc, command, ticket)?;
         let left = self.leave(alloc, &command.out, child.files.as_slice());
         let (child, ()) = with_next(child, left)?;
         self.most = add_child(&mut self.flying, self.most, Flying { child, kept: fate })?;

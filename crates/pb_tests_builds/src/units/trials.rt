@@ -46,7 +46,7 @@ fn told_in(alloc: Global, place: &mut Untold<Mini>, steps: &str) -> Result<Strin
 }
 
 /// The same report, in a fresh place.
-fn tried(alloc: Global, steps: &str) -> Result<String, Fail> {
+fn report_afresh(alloc: Global, steps: &str) -> Result<String, Fail> {
     let inside = Memory::new(alloc, Mini);
     told_in(alloc, &mut Untold { inside }, steps)
 }
@@ -345,7 +345,7 @@ struct StepCases {}
 
 impl Trial for StepCases {
     fn put_result(&self, alloc: Global, case: &Case<'_>, out: &mut Shown) -> Result<(), Fail> {
-        let told = tried(alloc, case.given)?;
+        let told = report_afresh(alloc, case.given)?;
         out.put(&[told.as_str()]);
         drop(told);
         Ok(())

@@ -28,7 +28,7 @@ impl Broken {
     }
 
     /// A machine that may start children, and then fails so where it reads what they write.
-    pub(crate) fn starting(memory: Global, kind: ErrorKind, starts: bool) -> Broken {
+    pub(crate) fn with_start(memory: Global, kind: ErrorKind, starts: bool) -> Broken {
         Broken {
             kind,
             memory,

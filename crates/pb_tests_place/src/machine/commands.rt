@@ -1,6 +1,6 @@
 //! Commands for children, and what comes of them.
 
-use crate::told::{path_in, said};
+use crate::told::{answer_of, path_in};
 use pb_data::{Bytes, Items, Text};
 use pb_place_host::HostPlace;
 use pb_place_types::{Command, PathText};
@@ -109,7 +109,7 @@ pub(crate) fn command(alloc: Global, root: &PathText, asked: &Asked) -> Result<C
 /// How the child of a command ended at a new place on the machine.
 fn said_of(rt: &HostRuntime, command: &Command) -> Result<String, Fail> {
     let mut place = HostPlace::new(rt.alloc(), rt);
-    let said = said(rt.alloc(), &mut place, command);
+    let said = answer_of(rt.alloc(), &mut place, command);
     drop(place);
     said
 }

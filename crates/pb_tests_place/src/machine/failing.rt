@@ -4,7 +4,7 @@ use crate::machine::broken::Broken;
 use crate::machine::calls::{carry_out, carry_out_here};
 use crate::machine::commands::{command, said_here, shell};
 use crate::machine::folders::{finish, fresh};
-use crate::told::{path_in, said, try_said};
+use crate::told::{answer_of, path_in, try_said};
 use pb_place_host::{HostPlace, HostView};
 use pb_place_types::{Command, PathText, View, ViewFault};
 use std::alloc::Global;
@@ -54,7 +54,7 @@ static ERRORS: &[(ErrorKind, &str)] = &[
 /// What the start of a child gives on a machine.
 fn said_on(alloc: Global, machine: &Broken, command: &Command) -> Result<String, Fail> {
     let mut place = HostPlace::new(alloc, machine);
-    let said = said(alloc, &mut place, command);
+    let said = answer_of(alloc, &mut place, command);
     drop(place);
     said
 }
@@ -68,7 +68,7 @@ fn try_start(
     wanted: &str,
 ) -> Result<(), Fail> {
     let command = command(alloc, root, &shell("exit 0"))?;
-    let machine = Broken::starting(alloc, kind, starts);
+    let machine = Broken::with_start(alloc, kind, starts);
     let said = said_on(alloc, &machine, &command);
     drop(command);
     try_said(said, wanted)

@@ -8,7 +8,7 @@ use std::alloc::{AllocError, Global};
 use std::test::Fail;
 
 /// What a child said: its status, and how many bytes it wrote to each of its two streams; or the fault.
-fn told(alloc: Global, ended: Result<Ended, StartFault>) -> Result<String, AllocError> {
+fn flight_text(alloc: Global, ended: Result<Ended, StartFault>) -> Result<String, AllocError> {
     let text = match &ended {
         Ok(ended) => {
             let status = ended.status;
@@ -64,7 +64,7 @@ fn finish(
     if !place.flies(ticket) {
         return String::from_str(alloc, "no child");
     }
-    told(alloc, place.finish(alloc, ticket))
+    flight_text(alloc, place.finish(alloc, ticket))
 }
 
 /// What two children said, of which the second is waited for first; whether a program was missed; how many flew at most,

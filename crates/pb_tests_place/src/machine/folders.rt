@@ -12,7 +12,7 @@ fn place_of(rt: &HostRuntime, name: &str) -> Result<String, Fail> {
 }
 
 /// An empty folder there.
-fn emptied(rt: &HostRuntime, text: &str) -> Result<PathText, Fail> {
+fn empty_folder(rt: &HostRuntime, text: &str) -> Result<PathText, Fail> {
     // what a run with this number left that was cut off
     let _ = fs::remove_dir_all(rt, text);
     fs::create_dir_all(rt, text)?;
@@ -22,7 +22,7 @@ fn emptied(rt: &HostRuntime, text: &str) -> Result<PathText, Fail> {
 /// An empty folder for a test.
 pub(crate) fn fresh(rt: &HostRuntime, name: &str) -> Result<PathText, Fail> {
     let text = place_of(rt, name)?;
-    emptied(rt, text.as_str())
+    empty_folder(rt, text.as_str())
 }
 
 /// Takes a test's folder away.

@@ -33,7 +33,7 @@ static MEANINGS: &[(&str, &str, &str)] = &[
 ];
 
 /// What a text means from a folder.
-fn meant<P: Place>(
+fn meaning_of<P: Place>(
     alloc: Global,
     place: &P,
     root: &PathText,
@@ -52,7 +52,7 @@ fn try_meaning<P: Place>(
     meaning: &(&str, &str, &str),
 ) -> Result<(), Fail> {
     let (folder, text, wanted) = *meaning;
-    let path = meant(alloc, place, root, folder, text)?;
+    let path = meaning_of(alloc, place, root, folder, text)?;
     let said = path.as_str().strip_prefix(root.as_str()).unwrap_or("?");
     if said != wanted {
         return Err(Fail::new(format_args!("{folder}, {text}: {said}")));

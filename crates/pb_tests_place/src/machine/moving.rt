@@ -79,7 +79,7 @@ fn moved_text<P: Place>(
     root: &PathText,
     still: bool,
 ) -> Result<String, AllocError> {
-    match place.moved() {
+    match place.moved_paths() {
         [] if still => String::from_str(alloc, "still"),
         [moved] if !still => {
             let path = moved
@@ -126,7 +126,7 @@ fn watch_asked<P: Place>(
 }
 
 /// What has moved in a scene.
-fn seen<P: Place>(
+fn moved_in_scene<P: Place>(
     alloc: Global,
     place: &mut P,
     root: &PathText,
@@ -142,7 +142,7 @@ fn try_scene(rt: &HostRuntime, scene: &(&str, &str, &str)) -> Result<(), Fail> {
     let (does, name, wanted) = *scene;
     let root = fresh(rt, "moving")?;
     let mut place = HostPlace::new(rt.alloc(), rt);
-    let said = seen(rt.alloc(), &mut place, &root, does, name);
+    let said = moved_in_scene(rt.alloc(), &mut place, &root, does, name);
     drop(place);
     let said = said?;
     if said.as_str() != wanted {

@@ -4,7 +4,7 @@ use crate::machine::broken::Broken;
 use crate::machine::calls::carry_out;
 use crate::machine::commands::{Asked, command, shell};
 use crate::machine::folders::{finish, fresh};
-use crate::told::{path_in, said};
+use crate::told::{answer_of, path_in};
 use pb_data::Text;
 use pb_place_host::{HostPlace, Reporting};
 use pb_place_types::PathText;
@@ -13,7 +13,7 @@ use std::io::ErrorKind;
 use std::test::Fail;
 
 /// Returns texts without a test's folder, each with a `;` after it.
-fn joined(alloc: Global, root: &PathText, texts: &[Text]) -> Result<String, AllocError> {
+fn join_texts(alloc: Global, root: &PathText, texts: &[Text]) -> Result<String, AllocError> {
     let mut all = String::new(alloc);
     for text in texts {
         all.push_str(text.as_str())?;
@@ -30,7 +30,7 @@ fn try_texts(
     texts: &[Text],
     wanted: &str,
 ) -> Result<(), Fail> {
-    let came = joined(alloc, root, texts)?;
+    let came = join_texts(alloc, root, texts)?;
     if came.as_str() != wanted {
         return Err(Fail::new(format_args!("{name}: {}", came.as_str())));
     }
@@ -71,7 +71,7 @@ fn try_child(rt: &HostRuntime, root: &PathText, asked: &Asked, wanted: &str) -> 
     let alloc = rt.alloc();
     let command = command(alloc, root, asked)?;
     let mut place = HostPlace::new(alloc, rt);
-    let went = match said(alloc, &mut place, &command) {
+    let went = match answer_of(alloc, &mut place, &command) {
         Ok(_) => try_texts(
             alloc,
             root,
@@ -124,7 +124,7 @@ fn try_query(rt: &HostRuntime, root: &PathText, told: &str, wanted: &str) -> Res
     let alloc = rt.alloc();
     let command = command(alloc, root, &shell(told))?;
     let mut place = HostPlace::new(alloc, rt);
-    let went = match said(alloc, &mut place, &command) {
+    let went = match answer_of(alloc, &mut place, &command) {
         Ok(_) => try_texts(alloc, root, told, place.answered_query(), wanted),
         Err(fault) => Err(fault),
     };
@@ -175,7 +175,7 @@ fn try_links(
     let mut command = command(alloc, root, &("/bin/sh", told, "", out, &[]))?;
     command.target = target;
     let mut place = HostPlace::new(alloc, rt);
-    let went = match said(alloc, &mut place, &command) {
+    let went = match answer_of(alloc, &mut place, &command) {
         Ok(_) => try_texts(alloc, root, told, place.links_out(), wanted),
         Err(fault) => Err(fault),
     };

@@ -2,7 +2,7 @@
 
 use crate::commands::making::file_of;
 use crate::commands::show::{put_answer, put_part, put_path};
-use pb_command::{answered, command};
+use pb_command::{check_reply, command};
 use pb_command_types::{Project, Setup, crate_name_of, dep_info_path, made_file};
 use pb_data::{Bytes, Items, Text};
 use pb_directive::Directives;
@@ -93,7 +93,7 @@ fn put_judged(
     out: &mut Shown,
 ) -> Result<(), AllocError> {
     let command = command_in(alloc, case, unit)?;
-    let answer = answered(alloc, case.project, unit, &command, end, info);
+    let answer = check_reply(alloc, case.project, unit, &command, end, info);
     drop(command);
     put_answer(out, &answer);
     drop(answer);

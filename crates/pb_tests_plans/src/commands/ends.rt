@@ -3,7 +3,7 @@
 use crate::commands::making::{options_of, project_of};
 use crate::commands::show::{put_answer, put_rest};
 use crate::show::put_texts;
-use pb_command::{answered, ended_fault, query};
+use pb_command::{check_reply, ended_fault, query};
 use pb_command_types::{Project, UnitFault};
 use pb_data::{Bytes, Text};
 use pb_place::Memory;
@@ -23,7 +23,7 @@ fn of_bytes(alloc: Global, start: &[u8], byte: u8, count: usize) -> Result<Bytes
 }
 
 /// An end with streams of these lengths.
-fn ended(alloc: Global, status: i32, stdout: usize, stderr: usize) -> Result<Ended, AllocError> {
+fn end_with(alloc: Global, status: i32, stdout: usize, stderr: usize) -> Result<Ended, AllocError> {
     let stdout = of_bytes(alloc, b"", b'x', stdout)?;
     let stderr = of_bytes(alloc, b"", b'x', stderr)?;
     Ok(Ended {
@@ -35,7 +35,7 @@ fn ended(alloc: Global, status: i32, stdout: usize, stderr: usize) -> Result<End
 
 /// Whether an end of these lengths is told to be too long.
 fn is_too_long(alloc: Global, stdout: usize, stderr: usize) -> Result<bool, AllocError> {
-    let end = ended(alloc, 1, stdout, stderr)?;
+    let end = end_with(alloc, 1, stdout, stderr)?;
     let fault = ended_fault(&end);
     drop(end);
     let is_too_long = matches!(fault, Some(UnitFault::OutputTooLong));
@@ -45,7 +45,7 @@ fn is_too_long(alloc: Global, stdout: usize, stderr: usize) -> Result<bool, Allo
 
 /// Whether an end with two streams of this length is good.
 fn is_good(alloc: Global, length: usize) -> Result<bool, AllocError> {
-    let end = ended(alloc, 0, length, length)?;
+    let end = end_with(alloc, 0, length, length)?;
     let fault = ended_fault(&end);
     drop(end);
     let is_good = fault.is_none();
@@ -55,7 +55,7 @@ fn is_good(alloc: Global, length: usize) -> Result<bool, AllocError> {
 
 /// Whether an end of this status is told by it.
 fn has_status(alloc: Global, status: i32) -> Result<bool, AllocError> {
-    let end = ended(alloc, status, 0, 0)?;
+    let end = end_with(alloc, status, 0, 0)?;
     let fault = ended_fault(&end);
     drop(end);
     let has_status = match &fault {
@@ -89,7 +89,7 @@ fn library_at(alloc: Global, memory: &mut Memory<Silent>) -> Result<Option<Proje
 }
 
 /// The query of a compiler in that project.
-fn queried(alloc: Global, project: &Project) -> Result<Command, AllocError> {
+fn query_of(alloc: Global, project: &Project) -> Result<Command, AllocError> {
     let rustc = Text::from_str(alloc, "my rustc")?;
     query(alloc, &rustc, &project.workspace)
 }
@@ -107,7 +107,7 @@ fn is_query(alloc: Global, command: &Command) -> bool {
 
 /// Whether the query does.
 fn asks_version(alloc: Global, project: &Project) -> Result<bool, AllocError> {
-    let command = queried(alloc, project)?;
+    let command = query_of(alloc, project)?;
     let is_query = is_query(alloc, &command);
     drop(command);
     Ok(is_query)
@@ -121,8 +121,8 @@ fn informed_by(
     command: &Command,
     info: &Bytes,
 ) -> Result<String, AllocError> {
-    let end = ended(alloc, 0, 0, 0)?;
-    let answer = answered(alloc, project, unit, command, &end, Some(info));
+    let end = end_with(alloc, 0, 0, 0)?;
+    let answer = check_reply(alloc, project, unit, command, &end, Some(info));
     drop(end);
     let mut shown = Shown::new(alloc);
     put_answer(&mut shown, &answer);
@@ -138,14 +138,14 @@ fn informed_of(
     count: usize,
 ) -> Result<String, AllocError> {
     let info = of_bytes(alloc, b"o: /", b'w', count)?;
-    let command = queried(alloc, project)?;
+    let command = query_of(alloc, project)?;
     let told = informed_by(alloc, project, unit, &command, &info);
     drop(command);
     told
 }
 
 /// The same for the first unit of a project.
-fn informed(alloc: Global, project: &Project, count: usize) -> Result<String, AllocError> {
+fn first_unit_info(alloc: Global, project: &Project, count: usize) -> Result<String, AllocError> {
     match project.plan.units().first() {
         Some(unit) => informed_of(alloc, project, unit, count),
         None => String::from_str(alloc, "no unit"),
@@ -154,13 +154,13 @@ fn informed(alloc: Global, project: &Project, count: usize) -> Result<String, Al
 
 /// Whether the longest dep-info is read.
 fn reads_the_longest(alloc: Global, project: &Project) -> Result<bool, AllocError> {
-    let told = informed(alloc, project, 4_194_300)?;
+    let told = first_unit_info(alloc, project, 4_194_300)?;
     Ok(told.as_str().len() == 4_194_303)
 }
 
 /// Whether dep-info that is longer is refused.
 fn refuses_longer(alloc: Global, project: &Project) -> Result<bool, AllocError> {
-    let told = informed(alloc, project, 4_194_301)?;
+    let told = first_unit_info(alloc, project, 4_194_301)?;
     Ok(told.as_str() == "NoDepInfo")
 }
 

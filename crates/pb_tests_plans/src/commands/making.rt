@@ -83,7 +83,11 @@ fn parts_of(
 }
 
 /// The project of a workspace, or none where what is asked for is refused.
-fn planned(alloc: Global, workspace: SettledWorkspace, options: &Options) -> Option<Project> {
+fn planned_project(
+    alloc: Global,
+    workspace: SettledWorkspace,
+    options: &Options,
+) -> Option<Project> {
     let Some((features, plan)) = parts_of(alloc, &workspace, options) else {
         drop(workspace);
         return None;
@@ -111,7 +115,7 @@ pub fn project_of(
     options: &Options,
 ) -> Result<Option<Project>, Fail> {
     match workspace_in(alloc, memory)? {
-        Ok(workspace) => Ok(planned(alloc, workspace, options)),
+        Ok(workspace) => Ok(planned_project(alloc, workspace, options)),
         Err(_) => Ok(None),
     }
 }

@@ -54,7 +54,7 @@ pub fn ready(alloc: Global, units: &[Unit]) -> Result<Vec<usize>, Fail> {
 }
 
 /// The units in flight, in plan order.
-pub fn flying(alloc: Global, units: &[Unit]) -> Result<Vec<usize>, Fail> {
+pub fn units_in_flight(alloc: Global, units: &[Unit]) -> Result<Vec<usize>, Fail> {
     let mut found = Vec::new(alloc);
     for (place, unit) in units.iter().enumerate() {
         if unit.standing == Standing::Flying {

@@ -1,7 +1,7 @@
 //! Random lawful steps on random plans, beside the plain account.
 
 use crate::dice::Dice;
-use crate::flight::plain::{Standing, Unit, due, first_bad, flying, is_finished, ready};
+use crate::flight::plain::{Standing, Unit, due, first_bad, is_finished, ready, units_in_flight};
 use crate::flight::steps::begin;
 use pb_data::{Bytes, Items};
 use pb_run_flight::{Answer, Flight};
@@ -103,7 +103,7 @@ fn answer_one(
     flight: &mut Flight<u8>,
     units: &mut Vec<Unit>,
 ) -> Result<bool, Fail> {
-    let open = flying(alloc, units.as_slice())?;
+    let open = units_in_flight(alloc, units.as_slice())?;
     let one = match open.get(dice.below(open.len())) {
         Some(one) => *one,
         None => return Ok(true),

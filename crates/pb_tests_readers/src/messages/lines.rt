@@ -1,6 +1,6 @@
 //! Lines, compared with those that are written out in `wanted`.
 
-use crate::messages::made::{artifact, executed, library, settings, text};
+use crate::messages::made::{artifact, library, script_message, settings, text};
 use crate::messages::wanted::WANTED;
 use crate::texts::texts_of;
 use pb_data::{Items, Text, with_next};
@@ -118,7 +118,7 @@ fn message(alloc: Global, told: Told) -> Result<Message, Fail> {
             artifact(alloc, settings(level, debug), features, file, is_executable)
         }
         Told::Diagnostic(diagnostic) => { Ok(Message::CompilerMessage(text(alloc, diagnostic)?)) }
-        Told::Executed(lists, value) => executed(alloc, lists, value),
+        Told::Executed(lists, value) => script_message(alloc, lists, value),
         Told::Note(level, note) => Ok(Message::BuildScriptNote(level, text(alloc, note)?)),
     }
 }

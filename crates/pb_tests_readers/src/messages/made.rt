@@ -72,7 +72,7 @@ fn three_lists(
 }
 
 /// What a script gave: libraries, folders and conditions, one variable and an empty one, and its folder.
-pub fn executed(alloc: Global, lists: &str, value: &str) -> Result<Message, Fail> {
+pub fn script_message(alloc: Global, lists: &str, value: &str) -> Result<Message, Fail> {
     let lists = three_lists(alloc, lists)?;
     let given = with_next(lists, variables(alloc, value))?;
     let out_folder = PathText::parse(alloc, "/w/target/debug/a.target.run");

@@ -4,8 +4,8 @@ ghost use Rattle.std.specs.Prelude.{◌≡◌, true, Some};
 ghost use Rattle.pb_record.specs.Sorted.{are_sorted};
 ghost use Rattle.pb_store_soundness.specs.Records.{out_of};
 
-use crate::stores::units::{command_with, ended, input_names, needs, own_command, own_key};
-use crate::stores::world::{prepare, put_file, put_first, replaced, take_away, text_at};
+use crate::stores::units::{command_with, end_of_child, input_names, needs, own_command, own_key};
+use crate::stores::world::{prepare, put_file, put_first, replace_once, take_away, text_at};
 use pb_data::{Items, with_next};
 use pb_mini::Mini;
 use pb_place::Memory;
@@ -18,7 +18,7 @@ use std::mem;
 use std::test::Fail;
 
 /// The store of the profile folder of a place.
-fn opened(alloc: Global, place: &mut Untold<Mini>) -> Result<Store, Fail> {
+fn open_store(alloc: Global, place: &mut Untold<Mini>) -> Result<Store, Fail> {
     let folder = PathText::parse(alloc, "/t/debug")?;
     Ok(Store::open(alloc, place, folder)?)
 }
@@ -26,7 +26,7 @@ fn opened(alloc: Global, place: &mut Untold<Mini>) -> Result<Store, Fail> {
 /// Prepares a place, and opens the store of its profile folder.
 pub fn begin(alloc: Global, place: &mut Untold<Mini>) -> Result<Store, Fail> {
     prepare(alloc, &mut place.inside)?;
-    opened(alloc, place)
+    open_store(alloc, place)
 }
 
 /// Puts what opening the store told: the next number, where one is left.
@@ -186,7 +186,7 @@ fn tell_kept(
 {
     let needs = needs(alloc)?;
     let names: Items<InputName> = input_names(alloc)?;
-    let (names, ended) = with_next(names, ended(alloc))?;
+    let (names, ended) = with_next(names, end_of_child(alloc))?;
     let answer = store.keep(
         alloc,
         place,
@@ -249,7 +249,7 @@ fn edit(
     new: &str,
 ) -> Result<(), Fail> {
     let text = text_at(alloc, place, path)?;
-    let made = replaced(alloc, text.as_str(), old, new)?;
+    let made = replace_once(alloc, text.as_str(), old, new)?;
     put_file(alloc, place, path, made.as_str())
 }
 
@@ -288,7 +288,7 @@ pub fn open_again(alloc: Global, place: &mut Untold<Mini>, store: &mut Store) ->
         folder,
         next: _,
         numbers,
-    } = opened(alloc, place)?;
+    } = open_store(alloc, place)?;
     drop(folder);
     drop(mem::replace(&mut store.numbers, numbers));
     Ok(())

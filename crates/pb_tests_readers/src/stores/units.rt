@@ -4,7 +4,7 @@ ghost use Rattle.std.specs.Prelude.{◌≡◌, true, IfOk, Some, All};
 ghost use Rattle.pb_record.specs.Sorted.{are_sorted};
 ghost use Rattle.pb_store_soundness.specs.Records.{is_key, out_of};
 
-use crate::stores::world::{OWN, replaced};
+use crate::stores::world::{OWN, replace_once};
 use pb_data::{Bytes, Items, Text, TryCopy};
 use pb_place_types::{Command, Ended, PathFault, PathText, RelativePath};
 use pb_record::{InputName, Record, RecordedCommand, read_record};
@@ -47,7 +47,7 @@ pub fn input_names(alloc: Global) -> Result<Items<InputName>, PathFault> {
 }
 
 /// How its child ended.
-pub fn ended(alloc: Global) -> Result<Ended, AllocError> {
+pub fn end_of_child(alloc: Global) -> Result<Ended, AllocError> {
     let stdout = Bytes::from_slice(alloc, b"out")?;
     let stderr = Bytes::from_slice(alloc, b"err")?;
     Ok(Ended {
@@ -82,7 +82,7 @@ fn asked_in(alloc: Global, text: &str) -> Result<RecordedCommand, Fail> {
 
 /// The unit's command with something put in place of something in its record.
 pub fn command_with(alloc: Global, old: &str, new: &str) -> Result<Command, Fail> {
-    let text = replaced(alloc, OWN, old, new)?;
+    let text = replace_once(alloc, OWN, old, new)?;
     let asked = asked_in(alloc, text.as_str());
     drop(text);
     Ok(asked?.into_command())

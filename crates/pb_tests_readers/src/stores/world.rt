@@ -67,7 +67,7 @@ pub fn take_away(alloc: Global, place: &mut Memory<Mini>, path: &str) -> Result<
 }
 
 /// A file as a text of its own; `none` where there is none.
-fn copied(alloc: Global, found: &Option<Bytes>) -> Result<String, AllocError> {
+fn copy_text(alloc: Global, found: &Option<Bytes>) -> Result<String, AllocError> {
     let text = match found {
         Some(bytes) => str::from_utf8(bytes.as_slice()).unwrap_or("wrong"),
         None => "none",
@@ -81,13 +81,13 @@ pub fn text_at(alloc: Global, place: &Memory<Mini>, path: &str) -> Result<String
     let file = place.file(alloc, &path);
     drop(path);
     let found = file?;
-    let text = copied(alloc, &found);
+    let text = copy_text(alloc, &found);
     drop(found);
     Ok(text?)
 }
 
 /// A text with something put in place of something in it, once, where it stands there. In both, `_` is a line feed.
-pub fn replaced(alloc: Global, text: &str, old: &str, new: &str) -> Result<String, AllocError> {
+pub fn replace_once(alloc: Global, text: &str, old: &str, new: &str) -> Result<String, AllocError> {
     let old = old.replace(alloc, "_", "\n")?;
     let new = new.replace(alloc, "_", "\n")?;
     let mut made = Shown::new(alloc);

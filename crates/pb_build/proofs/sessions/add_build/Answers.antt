@@ -7,7 +7,7 @@ use Rattle.pb_build.proofs.sessions.add_build.Goals as goal
 
 pub returns-clause-taken : goal.returns-clause-taken
 returns-clause-taken g c =
-    let built = c.built-result in
+    let built = c.build_by-result in
     let heard = (g.O.Out.heard built.new.out) in record {
       answer = record { result = built.result };
       ended = moment (at_in built.new.memory) heard;
@@ -23,7 +23,7 @@ returns-clause-taken g c =
 
 pub returns-in_err-push-clause-lost : goal.returns-in_err-push-clause-lost
 returns-in_err-push-clause-lost g c =
-    let built = c.built-result in
+    let built = c.build_by-result in
     let heard = (g.O.Out.heard built.new.out) in
     let answers = c.args.answers.now ++ record { result = built.result } ∷ [] in
     on_err c.from_residual.result (

@@ -22,14 +22,14 @@ returns-then-not-is_empty-clause-why c =
     omega (arith, ne) in
     circle_is _ _ _ _ are some (subst (λ (l : List ℕ). AreByKey c.args.nodes.now l c.in_ok-nodes.nodes) c.deref-then-not-is_empty.ensures.value c.in_ok-nodes.ensures)
 
-pub ordered-requires-clause-extents : goal.ordered-requires-clause-extents
-ordered-requires-clause-extents c =
+pub order_nodes-requires-clause-extents : goal.order_nodes-requires-clause-extents
+order_nodes-requires-clause-extents c =
     let are = turning_lent _ _ _ _ _ c.in_ok-extents.ensures.survey c.deref.ensures.value c.in_ok-circle.ensures in
     let none : length c.in_ok-circle.circle.items ≡ 0 = omega (arith, (Decides-eqb _ 0).0 (sym c.is_empty.ensures ∙ c.if-not-is_empty.false)) in
     subst (AreRising c.args.nodes.now) (sym c.deref-2.ensures.value) (rising_from _ _ _ c.in_ok-extents.ensures.survey (straight_from _ _ _ are none))
 
-pub ordered-requires-clause-within : goal.ordered-requires-clause-within
-ordered-requires-clause-within c = surveyed_within _ _ _ _ c.requires.graph c.requires.roots c.in_ok-extents.ensures.survey c.deref-2.ensures.value
+pub order_nodes-requires-clause-within : goal.order_nodes-requires-clause-within
+order_nodes-requires-clause-within c = surveyed_within _ _ _ _ c.requires.graph c.requires.roots c.in_ok-extents.ensures.survey c.deref-2.ensures.value
 
 pub returns-in-Err-clause-why : goal.returns-in-Err-clause-why
 returns-in-Err-clause-why c =

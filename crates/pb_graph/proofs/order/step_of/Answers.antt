@@ -7,11 +7,11 @@ use Rattle.pb_graph.proofs.order.step_of.Goals as goal
 pub reached_from-requires-clause-roots : goal.reached_from-requires-clause-roots
 reached_from-requires-clause-roots c = needs_nodes _ _ _ c.requires.graph c.needs_at.ensures
 
-pub placed-requires : goal.placed-requires
-placed-requires c k d lt = let below = needs_nodes _ _ _ c.requires.graph c.needs_at-2.ensures k d lt in omega (arith, below, c.requires.places)
+pub indices_of-requires : goal.indices_of-requires
+indices_of-requires c k d lt = let below = needs_nodes _ _ _ c.requires.graph c.needs_at-2.ensures k d lt in omega (arith, below, c.requires.places)
 
-pub placed-requires-2 : goal.placed-requires-2
-placed-requires-2 c = reached_nodes _ _ _ _ _ c.in_ok-reached.ensures.reached c.deref.ensures.value c.requires.places
+pub indices_of-requires-2 : goal.indices_of-requires-2
+indices_of-requires-2 c = reached_nodes _ _ _ _ _ c.in_ok-reached.ensures.reached c.deref.ensures.value c.requires.places
 
 pub returns-clause-step : goal.returns-clause-step
 returns-clause-step c =

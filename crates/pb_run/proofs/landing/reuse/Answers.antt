@@ -62,15 +62,15 @@ returns-in-Err-clause-changes g c =
 
 pub returns-then-is_some-clause-answers : goal.returns-then-is_some-clause-answers
 returns-then-is_some-clause-answers g c = record {
-  started = ap (λ (r : Ran). r.started) c.unstarted-ran.ensures;
-  directives = subst (λ (r : Ran). directives_in (outcome_by finite.empty r) ≡ r.directives) (sym c.unstarted-ran.ensures) c.in-Ok.ensures.directives;
+  started = ap (λ (r : Ran). r.started) c.without_start-ran.ensures;
+  directives = subst (λ (r : Ran). directives_in (outcome_by finite.empty r) ≡ r.directives) (sym c.without_start-ran.ensures) c.in-Ok.ensures.directives;
   judged = λ told. (
     c.args.again.now.ended,
     record {
       world = (g.P.Place.at c.args.place.now).world;
       counts = (g.P.Place.at c.args.place.now).counts;
       ends = (refl, refl, refl);
-      comes = c.unstarted-ran.ensures ∙ ap (λ (j : Validated). unstarted j.ran) (c.in-Ok.ensures.judged told);
+      comes = c.without_start-ran.ensures ∙ ap (λ (j : Validated). unstarted j.ran) (c.in-Ok.ensures.judged told);
     },
   );
   kept = λ told good. absurd (false≢true (sym good ∙ (sym c.is_some.ensures ∙ c.if-is_some.true)));
@@ -90,7 +90,7 @@ returns-then-is_some-clause-ends g c = record {
       comes = (
         none_changed _ (g.P.Place.at c.args.place.now).world (g.P.Place.at c.judged_now.new.place).world c.in-Ok.ensures.quiet.world,
         bad_made c.args.project.now c.args.unit.now c.args.command.now (awaited.Record c.args.again.now) (g.P.Place.at c.args.place.now).world c.args.again.now.ended c.in-Ok.judgement (c.in-Ok.ensures.judged told) (g.P.Place.at c.args.place.now).counts (g.P.Place.at c.judged_now.new.place).counts c.in-Ok.ensures.calls
-            (ap (λ (r : Ran). is_some r.bad) (sym c.unstarted-ran.ensures) ∙ sym c.is_some.ensures ∙ c.if-is_some.true),
+            (ap (λ (r : Ran). is_some r.bad) (sym c.without_start-ran.ensures) ∙ sym c.is_some.ensures ∙ c.if-is_some.true),
       );
     },
   );
@@ -102,7 +102,7 @@ returns-then-is_some-clause-ends g c = record {
 pub returns-then-is_some-clause-build : goal.returns-then-is_some-clause-build
 returns-then-is_some-clause-build g c premise setup sources told =
     reuse_bad (build_context premise g.P.Place.child setup c.args.project.now sources) c.is_in_order.ensures c.args.index c.args.unit.now c.requires.unit c.args.command.now c.args.again.now c.args.store.now.next (g.P.Place.at c.args.place.now) (g.P.Place.at c.judged_now.new.place)
-    c.in-Ok.ensures.quiet.world c.in-Ok.ensures.quiet.takes.1 c.in-Ok.ensures.quiet.still c.in-Ok.judgement (c.in-Ok.ensures.judged told) c.unstarted-ran.result c.unstarted-ran.ensures (sym c.is_some.ensures ∙ c.if-is_some.true)
+    c.in-Ok.ensures.quiet.world c.in-Ok.ensures.quiet.takes.1 c.in-Ok.ensures.quiet.still c.in-Ok.judgement (c.in-Ok.ensures.judged told) c.without_start-ran.result c.without_start-ran.ensures (sym c.is_some.ensures ∙ c.if-is_some.true)
 
 pub returns-then-is_some-clause-store : goal.returns-then-is_some-clause-store
 returns-then-is_some-clause-store g c = record {
@@ -120,15 +120,15 @@ returns-then-is_some-clause-changes g c =
 
 pub returns-then-again-clause-answers : goal.returns-then-again-clause-answers
 returns-then-again-clause-answers g c = record {
-  started = ap (λ (r : Ran). r.started) c.unstarted-ran.ensures;
-  directives = subst (λ (r : Ran). directives_in (outcome_by finite.empty r) ≡ r.directives) (sym c.unstarted-ran.ensures) c.in-Ok.ensures.directives;
+  started = ap (λ (r : Ran). r.started) c.without_start-ran.ensures;
+  directives = subst (λ (r : Ran). directives_in (outcome_by finite.empty r) ≡ r.directives) (sym c.without_start-ran.ensures) c.in-Ok.ensures.directives;
   judged = λ told. (
     c.args.again.now.ended,
     record {
       world = (g.P.Place.at c.args.place.now).world;
       counts = (g.P.Place.at c.args.place.now).counts;
       ends = (refl, refl, refl);
-      comes = c.unstarted-ran.ensures ∙ ap (λ (j : Validated). unstarted j.ran) (c.in-Ok.ensures.judged told);
+      comes = c.without_start-ran.ensures ∙ ap (λ (j : Validated). unstarted j.ran) (c.in-Ok.ensures.judged told);
     },
   );
   kept = λ told good. (
@@ -156,7 +156,7 @@ returns-then-again-clause-ends g c = record {
       comes = (
         none_changed _ (g.P.Place.at c.args.place.now).world (g.P.Place.at c.judged_now.new.place).world c.in-Ok.ensures.quiet.world,
         good_made c.args.project.now c.args.unit.now c.args.command.now (awaited.Record c.args.again.now) (g.P.Place.at c.args.place.now).world c.args.again.now.ended c.in-Ok.judgement (c.in-Ok.ensures.judged told) (g.P.Place.at c.args.place.now).counts (g.P.Place.at c.judged_now.new.place).counts c.in-Ok.ensures.calls
-            (ended_well c.unstarted-ran.result) [] (g.P.Place.at c.judged_now.new.place).counts (ap (λ (r : Ran). is_some r.bad) (sym c.unstarted-ran.ensures) ∙ sym c.is_some.ensures ∙ c.if-is_some.false)
+            (ended_well c.without_start-ran.result) [] (g.P.Place.at c.judged_now.new.place).counts (ap (λ (r : Ran). is_some r.bad) (sym c.without_start-ran.ensures) ∙ sym c.is_some.ensures ∙ c.if-is_some.false)
             (numbered_so c.args.project.now c.args.unit.now c.args.command.now c.args.again.now (g.P.Place.at c.args.place.now).world c.in-Ok.judgement.names c.if-again.true) refl,
       );
     },
@@ -169,7 +169,7 @@ returns-then-again-clause-ends g c = record {
 pub returns-then-again-clause-build : goal.returns-then-again-clause-build
 returns-then-again-clause-build g c premise setup sources told =
     reuse_numbered (build_context premise g.P.Place.child setup c.args.project.now sources) c.is_in_order.ensures c.args.index c.args.unit.now c.requires.unit c.args.command.now c.args.again.now c.args.store.now.next (g.P.Place.at c.args.place.now) (g.P.Place.at c.judged_now.new.place)
-    c.in-Ok.ensures.quiet.world c.in-Ok.ensures.quiet.takes.1 c.in-Ok.ensures.quiet.still c.in-Ok.judgement (c.in-Ok.ensures.judged told) c.unstarted-ran.result c.unstarted-ran.ensures c.if-again.true
+    c.in-Ok.ensures.quiet.world c.in-Ok.ensures.quiet.takes.1 c.in-Ok.ensures.quiet.still c.in-Ok.judgement (c.in-Ok.ensures.judged told) c.without_start-ran.result c.without_start-ran.ensures c.if-again.true
 
 pub returns-then-again-clause-store : goal.returns-then-again-clause-store
 returns-then-again-clause-store g c = record {
@@ -218,15 +218,15 @@ returns-in-Err-needed_keys-clause-changes g c =
 
 pub returns-in-Ok-migrate-clause-answers : goal.returns-in-Ok-migrate-clause-answers
 returns-in-Ok-migrate-clause-answers g c = record {
-  started = ap (λ (r : Ran). r.started) c.unstarted-ran.ensures;
-  directives = subst (λ (r : Ran). directives_in (outcome_by finite.empty r) ≡ r.directives) (sym c.unstarted-ran.ensures) c.in-Ok.ensures.directives;
+  started = ap (λ (r : Ran). r.started) c.without_start-ran.ensures;
+  directives = subst (λ (r : Ran). directives_in (outcome_by finite.empty r) ≡ r.directives) (sym c.without_start-ran.ensures) c.in-Ok.ensures.directives;
   judged = λ told. (
     c.args.again.now.ended,
     record {
       world = (g.P.Place.at c.args.place.now).world;
       counts = (g.P.Place.at c.args.place.now).counts;
       ends = (refl, refl, refl);
-      comes = c.unstarted-ran.ensures ∙ ap (λ (j : Validated). unstarted j.ran) (c.in-Ok.ensures.judged told);
+      comes = c.without_start-ran.ensures ∙ ap (λ (j : Validated). unstarted j.ran) (c.in-Ok.ensures.judged told);
     },
   );
   kept = λ told good. (
@@ -263,7 +263,7 @@ returns-in-Ok-migrate-clause-ends g c = record {
           comes = (
             renewing.only,
             good_made c.args.project.now c.args.unit.now c.args.command.now (awaited.Record c.args.again.now) (g.P.Place.at c.args.place.now).world c.args.again.now.ended c.in-Ok.judgement (c.in-Ok.ensures.judged told) (g.P.Place.at c.args.place.now).counts (g.P.Place.at c.judged_now.new.place).counts c.in-Ok.ensures.calls
-                (ended_well c.unstarted-ran.result) _ (g.P.Place.at c.migrate.new.place).counts (ap (λ (r : Ran). is_some r.bad) (sym c.unstarted-ran.ensures) ∙ sym c.is_some.ensures ∙ c.if-is_some.false)
+                (ended_well c.without_start-ran.result) _ (g.P.Place.at c.migrate.new.place).counts (ap (λ (r : Ran). is_some r.bad) (sym c.without_start-ran.ensures) ∙ sym c.is_some.ensures ∙ c.if-is_some.false)
                 (renewed_names c.args.project.now c.args.unit.now c.args.command.now c.args.again.now c.args.store.now.folder c.args.key.now (g.P.Place.at c.judged_now.new.place).world (g.P.Place.at c.args.place.now).world c.in-Ok.judgement.names c.requires.folder c.requires.key c.in-Ok.ensures.quiet.world c.if-again.false)
                 (migrate_made (Ok c.in-Ok-migrate.field-0) c.in-Ok-migrate.field-0 c.args.store.now.folder c.args.key.now (g.P.Place.at c.judged_now.new.place).world (g.P.Place.at c.judged_now.new.place).counts (g.P.Place.at c.migrate.new.place).counts refl (c.in-Ok-migrate.ensures.calls told)),
           );
@@ -283,17 +283,17 @@ returns-in-Ok-migrate-clause-build g c premise setup sources told =
     let renewing : Renewing g.P.Place.child (records_folder c.args.project.now) c.args.unit.now.key (needed_keys c.args.project.now c.args.unit.now) c.args.command.now c.args.store.now.next c.migrate.new.self.next (g.P.Place.at c.args.place.now).world (g.P.Place.at c.migrate.new.place).world =
     renewing_moved c.args.store.now.folder (records_folder c.args.project.now) c.args.key.now c.args.unit.now.key c.as_slice.result.now (needed_keys c.args.project.now c.args.unit.now) c.args.store.now.next c.migrate.new.self.next (g.P.Place.at c.judged_now.new.place).world (g.P.Place.at c.args.place.now).world (g.P.Place.at c.migrate.new.place).world c.requires.folder c.requires.key (c.as_slice.ensures ∙ c.in-Ok-needed_keys.ensures) c.in-Ok.ensures.quiet.world g.P.Place.child c.args.command.now
     record { sound = (c.in-Ok-migrate.ensures.record told).sound judge c.args.command.now; ahead = (c.in-Ok-migrate.ensures.record told).ahead judge c.args.command.now; only = c.in-Ok-migrate.ensures.only.only; left = inr (inr (c.in-Ok-migrate.ensures.record told).stands); same = λ has. ((c.in-Ok-migrate.ensures.record told).unused has).1 } in
-    reuse_renewed (build_context premise g.P.Place.child setup c.args.project.now sources) c.is_in_order.ensures c.args.index c.args.unit.now c.requires.unit c.args.command.now c.args.again.now c.args.store.now.next (g.P.Place.at c.args.place.now) (g.P.Place.at c.migrate.new.place) (Lands None) (MayAnswer c.args.store.now.next None) (ended_well c.unstarted-ran.result) c.migrate.new.self.next renewing
-    (changes_place (Lands None) (MayAnswer c.args.store.now.next None) (ended_well c.unstarted-ran.result) (records_folder c.args.project.now) c.args.unit.now.key (g.P.Place.at c.args.place.now) (g.P.Place.at c.judged_now.new.place) (g.P.Place.at c.migrate.new.place) c.in-Ok.ensures.quiet.world c.in-Ok.ensures.quiet.still c.in-Ok.ensures.quiet.takes.1
+    reuse_renewed (build_context premise g.P.Place.child setup c.args.project.now sources) c.is_in_order.ensures c.args.index c.args.unit.now c.requires.unit c.args.command.now c.args.again.now c.args.store.now.next (g.P.Place.at c.args.place.now) (g.P.Place.at c.migrate.new.place) (Lands None) (MayAnswer c.args.store.now.next None) (ended_well c.without_start-ran.result) c.migrate.new.self.next renewing
+    (changes_place (Lands None) (MayAnswer c.args.store.now.next None) (ended_well c.without_start-ran.result) (records_folder c.args.project.now) c.args.unit.now.key (g.P.Place.at c.args.place.now) (g.P.Place.at c.judged_now.new.place) (g.P.Place.at c.migrate.new.place) c.in-Ok.ensures.quiet.world c.in-Ok.ensures.quiet.still c.in-Ok.ensures.quiet.takes.1
     (at_place (λ p. ChangesOnly (is_at_or_below p) (g.P.Place.at c.judged_now.new.place).world (g.P.Place.at c.migrate.new.place).world) c.args.store.now.folder (records_folder c.args.project.now) c.args.key.now c.args.unit.now.key c.requires.folder c.requires.key c.in-Ok-migrate.ensures.only.only)
     (at_place (λ p. KeepsStillOutside (is_at_or_below p) (g.P.Place.at c.judged_now.new.place).counts.starts.flying (g.P.Place.at c.judged_now.new.place).still (g.P.Place.at c.migrate.new.place).still) c.args.store.now.folder (records_folder c.args.project.now) c.args.key.now c.args.unit.now.key c.requires.folder c.requires.key c.in-Ok-migrate.ensures.only.still)
     c.in-Ok-migrate.ensures.only.takes.0 (c.in-Ok-migrate.ensures.only.takes.1 ∙ c.in-Ok.ensures.quiet.takes.0, c.in-Ok-migrate.ensures.only.takes.0 ∙ c.in-Ok.ensures.quiet.takes.1))
-    (c.in-Ok-migrate.ensures.only.takes.0 ∙ c.in-Ok.ensures.quiet.takes.1) c.in-Ok-migrate.ensures.next.next c.in-Ok.judgement (c.in-Ok.ensures.judged told) c.unstarted-ran.result c.unstarted-ran.ensures
+    (c.in-Ok-migrate.ensures.only.takes.0 ∙ c.in-Ok.ensures.quiet.takes.1) c.in-Ok-migrate.ensures.next.next c.in-Ok.judgement (c.in-Ok.ensures.judged told) c.without_start-ran.result c.without_start-ran.ensures
     (renewed_moved c.args.store.now.folder (records_folder c.args.project.now) c.args.key.now c.args.unit.now.key c.as_slice.result.now (needed_keys c.args.project.now c.args.unit.now) c.args.store.now.next c.migrate.new.self.next (g.P.Place.at c.judged_now.new.place).world (g.P.Place.at c.args.place.now).world (g.P.Place.at c.migrate.new.place).world c.requires.folder c.requires.key (c.as_slice.ensures ∙ c.in-Ok-needed_keys.ensures) c.in-Ok.ensures.quiet.world record { stands = (c.in-Ok-migrate.ensures.record told).stands; taken = (c.in-Ok-migrate.ensures.record told).taken })
 
 pub returns-in-Ok-migrate-clause-changes : goal.returns-in-Ok-migrate-clause-changes
 returns-in-Ok-migrate-clause-changes g c =
-    changes_place (Lands None) (MayAnswer c.args.store.now.next None) (ended_well c.unstarted-ran.result) (records_folder c.args.project.now) c.args.unit.now.key (g.P.Place.at c.args.place.now) (g.P.Place.at c.judged_now.new.place) (g.P.Place.at c.migrate.new.place) c.in-Ok.ensures.quiet.world c.in-Ok.ensures.quiet.still c.in-Ok.ensures.quiet.takes.1
+    changes_place (Lands None) (MayAnswer c.args.store.now.next None) (ended_well c.without_start-ran.result) (records_folder c.args.project.now) c.args.unit.now.key (g.P.Place.at c.args.place.now) (g.P.Place.at c.judged_now.new.place) (g.P.Place.at c.migrate.new.place) c.in-Ok.ensures.quiet.world c.in-Ok.ensures.quiet.still c.in-Ok.ensures.quiet.takes.1
     (at_place (λ p. ChangesOnly (is_at_or_below p) (g.P.Place.at c.judged_now.new.place).world (g.P.Place.at c.migrate.new.place).world) c.args.store.now.folder (records_folder c.args.project.now) c.args.key.now c.args.unit.now.key c.requires.folder c.requires.key c.in-Ok-migrate.ensures.only.only)
     (at_place (λ p. KeepsStillOutside (is_at_or_below p) (g.P.Place.at c.judged_now.new.place).counts.starts.flying (g.P.Place.at c.judged_now.new.place).still (g.P.Place.at c.migrate.new.place).still) c.args.store.now.folder (records_folder c.args.project.now) c.args.key.now c.args.unit.now.key c.requires.folder c.requires.key c.in-Ok-migrate.ensures.only.still)
     c.in-Ok-migrate.ensures.only.takes.0 (c.in-Ok-migrate.ensures.only.takes.1 ∙ c.in-Ok.ensures.quiet.takes.0, c.in-Ok-migrate.ensures.only.takes.0 ∙ c.in-Ok.ensures.quiet.takes.1)
@@ -312,7 +312,7 @@ returns-clause-ends g c = record {
           comes = (
             renewing.only,
             good_made c.args.project.now c.args.unit.now c.args.command.now (awaited.Record c.args.again.now) (g.P.Place.at c.args.place.now).world c.args.again.now.ended c.in-Ok.judgement (c.in-Ok.ensures.judged told) (g.P.Place.at c.args.place.now).counts (g.P.Place.at c.judged_now.new.place).counts c.in-Ok.ensures.calls
-                (ended_badly (step.Store c.in-Err-migrate.fault)) _ (g.P.Place.at c.migrate.new.place).counts (ap (λ (r : Ran). is_some r.bad) (sym c.unstarted-ran.ensures) ∙ sym c.is_some.ensures ∙ c.if-is_some.false)
+                (ended_badly (step.Store c.in-Err-migrate.fault)) _ (g.P.Place.at c.migrate.new.place).counts (ap (λ (r : Ran). is_some r.bad) (sym c.without_start-ran.ensures) ∙ sym c.is_some.ensures ∙ c.if-is_some.false)
                 (renewed_names c.args.project.now c.args.unit.now c.args.command.now c.args.again.now c.args.store.now.folder c.args.key.now (g.P.Place.at c.judged_now.new.place).world (g.P.Place.at c.args.place.now).world c.in-Ok.judgement.names c.requires.folder c.requires.key c.in-Ok.ensures.quiet.world c.if-again.false)
                 (migrate_stops (Err c.in-Err-migrate.fault) c.in-Err-migrate.fault c.args.store.now.folder c.args.key.now (g.P.Place.at c.judged_now.new.place).world (g.P.Place.at c.judged_now.new.place).counts (g.P.Place.at c.migrate.new.place).counts refl (c.in-Err-migrate.ensures.record told).cause (c.in-Err-migrate.ensures.calls told)),
           );

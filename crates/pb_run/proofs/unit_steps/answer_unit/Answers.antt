@@ -8,14 +8,14 @@ pub returns-in-Err-clause-told : goal.returns-in-Err-clause-told
 returns-in-Err-clause-told g c = record {
   answer = Err c.in-Err.fault;
   answered = answered_whole c.args.begun _ _ _ _ _ _ _ _ _ _ (Err c.in-Err.fault) c.in-Err.ensures;
-  told = ap told_fault (bare_is _ c.in-Err.fault c.named.result c.named.ensures);
+  told = ap told_fault (bare_is _ c.in-Err.fault c.unit_fault.result c.unit_fault.ensures);
 }
 
-pub returns-in-Ok-told-clause-told : goal.returns-in-Ok-told-clause-told
-returns-in-Ok-told-clause-told g c = record {
+pub returns-in-Ok-outcome_of-clause-told : goal.returns-in-Ok-outcome_of-clause-told
+returns-in-Ok-outcome_of-clause-told g c = record {
   answer = Ok c.in-Ok.ran;
   answered = answered_whole c.args.begun _ _ _ _ _ _ _ _ _ _ (Ok c.in-Ok.ran) c.in-Ok.ensures;
-  told = c.in-Ok-told.ensures;
+  told = c.in-Ok-outcome_of.ensures;
 }
 
 -- Memory for its lines was refused.

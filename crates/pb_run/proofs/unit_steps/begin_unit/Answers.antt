@@ -2,7 +2,7 @@ use Rattle.std.proofs.Common.{◌∙◌, ◌+◌, Err, None, ap, inl, length, ma
 use Rattle.std.proofs.lemmas.Bool.{false≢true}
 use Rattle.pb_place_types.specs.Counts.{Counts, Starts}
 use Rattle.pb_run.specs.Running.{Begins, ChangesUnit, DropsFor, Launches}
-use Rattle.pb_run.specs.Steps.{StartsRise, fault_in, MayBegin}
+use Rattle.pb_run.specs.Steps.{StartsRise, fault_in, BeginFaults}
 use Rattle.pb_run.specs.UnitSteps.{build_context}
 use Rattle.pb_run.specs.Invariants.{records_folder}
 use Rattle.pb_run.specs.declared.begun.SpawnedChild.{SpawnedChild}
@@ -38,7 +38,7 @@ returns-in-Err-command-clause-build g c premise sources told = begin_failed (bui
 
 pub returns-in-Err-compare-clause-build : goal.returns-in-Err-compare-clause-build
 returns-in-Err-compare-clause-build g c premise sources told =
-    begin_failed (build_context premise g.P.Place.child c.args.setup.now c.args.project.now sources) c.is_in_order.ensures c.args.index c.args.unit.now c.requires.unit c.args.done.now c.args.store.now.next (g.P.Place.at c.args.place.now) (g.P.Place.at c.compare.new.place) c.in-Err-compare.ensures.quiet.world c.in-Err-compare.ensures.quiet.takes.0 c.in-Err-compare.ensures.quiet.still (fault_in c.named.result)
+    begin_failed (build_context premise g.P.Place.child c.args.setup.now c.args.project.now sources) c.is_in_order.ensures c.args.index c.args.unit.now c.requires.unit c.args.done.now c.args.store.now.next (g.P.Place.at c.args.place.now) (g.P.Place.at c.compare.new.place) c.in-Err-compare.ensures.quiet.world c.in-Err-compare.ensures.quiet.takes.0 c.in-Err-compare.ensures.quiet.still (fault_in c.unit_fault.result)
 
 pub returns-in-Same-clause-build : goal.returns-in-Same-clause-build
 returns-in-Same-clause-build g c premise sources told =
@@ -77,8 +77,8 @@ returns-in-Ok-launch-clause-begins g c = record {
 
 pub returns-in-Ok-launch-clause-build : goal.returns-in-Ok-launch-clause-build
 returns-in-Ok-launch-clause-build g c premise sources told =
-    begin_launched (build_context premise g.P.Place.child c.args.setup.now c.args.project.now sources) c.is_in_order.ensures c.args.index c.args.unit.now c.requires.unit c.args.done.now c.args.store.now.next (g.P.Place.at c.args.place.now) (g.P.Place.at c.launch.new.place) (λ (l : SpawnedChild). StartsRise l.ticket) (MayBegin c.args.store.now.next) (launched_well c.in-Ok-launch.launched) c.launch.new.store.next
-    (changes_after (λ (l : SpawnedChild). StartsRise l.ticket) (MayBegin c.args.store.now.next) (launched_well c.in-Ok-launch.launched) _ _ _ (records_folder c.args.project.now) c.args.unit.now.key (g.P.Place.at c.args.place.now) (g.P.Place.at c.compare.new.place) (g.P.Place.at c.launch.new.place) c.in-Ok-compare.ensures.quiet.world c.in-Ok-compare.ensures.quiet.still c.in-Ok-compare.ensures.quiet.takes.0
+    begin_launched (build_context premise g.P.Place.child c.args.setup.now c.args.project.now sources) c.is_in_order.ensures c.args.index c.args.unit.now c.requires.unit c.args.done.now c.args.store.now.next (g.P.Place.at c.args.place.now) (g.P.Place.at c.launch.new.place) (λ (l : SpawnedChild). StartsRise l.ticket) (BeginFaults c.args.store.now.next) (launched_well c.in-Ok-launch.launched) c.launch.new.store.next
+    (changes_after (λ (l : SpawnedChild). StartsRise l.ticket) (BeginFaults c.args.store.now.next) (launched_well c.in-Ok-launch.launched) _ _ _ (records_folder c.args.project.now) c.args.unit.now.key (g.P.Place.at c.args.place.now) (g.P.Place.at c.compare.new.place) (g.P.Place.at c.launch.new.place) c.in-Ok-compare.ensures.quiet.world c.in-Ok-compare.ensures.quiet.still c.in-Ok-compare.ensures.quiet.takes.0
     (changes_moved _ _ _ c.args.store.now.folder (records_folder c.args.project.now) _ c.args.unit.now.key None (g.P.Place.at c.compare.new.place) (g.P.Place.at c.launch.new.place) c.requires.folder (c.new-key.ensures ∙ c.in-Ok.ensures) c.in-Ok-launch.ensures.changes)
     (lifted_after c.in-Ok-launch.launched.ticket (g.P.Place.at c.args.place.now).counts (g.P.Place.at c.compare.new.place).counts (g.P.Place.at c.launch.new.place).counts c.in-Ok-compare.ensures.quiet.takes.1 c.in-Ok-compare.ensures.quiet.takes.0 c.in-Ok-launch.ensures.changes.takes))
     c.in-Ok-launch.ensures.store.next c.into_text-in-Ok-launch.result c.in-Ok-command.command c.in-Ok-launch.launched _ c.in-Ok-command.ensures
@@ -89,23 +89,23 @@ returns-in-Ok-launch-clause-build g c premise sources told =
 
 pub returns-in-Ok-launch-clause-changes : goal.returns-in-Ok-launch-clause-changes
 returns-in-Ok-launch-clause-changes g c =
-    changes_after Begins (MayBegin c.args.store.now.next) _ _ _ _ (records_folder c.args.project.now) c.args.unit.now.key (g.P.Place.at c.args.place.now) (g.P.Place.at c.compare.new.place) (g.P.Place.at c.launch.new.place) c.in-Ok-compare.ensures.quiet.world c.in-Ok-compare.ensures.quiet.still c.in-Ok-compare.ensures.quiet.takes.0
+    changes_after Begins (BeginFaults c.args.store.now.next) _ _ _ _ (records_folder c.args.project.now) c.args.unit.now.key (g.P.Place.at c.args.place.now) (g.P.Place.at c.compare.new.place) (g.P.Place.at c.launch.new.place) c.in-Ok-compare.ensures.quiet.world c.in-Ok-compare.ensures.quiet.still c.in-Ok-compare.ensures.quiet.takes.0
     (changes_moved _ _ _ c.args.store.now.folder (records_folder c.args.project.now) _ c.args.unit.now.key None (g.P.Place.at c.compare.new.place) (g.P.Place.at c.launch.new.place) c.requires.folder (c.new-key.ensures ∙ c.in-Ok.ensures) c.in-Ok-launch.ensures.changes)
     (lifted_after c.in-Ok-launch.launched.ticket (g.P.Place.at c.args.place.now).counts (g.P.Place.at c.compare.new.place).counts (g.P.Place.at c.launch.new.place).counts c.in-Ok-compare.ensures.quiet.takes.1 c.in-Ok-compare.ensures.quiet.takes.0 c.in-Ok-launch.ensures.changes.takes)
 
 pub returns-in-Err-launch-clause-build : goal.returns-in-Err-launch-clause-build
 returns-in-Err-launch-clause-build g c premise sources told =
-    begin_stopped (build_context premise g.P.Place.child c.args.setup.now c.args.project.now sources) c.is_in_order.ensures c.args.index c.args.unit.now c.requires.unit c.args.done.now c.args.store.now.next (g.P.Place.at c.args.place.now) (g.P.Place.at c.launch.new.place) (λ (l : SpawnedChild). StartsRise l.ticket) (MayBegin c.args.store.now.next) (launched_badly c.in-Err-launch.fault) c.launch.new.store.next
-    (changes_after (λ (l : SpawnedChild). StartsRise l.ticket) (MayBegin c.args.store.now.next) (launched_badly c.in-Err-launch.fault) _ _ _ (records_folder c.args.project.now) c.args.unit.now.key (g.P.Place.at c.args.place.now) (g.P.Place.at c.compare.new.place) (g.P.Place.at c.launch.new.place) c.in-Ok-compare.ensures.quiet.world c.in-Ok-compare.ensures.quiet.still c.in-Ok-compare.ensures.quiet.takes.0
+    begin_stopped (build_context premise g.P.Place.child c.args.setup.now c.args.project.now sources) c.is_in_order.ensures c.args.index c.args.unit.now c.requires.unit c.args.done.now c.args.store.now.next (g.P.Place.at c.args.place.now) (g.P.Place.at c.launch.new.place) (λ (l : SpawnedChild). StartsRise l.ticket) (BeginFaults c.args.store.now.next) (launched_badly c.in-Err-launch.fault) c.launch.new.store.next
+    (changes_after (λ (l : SpawnedChild). StartsRise l.ticket) (BeginFaults c.args.store.now.next) (launched_badly c.in-Err-launch.fault) _ _ _ (records_folder c.args.project.now) c.args.unit.now.key (g.P.Place.at c.args.place.now) (g.P.Place.at c.compare.new.place) (g.P.Place.at c.launch.new.place) c.in-Ok-compare.ensures.quiet.world c.in-Ok-compare.ensures.quiet.still c.in-Ok-compare.ensures.quiet.takes.0
     (changes_moved _ _ _ c.args.store.now.folder (records_folder c.args.project.now) _ c.args.unit.now.key None (g.P.Place.at c.compare.new.place) (g.P.Place.at c.launch.new.place) c.requires.folder (c.new-key.ensures ∙ c.in-Ok.ensures) c.in-Err-launch.ensures.changes)
     (begun_after c.args.store.now.next c.in-Err-launch.fault (g.P.Place.at c.args.place.now).counts (g.P.Place.at c.compare.new.place).counts (g.P.Place.at c.launch.new.place).counts c.in-Ok-compare.ensures.quiet.takes.1 c.in-Ok-compare.ensures.quiet.takes.0 c.in-Err-launch.ensures.changes.takes))
-    c.in-Err-launch.ensures.store.next (fault_in c.named-in-Err-launch.result)
-    (drops_fault g.P.Place.child c.in-Err-launch.fault (fault_in c.named-in-Err-launch.result) (records_folder c.args.project.now) c.args.unit.now.key c.args.store.now.next c.launch.new.store.next (g.P.Place.at c.args.place.now).world (g.P.Place.at c.launch.new.place).world
+    c.in-Err-launch.ensures.store.next (fault_in c.unit_fault-in-Err-launch.result)
+    (drops_fault g.P.Place.child c.in-Err-launch.fault (fault_in c.unit_fault-in-Err-launch.result) (records_folder c.args.project.now) c.args.unit.now.key c.args.store.now.next c.launch.new.store.next (g.P.Place.at c.args.place.now).world (g.P.Place.at c.launch.new.place).world
     (drops_moved g.P.Place.child (launched_badly c.in-Err-launch.fault) c.args.store.now.folder (records_folder c.args.project.now) _ c.args.unit.now.key c.args.store.now.next c.launch.new.store.next (g.P.Place.at c.compare.new.place).world (g.P.Place.at c.args.place.now).world (g.P.Place.at c.launch.new.place).world c.requires.folder (c.new-key.ensures ∙ c.in-Ok.ensures) c.in-Ok-compare.ensures.quiet.world (c.in-Err-launch.ensures.record told)))
 
 pub returns-in-Err-launch-clause-changes : goal.returns-in-Err-launch-clause-changes
 returns-in-Err-launch-clause-changes g c =
-    subst (λ (e : StepFault). ChangesUnit (records_folder c.args.project.now) c.args.unit.now.key None Begins (MayBegin c.args.store.now.next) (Err e) (g.P.Place.at c.args.place.now) (g.P.Place.at c.launch.new.place)) (sym (bare_is _ c.in-Err-launch.fault c.named-in-Err-launch.result c.named-in-Err-launch.ensures))
-    (changes_after Begins (MayBegin c.args.store.now.next) (Err c.in-Err-launch.fault) _ _ _ (records_folder c.args.project.now) c.args.unit.now.key (g.P.Place.at c.args.place.now) (g.P.Place.at c.compare.new.place) (g.P.Place.at c.launch.new.place) c.in-Ok-compare.ensures.quiet.world c.in-Ok-compare.ensures.quiet.still c.in-Ok-compare.ensures.quiet.takes.0
+    subst (λ (e : StepFault). ChangesUnit (records_folder c.args.project.now) c.args.unit.now.key None Begins (BeginFaults c.args.store.now.next) (Err e) (g.P.Place.at c.args.place.now) (g.P.Place.at c.launch.new.place)) (sym (bare_is _ c.in-Err-launch.fault c.unit_fault-in-Err-launch.result c.unit_fault-in-Err-launch.ensures))
+    (changes_after Begins (BeginFaults c.args.store.now.next) (Err c.in-Err-launch.fault) _ _ _ (records_folder c.args.project.now) c.args.unit.now.key (g.P.Place.at c.args.place.now) (g.P.Place.at c.compare.new.place) (g.P.Place.at c.launch.new.place) c.in-Ok-compare.ensures.quiet.world c.in-Ok-compare.ensures.quiet.still c.in-Ok-compare.ensures.quiet.takes.0
     (changes_moved _ _ _ c.args.store.now.folder (records_folder c.args.project.now) _ c.args.unit.now.key None (g.P.Place.at c.compare.new.place) (g.P.Place.at c.launch.new.place) c.requires.folder (c.new-key.ensures ∙ c.in-Ok.ensures) c.in-Err-launch.ensures.changes)
     (begun_after c.args.store.now.next c.in-Err-launch.fault (g.P.Place.at c.args.place.now).counts (g.P.Place.at c.compare.new.place).counts (g.P.Place.at c.launch.new.place).counts c.in-Ok-compare.ensures.quiet.takes.1 c.in-Ok-compare.ensures.quiet.takes.0 c.in-Err-launch.ensures.changes.takes))

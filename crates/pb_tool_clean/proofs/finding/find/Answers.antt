@@ -12,7 +12,7 @@ returns-in-Ok-look g c =
     let choice = c.in-Ok-choice_in.choice in
     judged_finds g.P.Place.is_modelled c.args.options.now c.args.one_profile
     (moment_of (g.P.Place.at c.args.place.now)) (moment_of (g.P.Place.at c.look.new.place))
-    choice c.in-Ok-look.listed c.judged.result
+    choice c.in-Ok-look.listed c.require_listed.result
     record {
       world = second.looked.world ∙ first.looked.world;
       starts = second.looked.starts ∙ first.looked.starts;
@@ -25,4 +25,4 @@ returns-in-Ok-look g c =
       target = λ told. c.in-Ok-choice_in.ensures.target ∙ c.in-Ok.ensures.ok told;
     }
     (λ told. c.in-Ok-look.ensures.ok told ∙ ap (λ (w : World). listed_in choice.target w) first.looked.world)
-    c.judged.ensures
+    c.require_listed.ensures

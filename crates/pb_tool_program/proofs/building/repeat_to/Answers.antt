@@ -7,11 +7,11 @@ use Rattle.pb_tool_program.proofs.Lines.{said_some, tells_by, tells_some}
 use Rattle.pb_place_types.specs.Sinks.{SinkState}
 use Rattle.pb_tool_program.proofs.building.repeat_to.Goals as goal
 
-pub returns-in-Err-said : goal.returns-in-Err-said
-returns-in-Err-said g c =
+pub returns-in-Err-summary_text : goal.returns-in-Err-summary_text
+returns-in-Err-summary_text g c =
     let old : SinkState = (g.E.Out.heard c.args.err.now) in
-    let new : SinkState = (g.E.Out.heard c.write_all-in-Err-said.new.out) in
+    let new : SinkState = (g.E.Out.heard c.write_all-in-Err-summary_text.new.out) in
     subst (λ (answer : Result Summary BuildFault). TellsSaid answer old new) (sym c.in-Ok.is)
     (tells_some said_lost (said_by_bad c.in-Ok.summary.bad c.in-Ok.summary.said) old new
     (said_some c.in-Ok.summary.bad c.in-Ok.summary.said (c.is_none.ensures ∙ ap not c.if-is_none.false) (subst (λ bytes. length bytes == 0 ≡ false) c.as_slice.ensures (sym c.is_empty.ensures ∙ c.if-is_empty.false)))
-    (inr (tells_by c.write_all-in-Err-said.result said_lost said_lost old new refl c.write_all-in-Err-said.ensures.all c.write_all-in-Err-said.ensures.whole c.write_all-in-Err-said.ensures.part c.write_all-in-Err-said.ensures.fault)))
+    (inr (tells_by c.write_all-in-Err-summary_text.result said_lost said_lost old new refl c.write_all-in-Err-summary_text.ensures.all c.write_all-in-Err-summary_text.ensures.whole c.write_all-in-Err-summary_text.ensures.part c.write_all-in-Err-summary_text.ensures.fault)))

@@ -4,7 +4,7 @@ use Rattle.pb_tool_program.proofs.cleaning.tell_fault.Goals as goal
 
 pub returns : goal.returns
 returns g c = record {
-  report = c.reported-report.result.now;
-  reports = c.reported-report.ensures;
-  concluded = subst (λ (notes : List (List ℕ)). Concludes None (Err c.args.fault) c.reported-report.result.now notes c.conclude.result (g.E.Out.heard c.args.err.now) (g.E.Out.heard c.conclude.new.err)) c.new-notes.ensures c.conclude.ensures;
+  report = c.reports_of-report.result.now;
+  reports = c.reports_of-report.ensures;
+  concluded = subst (λ (notes : List (List ℕ)). Concludes None (Err c.args.fault) c.reports_of-report.result.now notes c.conclude.result (g.E.Out.heard c.args.err.now) (g.E.Out.heard c.conclude.new.err)) c.new-notes.ensures c.conclude.ensures;
 }

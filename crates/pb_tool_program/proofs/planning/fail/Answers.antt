@@ -5,7 +5,7 @@ returns g c heard = record {
   notes = c.look-notes.result;
   are_notes = c.texts.ensures.notes;
   looked = c.look-notes.ensures heard;
-  report = c.reported-report.result.now;
-  reports = c.reported-report.ensures;
+  report = c.reports_of-report.result.now;
+  reports = c.reports_of-report.ensures;
   concluded = c.conclude.ensures;
 }

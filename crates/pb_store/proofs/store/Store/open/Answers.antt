@@ -16,7 +16,7 @@ returns-in-Ok-greatest_of-clause-opens g c told =
     }
 
 pub returns-in-Err-clause-told : goal.returns-in-Err-clause-told
-returns-in-Err-clause-told g c = opens_by_listing g.P.Place.is_modelled c.args.folder (g.P.Place.at c.args.place.now).world c.in-Err.fault _ c.opened.ensures c.in-Err.ensures.looks.fault
+returns-in-Err-clause-told g c = opens_by_listing g.P.Place.is_modelled c.args.folder (g.P.Place.at c.args.place.now).world c.in-Err.fault _ c.open_error.ensures c.in-Err.ensures.looks.fault
 
 pub returns-in-Err-greatest_of-clause-told : goal.returns-in-Err-greatest_of-clause-told
 returns-in-Err-greatest_of-clause-told g c = opens_by_reading g.P.Place.is_modelled c.args.folder (g.P.Place.at c.args.place.now).world _ _ c.in-Ok.ensures.ok c.in-Err-greatest_of.ensures.told
@@ -25,7 +25,7 @@ pub returns-in-Ok-greatest_of-clause-looks : goal.returns-in-Ok-greatest_of-clau
 returns-in-Ok-greatest_of-clause-looks g c told = folder_opened c.args.folder (g.P.Place.at c.args.place.now).world _ _ _ _ (c.in-Ok.ensures.ok told) c.in-Ok.ensures.looks.counts c.in-Ok-greatest_of.ensures.looks
 
 pub returns-in-Err-clause-looks : goal.returns-in-Err-clause-looks
-returns-in-Err-clause-looks g c told = folder_unlisted c.args.folder (g.P.Place.at c.args.place.now).world c.in-Err.fault _ _ _ c.opened.ensures c.in-Err.ensures.looks.fault c.in-Err.ensures.looks.counts
+returns-in-Err-clause-looks g c told = folder_unlisted c.args.folder (g.P.Place.at c.args.place.now).world c.in-Err.fault _ _ _ c.open_error.ensures c.in-Err.ensures.looks.fault c.in-Err.ensures.looks.counts
 
 pub returns-in-Err-greatest_of-clause-looks : goal.returns-in-Err-greatest_of-clause-looks
 returns-in-Err-greatest_of-clause-looks g c told = folder_unread c.args.folder (g.P.Place.at c.args.place.now).world _ _ _ _ _ (c.in-Ok.ensures.ok told) c.in-Ok.ensures.looks.counts c.in-Err-greatest_of.ensures.looks
