@@ -64,6 +64,8 @@ pub struct HostPlace<'a, R: Processes> {
     /// The child that ended last.
     ended: Option<Spawned>,
     moved: Vec<Moved>,
+    /// Whether the last tree that was to be removed was there.
+    has_removed: bool,
     /// What is known of the calls and the children that failed.
     known: Known,
 }
@@ -81,6 +83,7 @@ impl<'a, R: Files + Env + Processes + AllocGlobal> HostPlace<'a, R> {
             most: 0,
             ended: None,
             moved: Vec::new(alloc),
+            has_removed: false,
             known: Known::new(alloc),
         }
     }
@@ -203,6 +206,10 @@ impl<'a, R: Files + Env + Processes + AllocGlobal> Reporting for HostPlace<'a, R
     fn links_out(&self) -> &[Text] {
         self.known.links()
     }
+
+    fn has_removed(&self) -> bool {
+        self.has_removed
+    }
 }
 
 #[tactic(auto, using(pb_place::proofs::InFlight::tally_laws))]
@@ -319,7 +326,13 @@ impl<'a, R: Files + Env + Processes + AllocGlobal> Place for HostPlace<'a, R> {
 
     fn remove_tree(&mut self, alloc: Global, path: &PathText) -> Result<(), PlaceFault> {
         let call = self.tally.note_call(Call::remove(alloc, path))?;
-        let answer = remove_tree(self.runtime, path.as_str());
+        let answer = match remove_tree(self.runtime, path.as_str()) {
+            Ok(was_there) => {
+                self.has_removed = was_there;
+                Ok(())
+            }
+            Err(failed) => Err(failed),
+        };
         let answer = note_answer(alloc, &mut self.known, path, PlaceFault::Remove, answer);
         self.tally.count(call, answer)
     }

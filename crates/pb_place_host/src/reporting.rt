@@ -31,6 +31,12 @@ pub trait Reporting {
         &[]
     }
 
+    /// Returns whether something was there at the path of the last `remove_tree`, if that call did
+    /// not fail.
+    fn has_removed(&self) -> bool {
+        false
+    }
+
     /// Returns links that lead out of the target folder: those that the last child left in its
     /// output folder, if it was a script.
     fn links_out(&self) -> &[Text]

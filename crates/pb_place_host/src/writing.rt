@@ -199,20 +199,21 @@ fn remove_singly<R: Files + AllocGlobal>(runtime: &R, path: &str) -> Result<(), 
     Ok(())
 }
 
-/// Removes the file or folder at a path, with all that is below it; it does nothing
-/// if nothing is there. A link is removed itself, and what it leads to stays.
+/// Removes the file or folder at a path, with all that is below it, and returns whether something
+/// was there. A link is removed itself, and what it leads to stays.
 ///
 /// Errors: the first file or folder that cannot be removed; out of memory.
-pub(crate) fn remove_tree<R: Files + AllocGlobal>(runtime: &R, path: &str) -> Result<(), Failed> {
+pub(crate) fn remove_tree<R: Files + AllocGlobal>(runtime: &R, path: &str) -> Result<bool, Failed> {
     let metadata = match fs::symlink_metadata(runtime, path) {
         Ok(metadata) => metadata,
-        Err(error) if says_absent(&error) => return Ok(()),
+        Err(error) if says_absent(&error) => return Ok(false),
         Err(error) => return Err(Failed::from(error)),
     };
     match remove_whole(runtime, path, metadata.is_dir()) {
-        Ok(()) => Ok(()),
+        Ok(()) => Ok(true),
         Err(error) if metadata.is_dir() && error.kind() != ErrorKind::OutOfMemory => {
-            remove_singly(runtime, path)
+            remove_singly(runtime, path)?;
+            Ok(true)
         }
         Err(error) => Err(Failed::from(error)),
     }

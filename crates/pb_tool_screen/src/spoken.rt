@@ -168,6 +168,10 @@ impl<P: Reporting, S: Out> Reporting for Spoken<P, S> {
     fn links_out(&self) -> &[Text] {
         self.inside.links_out()
     }
+
+    fn has_removed(&self) -> bool {
+        self.inside.has_removed()
+    }
 }
 
 impl<P: Place + Reporting, S: Out> Speaking for Spoken<P, S> {
