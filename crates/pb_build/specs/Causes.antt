@@ -21,7 +21,7 @@ use Rattle.pb_build_result.specs.declared.fault.BuildFault.TheVariants.{Plan, To
 use Rattle.pb_place_types.specs.declared.place.StartFault.{StartFault}
 use Rattle.pb_place_types.specs.declared.place.StartFault.TheVariants as start
 
--- the faults with which the planning may end; it comes before the query of the compiler's version
+-- the faults with which the planning may end, which comes before the query of the compiler's version
 abbrev pub MayPlan : BuildFault → Starts → Starts → Type 0
 MayPlan (Plan why) old new = new ≡ old
 MayPlan Toolchain old new = ⊥

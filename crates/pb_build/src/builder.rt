@@ -406,19 +406,22 @@ pub fn build_plan<P: Place, O: Out>(
 /// Builds the workspace of a root manifest, as `cargo build`
 /// does, by the steps that a turn chooses.
 ///
-/// The order is: the variables `RUSTC`, `RUSTFLAGS` and `CARGO_TARGET_DIR`; the workspace; its
-/// selected packages; their features; the plan; the query `-vV`; the records of the profile's
-/// folder; the units of the plan; the finish line. The turn chooses which unit begins or answers
-/// next, until all units have answered, or all up to and including the first bad one. A unit's
-/// child is started only if something differs from the unit's record. It writes message lines in
-/// plan order, as units answer. At the end, or after a fault, it waits for the children in flight,
-/// in the order in which they began, and drops their answers.
+/// The order is fixed. The variables `RUSTC`, `RUSTFLAGS` and `CARGO_TARGET_DIR` are read first,
+/// and then the workspace. Its selected packages, their features and the plan are found. The query
+/// `-vV` is made, and the records of the profile's folder are opened. Then the units of the plan
+/// are run, and the finish line is written.
+///
+/// The turn chooses which unit begins or answers next, until all units have answered, or all up to
+/// and including the first bad one. A unit's child is started only if something differs from the
+/// unit's record. Message lines are written in plan order, as units answer. At the end, or after a
+/// fault, the children in flight are awaited, in the order in which they began, and their answers
+/// are dropped.
 ///
 /// Errors: `Plan`, before a child is started, a line is written or a file is changed; `Toolchain`,
 /// if the compiler does not report its host; `Child`, if a child gives no answer; `Device`, if a
 /// call on files or variables fails, or no run number is left; `Sink`; `OutOfMemory`. After a
-/// failed call it makes no further call, except to wait for children in flight. After any error but
-/// `Plan` and `Sink` it writes the failing finish line. A bad unit is not an error: the summary
+/// failed call no further call is made, except to wait for children in flight. After any error but
+/// `Plan` and `Sink` the failing finish line is written. A bad unit is not an error: the summary
 /// names it.
 ///
 /// However the build ends, the files outside the target folder and
@@ -444,10 +447,10 @@ pub fn build_turns<P: Place, O: Out, T: Turn>(
     build_plan_turns(alloc, place, out, options, plan, turn)
 }
 
-/// Builds with as many units in flight at a time as the options allow. While
-/// fewer are in flight and a unit may begin, the pick chooses one, and it begins;
-/// otherwise the unit that began first answers. The pick is borrowed: its
-/// answers, in turn, lead from its state before the build to its state after it.
+/// Builds with as many units in flight at a time as the options allow. If fewer are in flight and
+/// some unit may begin, the pick chooses the unit that begins. Otherwise the unit that began first
+/// answers. The pick is borrowed. Its choices lead from its state before the build to its state
+/// after the build.
 ///
 /// Errors: those of `build_turns`.
 pub fn build_with<P: Place, O: Out, K: Pick>(

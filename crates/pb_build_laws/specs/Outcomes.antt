@@ -50,8 +50,8 @@ abbrev pub outcome_after : Answers → Setup → Project → World → List Outc
 outcome_after child setup project sources done u =
     if list_all (λ index. has_given (slice_get done index)) u.needs then given_to project u (command_after setup project done u) (child (command_after setup project done u) (view_of done sources u)) else Waiting
 
--- A list is that of a build's outcomes if and only if each unit of the plan has an outcome in it,
--- made from those before.
+-- A list is that of a build's outcomes if and only if each planned unit has its outcome in the
+-- list, made from earlier outcomes.
 abbrev pub OutcomesAreThese : Type 0
 OutcomesAreThese = (child : Answers) (setup : Setup) (project : Project) (sources : World) (os : List Outcome) → (os ≡ outcomes child setup project sources)
     ↔ ((length os ≡ length project.plan.planned) × ((index : ℕ) (u : Planned) → slice_get project.plan.planned index ≡ Some u → slice_get os index ≡ Some (outcome_after child setup project sources (take index os) u)))

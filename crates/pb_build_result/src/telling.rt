@@ -20,9 +20,9 @@ fn push_ended(text: &mut Vec<u8>, bytes: &[u8]) -> Result<(), AllocError>
     Ok(())
 }
 
-/// Returns what the child of the bad unit wrote that no message line
-/// contains, after a line with the unit's key, and ends it with a line
-/// feed. Returns nothing if the child wrote nothing, or all units are good.
+/// Returns what the child of the bad unit wrote that no message line contains. A line with the
+/// unit's key comes first, and the text ends with a line feed. The text is empty if the child wrote
+/// nothing, or all units are good.
 ///
 /// Errors: out of memory.
 pub fn summary_text(alloc: Global, summary: &Summary) -> Result<Bytes, AllocError>

@@ -34,8 +34,8 @@ use Rattle.pb_build_turns.specs.History.{AllAnswerAnew, AllBegan, AllLeaveRecord
 use Rattle.pb_build_turns.specs.declared.executor.RunningUnit.{RunningUnit}
 use Rattle.pb_unit.specs.declared.plan.Planned.{Planned}
 
--- What dropping children leaves true. `before` are the units in flight before it, and `after` those
--- after it. All that the events imply about the worlds is still true.
+-- What dropping children leaves true. `before` are the units in flight before the drop, and `after`
+-- those after it. All that the events imply about the worlds is still true.
 pub record StaysTold (child : Answers) (project : Project) (first : World) (es : List (Event BadUnit)) (before after : List RunningUnit) (old new : World) (flying : List ChildInFlight) : Type 0 where
   pub changes : Changes project first after es new flying
   -- each unit in flight afterwards was in flight before

@@ -4,8 +4,8 @@ ghost use Rattle.pb_build_turns.specs.Ends.{SaysFirstRows, StartsNothing, Leaves
 
 use pb_run_flight::Turn;
 
-/// If each unit that has answered has its outcome of a clean build, the lines due are those of the
-/// first rows of a clean build. Once all units up to and including the first bad one have answered,
+/// If each unit that has answered has its outcome of a clean build, the lines due are those of a
+/// clean build's first rows. Once all units up to and including the first bad one have answered,
 /// all lines of all rows are due. The order in which units begin and answer does not matter, nor
 /// who decides it.
 pub fn answers_say_rows()

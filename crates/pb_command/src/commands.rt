@@ -334,14 +334,16 @@ fn nothing_of(alloc: Global, setup: &Setup, project: &Project) -> Result<Command
 /// the index of a run in the plan it has the directives of the run's lines, and at the index of a
 /// compile none. An index past the end of `done` counts as none.
 ///
-/// A compile starts the compiler in the workspace's root. Its arguments are, in this order: the
-/// crate's name, edition and source; its types, and where it is written; its settings; the features
-/// that are on, and those that exist; the folders of the libraries that it reaches, and the
-/// libraries under the names that the source uses; what build scripts request; and the user's
-/// flags. A run starts the build script in its package's folder, after the runner if there is one.
-/// The variables are those of The Cargo Book, Environment Variables, and those that the package's
-/// script has set; the script's variables win. The child may read the folders of all units that its
-/// unit reaches.
+/// A compile starts the compiler in the workspace's root. The first arguments are the crate's name,
+/// edition and source. Then come its types and where it is written, its settings, the features that
+/// are on, and those that exist. The folders of the libraries that it reaches follow, and the
+/// libraries under the names that the source uses. What build scripts request, and the user's
+/// flags, come last.
+///
+/// A run starts the build script in its package's folder, after the runner if there is one. The
+/// variables are those of The Cargo Book, Environment Variables, and those that the package's
+/// script has set. If both set a variable, the script's value counts. The child may read the
+/// folders of all units that its unit reaches.
 ///
 /// Errors: out of memory.
 pub fn command(

@@ -304,10 +304,10 @@ fn push_externs(
     push_each_extern(alloc, words, all.as_slice())
 }
 
-/// Adds the folders of libraries, and the libraries (The Cargo Book, Specifying Dependencies): `-L
-/// dependency=FOLDER` for each library that the unit reaches, in plan order; `--extern NAME=FILE`
-/// for the library of each enabled entry, and for a binary's own, each once, in byte order of the
-/// name and then of the file.
+/// Adds the folders of libraries, and the libraries (The Cargo Book, Specifying Dependencies). `-L
+/// dependency=FOLDER` is added for each library that the unit reaches, in plan order. `--extern
+/// NAME=FILE` is added for the library of each enabled entry, and for a binary's own library. Each
+/// library is added once, in byte order of the name and then of the file.
 ///
 /// Errors: only out of memory.
 pub fn push_libraries(

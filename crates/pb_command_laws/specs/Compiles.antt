@@ -62,7 +62,8 @@ settings_table what s =
 -- What the lines of scripts say.
 
 -- A line of a script as its key and its value. The key of `rustc-link-arg-bin=BIN=FLAG` is
--- `rustc-link-arg-bin=BIN`. If no argument depends on a line, its key and its value are empty here.
+-- `rustc-link-arg-bin=BIN`. If no argument depends on a line, the line's key and value are empty
+-- here.
 abbrev pub as_line : Directive → List ℕ × List ℕ
 as_line (LinkSearch folder) = (codes "rustc-link-search", folder)
 as_line (LinkLib name) = (codes "rustc-link-lib", name)

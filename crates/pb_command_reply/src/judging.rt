@@ -353,10 +353,11 @@ fn answered_with<M: Meaning>(
 /// `dep_info_path` of `pb_command_types`, or none if no file is there; for a run it has no effect.
 ///
 /// The inputs of a compile are the paths and variables of its dep-info (The Cargo Book, Build
-/// Cache), without the variables that the command sets. Those of a run are the paths and variables
-/// of its lines `rerun-if-changed` and `rerun-if-env-changed`, or the folder of its package if it
-/// has no such line (The Cargo Book, Build Scripts). Paths in the folder of a reached unit are left
-/// out, since that unit covers them. A text means the path of `PathText::join`.
+/// Cache), without the variables that the command sets. The inputs of a run are the paths and
+/// variables of its lines `rerun-if-changed` and `rerun-if-env-changed`. Without these lines, the
+/// folder of its package is the input (The Cargo Book, Build Scripts). Paths in the folder of a
+/// reached unit are left out, since that unit covers them. A text means the path of
+/// `PathText::join`.
 ///
 /// Errors, of which the first is returned:
 ///
@@ -383,9 +384,9 @@ pub fn check_reply(
     answered_with(alloc, &ByText {}, project, unit, command, ended, dep_info)
 }
 
-/// Returns what the reply of a unit's child yields, as `answered` does, and with its errors. A text
-/// means the path of the place (`Place::path_from`): on a machine, a `..` after a link leads to the
-/// folder that contains the link's target.
+/// Returns what the reply of a unit's child yields, as `answered` does, and with the same errors. A
+/// text means the path of the place (`Place::path_from`). On a machine, a `..` after a link leads
+/// to the folder that contains the link's target.
 pub fn check_reply_at<P: Place>(
     alloc: Global,
     place: &P,

@@ -43,9 +43,9 @@ pub fn library_name(project: &Project, place: usize) -> &str
     }
 }
 
-/// Returns the name of the crate that a unit compiles (The Cargo Book, Cargo Targets): the
-/// library's own, a binary's with `_` for each `-`, or `build_script_build` for each script (our
-/// own choice). A run compiles none, and its name is empty.
+/// Returns the name of the crate that a unit compiles (The Cargo Book, Cargo Targets). A library
+/// has its own name, a binary has its name with `_` for each `-`, and each script is
+/// `build_script_build` (our own choice). A run compiles no crate, and the name is empty.
 ///
 /// Errors: only out of memory.
 pub fn crate_name_of(alloc: Global, project: &Project, unit: &Planned) -> Result<Text, AllocError>
@@ -135,8 +135,8 @@ fn file_by(
     }
 }
 
-/// Returns the file that a compile produces in its output folder: `libC.rlib` for a library, `C`
-/// for a binary and a script, where C is the crate's name (our own choice). None for a run.
+/// Returns the file that a compile produces in its output folder: `libC.rlib` for a library, and
+/// `C` for a binary or a script. C is the crate's name (our own choice). A run produces none.
 ///
 /// Errors: only out of memory.
 pub fn made_file(
@@ -169,8 +169,8 @@ fn dep_info_by(
     }
 }
 
-/// Returns the file in which a compile reports what it has read: `C.d` in its output folder, where
-/// C is the crate's name (our own choice). None for a run.
+/// Returns the file in which a compile reports what it has read: `C.d` in its output folder. C is
+/// the crate's name (our own choice). A run has none.
 ///
 /// Errors: only out of memory.
 pub fn dep_info_path(

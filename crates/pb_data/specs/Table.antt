@@ -1,4 +1,4 @@
--- Tables from texts to values. The entries are in order of first mention.
+-- Tables from names to values. The entries are in order of first mention.
 use Rattle.std.specs.Prelude.{ℕ, List, [], ◌∷◌, if◌then◌else◌, map, Option, Some, None, unwrap_or}
 use Rattle.std.specs.Map.{lookup}
 use Rattle.std.specs.Str.{bytes_eq}

@@ -4,7 +4,7 @@ ghost use Rattle.std.specs.Prelude.{◌≡◌, IfOk};
 
 use std::alloc::{AllocError, Global};
 
-/// A value that can be copied. We use it instead of `Clone`, as our own choice: contracts
+/// A value that can be copied. We use this trait instead of `Clone`, as our own choice. Contracts
 /// know that the copy is equal to the value, and the allocator is named when memory is used.
 pub trait TryCopy: Drop {
     /// Returns a copy.

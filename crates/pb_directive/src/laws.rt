@@ -60,8 +60,8 @@ pub fn passed_names_stand_once()
         → names_of (dep_pairs links directives) ≡ once (names_of (passed links directives)) }
 {}
 
-/// A line of a build script's output means what its key means with its value, key by key (The
-/// Cargo Book, Build Scripts, Outputs of the Build Script), and each refusal is the right one.
+/// A line of a build script's output means what its key means with its value, key by key. Each
+/// refusal is the right one (The Cargo Book, Build Scripts, Outputs of the Build Script).
 pub fn lines_say()
     ensures { LinesSay }
 {}

@@ -211,9 +211,9 @@ fn document_in(alloc: Global, bytes: &[u8]) -> Result<Table, ManifestFault>
 /// Errors: those of `ManifestFault`, which describes when each one occurs, and which of several is
 /// returned.
 ///
-/// A key that no rule names is accepted and has no effect. The same is true of tables that a build
-/// does not use, such as `[lints]` and `[package.metadata]`. Only the keys of `[dev-dependencies]`
-/// are read.
+/// A key that no rule names is accepted and has no effect. Tables that a build does not use, such
+/// as `[lints]` and `[package.metadata]`, have no effect either. Only the keys of
+/// `[dev-dependencies]` are read.
 pub fn read_manifest(alloc: Global, bytes: &[u8]) -> Result<Manifest, ManifestFault>
     ensures { UnlessOom result (manifest_of bytes.now) }
 {

@@ -63,8 +63,8 @@ pub fn is_crate_name(text: &str) -> bool
     !text.is_empty() && are_crate_name_bytes(text.as_bytes())
 }
 
-/// Returns whether a text is a non-empty name of ASCII letters, digits and `_`, after the first
-/// byte also `-`, `+` and `.`, as features have.
+/// Returns whether a text may be a feature's name. The text has ASCII letters, digits and `_`, and
+/// after the first byte also `-`, `+` and `.`. It is not empty.
 #[tactic(auto, unfolding(crate::specs::Letters::is_feature_name))]
 pub fn is_feature_name(text: &str) -> bool
     ensures { result ≡ is_feature_name text.now }

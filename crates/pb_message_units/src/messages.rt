@@ -289,8 +289,8 @@ fn diagnostics_by(
     Ok(messages)
 }
 
-/// Returns the messages of a unit whose child's answer is bad: the diagnostics of a
-/// compile, unless a stream is too long; the notes of a script that reported an error.
+/// Returns the messages of a unit whose child's answer is bad. A compile has its diagnostics,
+/// unless a stream is too long. A script that reported an error has its notes.
 ///
 /// Errors: out of memory.
 pub fn bad_messages(
@@ -317,9 +317,9 @@ fn both(alloc: Global, ended: &Ended) -> Result<Bytes, AllocError>
     Ok(Bytes::new(said))
 }
 
-/// Returns what the child of a bad unit wrote, without what messages contain (our own choice):
-/// nothing if a stream is too long; standard error of a script that reported an error; both streams
-/// of any other script; the lines of a compile that are not diagnostics.
+/// Returns what the child of a bad unit wrote, without what messages contain (our own choice). If a
+/// stream is too long, this is nothing. For a script that reported an error this is standard error,
+/// and for any other script both streams. For a compile this is the lines that are not diagnostics.
 ///
 /// Errors: out of memory.
 pub fn said_by(

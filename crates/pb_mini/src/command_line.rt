@@ -92,8 +92,8 @@ pub struct CommandLine {
     pub crate_type: CrateType,
     /// The name of the crate.
     pub crate_name: Text,
-    /// The file of the image inside `out_dir`: the crate name for a program, else `libNAME.rlib`.
-    /// This is our own choice, like the names of a real compiler.
+    /// The file of the image inside `out_dir`: the crate name for a program, and otherwise
+    /// `libNAME.rlib`. These names are our own choice, and like those of a real compiler.
     pub image: RelativePath,
     /// The file of the dep-info inside `out_dir`: `NAME.d`.
     pub dep_info: RelativePath,
@@ -207,8 +207,8 @@ fn add_value(said: &mut Arguments, role: Role, value: Text) -> Result<(), AllocE
     Ok(())
 }
 
-/// Processes one argument: the value of an option that waits for one, an option, or an argument on
-/// its own. Returns the role of the next argument, if this one waits for a value.
+/// Processes one argument, which is the value of an option that waits for one, an option, or an
+/// argument on its own. Returns the role of the next argument, if this argument waits for a value.
 fn take_word(
     alloc: Global,
     said: &mut Arguments,
@@ -452,9 +452,9 @@ fn settled_by(alloc: Global, said: &Arguments) -> Result<Settled, CommandLineFau
     })
 }
 
-/// Returns the compile of these arguments: `--crate-name` and `--out-dir` once, `--crate-type` at
-/// least once, any of the other options with their values, settings in one argument, and one more
-/// argument, the source.
+/// Returns the compile of these arguments. `--crate-name` and `--out-dir` must be there once, and
+/// `--crate-type` at least once. The other options may be there with their values, and settings in
+/// one argument. One more argument is the source.
 ///
 /// Errors: `Bad`, for anything else; `OutOfMemory`. By our own choice, `Bad` includes an output
 /// folder that is no absolute path, and a crate name that is no file name.

@@ -7,8 +7,8 @@ use pb_data::{Items, OrderedSet, Table, Text, with_next};
 use pb_place_types::PathText;
 use std::alloc::{AllocError, Global};
 
-/// The names of all that a compile read, without repeats, in order of first mention. The small
-/// compiler's reply depends on nothing else that may change, except the files of other units.
+/// The names of all that a compile read, without repeats, in order of first mention. Apart from
+/// these, only the files of other units may change the small compiler's reply.
 #[derive(Drop)]
 pub struct Names {
     /// Files, including those that do not exist.

@@ -47,8 +47,8 @@ fn is_error(level: Level) -> bool
     }
 }
 
-/// Returns a diagnostic as a line of JSON: an object with the keys `level`, `message` and `line`,
-/// in this order and without spaces, and a line feed.
+/// Returns a diagnostic as a line of JSON. The line is an object with the keys `level`, `message`
+/// and `line`, in this order and without spaces, and a line feed.
 pub(crate) fn diagnostic_text(alloc: Global, diagnostic: &Diagnostic) -> Result<String, AllocError>
     ensures { IfOk result (λ text. string_bytes text ≡ diagnostic_text diagnostic.now) }
 {

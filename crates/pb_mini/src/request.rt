@@ -28,8 +28,8 @@ fn compile_in(alloc: Global, words: &[Text]) -> Result<Request, CommandLineFault
     Ok(Request::Compile(line))
 }
 
-/// Returns the request of some arguments: `-vV` alone is for the version, `--run` and one more
-/// argument for the run of an image, and others for a compile.
+/// Returns the request of some arguments. `-vV` alone requests the version, and `--run` with one
+/// more argument the run of an image. Other arguments request a compile.
 ///
 /// Errors: `Bad`, if they are no request; `OutOfMemory`.
 pub(crate) fn request_of(alloc: Global, words: &[Text]) -> Result<Request, CommandLineFault>

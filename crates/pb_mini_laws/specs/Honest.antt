@@ -77,7 +77,7 @@ pub record IsOfProject (project : Project) (u : Planned) : Type 0 where
   pub there : slice_get project.plan.planned place ≡ Some u
 
 -- Law: the small compiler is honest on the command of every unit of a project, whatever earlier
--- scripts have printed. The world may be any in which it can express what it reads.
+-- scripts have printed. The world may be any in which the small compiler can express what it reads.
 abbrev pub SmallCompilerIsHonest : Type 0
 SmallCompilerIsHonest = (setup : Setup) (project : Project) (u : Planned) (done : List (Option (List Directive))) (v : World) → IsSmall setup → IsOfProject project u
     → CanTell (command_of setup project u done) (seen_by (command_of setup project u done) v) → IsHonest judge small_compiler (command_of setup project u done) v

@@ -74,8 +74,8 @@ pub record IsToldBuild (targets : List (List ℕ)) (options : Options) (w : Worl
   pub flags : is_mentioned (environment_of options w.variables).flags (codes "--extern") ≡ false
   pub can_tell : CanTellBuild options w
 
--- What must be true of a step in a session file. For each target folder, an edit stays outside it
--- or removes it as a whole. Of a build, `IsToldBuild` must be true.
+-- What must be true of a step in a session file. For each target folder, an edit stays outside the
+-- folder or removes the folder as a whole. Of a build, `IsToldBuild` must be true.
 abbrev pub IsToldStep : List (List ℕ) → SessionStep → World → Type 0
 IsToldStep targets (Write path text) w = (t : List ℕ) → Contains targets t → is_at_or_below t path ≡ false
 IsToldStep targets (Remove path) w = (t : List ℕ) → Contains targets t → (is_at_or_below path t ≡ true) ⊎ ShareNoPath t path

@@ -11,18 +11,18 @@ ghost use Rattle.std.specs.Prelude.{ℕ, List};
 
 use pb_run_flight::Turn;
 
-/// A law: if dep-info of the small compiler is read without a fault, the names that are read
-/// include all paths and variables that were written. The output is an absolute path of one line. A
-/// path or a variable's name is one line and does not end with `\` or a carriage return. A
-/// variable's name has no `=`.
+/// A law: if dep-info of the small compiler is read without a fault, the names include all paths
+/// and variables that were written. The output is an absolute path of one line. A path or a
+/// variable's name is one line and does not end with `\` or a carriage return. A variable's name
+/// has no `=`.
 pub fn names_are_read_back()
     ensures { (output : List ℕ) (names : Names) (info : DepInfo) → ReadsBack output names info }
 {}
 
-/// A law: on the command of each unit of a project, whatever earlier scripts
-/// have printed, the small compiler gives a good reply again in every world
-/// that agrees on two things: the values of the inputs that the builder finds
-/// in the reply, and the contents of the folders that the command may read.
+/// A law: the small compiler is honest on the command of each unit of a project, whatever earlier
+/// scripts have printed. A good reply comes again in every world that agrees on two things. These
+/// are the values of the inputs that the builder finds in the reply, and the contents of the
+/// folders that the command may read.
 ///
 /// The project was read and planned: it is settled, has its plan, and has normalised absolute
 /// paths. The user's flags name no libraries, and the small compiler runs the scripts. What is read
@@ -33,8 +33,8 @@ pub fn small_compiler_is_honest()
 {}
 
 /// A law: the small compiler is an honest child of each build that satisfies the following. The
-/// manifest and the files of the sources have normalised absolute paths; `RUSTFLAGS` contains no
-/// `--extern`; the runner is `--run` after a name; and the small compiler can report, on one line,
+/// manifest and the files of the sources have normalised absolute paths. `RUSTFLAGS` contains no
+/// `--extern`, and the runner is `--run` after a name. On one line, the small compiler can report
 /// the name of whatever a unit reads.
 pub fn small_builds_are_honest()
     ensures { SmallBuildsAreHonest }
@@ -47,9 +47,9 @@ pub fn small_builds_give<T: Turn>()
     ensures { SmallBuildsGive T.turns }
 {}
 
-/// A law: after any edits outside of the folder of its records, and any such builds, a build of a
-/// session with the small compiler produces what a clean build of the present workspace produces,
-/// or a fault and the first of its lines.
+/// A law: edits outside of the folder of its records, and builds as in `small_builds_give`, came
+/// before. Then a build of a session with the small compiler produces what a clean build of the
+/// present workspace produces. If a fault ends the build, the first of these lines were written.
 ///
 /// Each build of a session file that begins without files does so under fewer conditions. Of any
 /// two target folders, both are the same, or neither is inside the other. Edits stay out of these

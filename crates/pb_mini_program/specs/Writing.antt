@@ -46,8 +46,8 @@ past_puts (Some folder) files c = past_calls (writes_in folder files) c
 abbrev pub PutsIn : Bool → Option (List ℕ) → List (List ℕ × List ℕ) → Kept → Kept → Type 0
 PutsIn is_modelled folder files old new = (new.counts ≡ past_puts folder files old.counts) × (IsTrue is_modelled → new.world ≡ put_reply folder files old.world)
 
--- The files of `done` were put into the folder. The file after them is unchanged, is gone, or has a
--- first part of its bytes.
+-- The files of `done` were put into the folder. The next file is unchanged, is gone, or has a first
+-- part of its bytes.
 abbrev pub PutsUpTo : List ℕ → List (List ℕ × List ℕ) → List ℕ × List ℕ → World → World → Type 0
 PutsUpTo folder done file old new = Torn (below folder file.0) file.1 (put_reply (Some folder) done old) new
 

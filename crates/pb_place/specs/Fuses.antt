@@ -65,14 +65,14 @@ abbrev pub deaths_after : {T : Type 0} → Option (List ℕ) → ℕ → Result 
 deaths_after out fuse (Ok x) ds = other_deaths out ds
 deaths_after out fuse (Err e) ds = deaths_past e out fuse ds
 
--- what a start uses up if its spawn returns this fault: one call; no child was in flight for it
+-- what a start uses up if its spawn returns this fault, which is one call; no child of this start was in flight
 pub record SpawnFailed (e : StartFault) (out : Option (List ℕ)) (old new : Held) : Type 0 where
   pub fuse : new.fuse ≡ old.fuse - 1
   pub deaths : new.deaths ≡ deaths_past e out old.fuse old.deaths
   pub most : new.most ≡ old.most
 
--- what a start uses up if its child was spawned, whatever its end was: two calls, the spawn and the
--- wait for the end
+-- what a start uses up if its child was spawned, which is two calls: the spawn and the wait for the
+-- end, whatever the end was
 pub record ChildFlew (out : Option (List ℕ)) (old new : Held) : Type 0 where
   pub fuse : new.fuse ≡ old.fuse - 2
   pub deaths : new.deaths ≡ other_deaths out old.deaths

@@ -10,8 +10,8 @@ ghost use Rattle.pb_place.specs.Memory.{is_for, fate_of, other_deaths};
 use pb_data::Text;
 use pb_place_types::{ChildInFlight, PathText, StartFault};
 
-/// A child in flight, and what a place stores with it: a place in memory the fault that its end
-/// will return, if any; a real place the running child.
+/// A child in flight, and what a place stores with it. A place in memory stores the fault that the
+/// child's end will return, if there is one. A real place stores the running child.
 #[derive(Drop)]
 pub struct Flying<K> {
     /// The child.

@@ -29,7 +29,7 @@ use std::process::{Child, Processes};
 use std::rt::{Env, Files};
 
 /// A place of real files, variables and children, over a runtime. Contracts do not see its maps,
-/// since no contract can say what a disk contains. It counts its calls as every place does.
+/// since no contract can say what a disk contains. Calls are counted as at every place.
 ///
 /// It follows links. The rest is our own choice, as are the limits of the other formats:
 /// - A path is absent if nothing is there, if its link leads
@@ -45,12 +45,12 @@ use std::rt::{Env, Files};
 /// - A removal that is refused is tried once more, after the folders there were made writable.
 /// - A removal removes a link itself, and not the file or folder to which the link leads.
 ///
-/// A child inherits the variables of this process. The variables of its command override them. It
-/// starts in the folder of the command, with an empty standard input. A program without a slash in
-/// its name is looked for in the folders of this process's `PATH`. No contract says what a child
-/// changes on the disk. Children in flight run side by side; if one writes more than a pipe holds,
-/// it waits for its `finish`. They stay in the process group of this program. A child whose place
-/// is dropped before its `finish` is neither waited for nor ended.
+/// A child inherits the variables of this process, and the variables of its command override these.
+/// The child starts in the folder of the command, with an empty standard input. A program without a
+/// slash in its name is looked for in the folders of this process's `PATH`. No contract says what a
+/// child changes on the disk. Children in flight run side by side. A child that writes more than a
+/// pipe holds waits for its `finish`. All children stay in the process group of this program. A
+/// child whose place is dropped before its `finish` is neither waited for nor ended.
 ///
 /// A path that a child read has moved if it has changed since the child's output folder was made,
 /// just before the spawn. The change times of files and folders (`ctime`) decide that; no program

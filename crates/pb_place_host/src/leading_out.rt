@@ -138,8 +138,8 @@ fn report_links<R: Files + AllocGlobal>(
     look_around(runtime, alloc, report, &mut left)
 }
 
-/// Returns a report on links that lead out of the target folder: those that the script of a command
-/// left in its output folder, if they lead to paths that it did not print. For a command of a
+/// Returns a report on links that lead out of the target folder. The script of a command left these
+/// links in its output folder, and did not print the paths to which they lead. For a command of a
 /// compiler, and if memory runs out, the report may be empty.
 pub(crate) fn links_out<R: Files + AllocGlobal>(
     runtime: &R,

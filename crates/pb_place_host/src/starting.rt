@@ -99,7 +99,8 @@ fn begin<R: Processes>(runtime: &R, mut made: process::Command) -> io::Result<Ch
 }
 
 /// Makes the output folder of a command, and returns when that was, by the clock of its file
-/// system; `None` if the command has no output folder, or the time cannot be found out.
+/// system. The result is `None` if the command has no output folder, or the time cannot be found
+/// out.
 ///
 /// Errors: the system's error with the folder's path, if the folder cannot be made.
 fn make_out<R: Files>(

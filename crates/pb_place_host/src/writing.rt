@@ -57,8 +57,8 @@ pub(crate) fn write_file_pieces<R: Files>(
     Ok(())
 }
 
-/// Removes what is at a path itself. A folder is removed with its contents; anything else, such as
-/// a link, is removed alone.
+/// Removes what is at a path itself. A folder is removed with its contents. Anything else is
+/// removed alone: of a link, only the link.
 fn remove_standing<R: Files + AllocGlobal>(
     runtime: &R,
     path: &str,

@@ -298,9 +298,9 @@ pub trait Place {
         ensures fails { IfErr result (λ e. e ≢ StartFault.OutOfMemory → fails self.old) }
         ensures later { fails self.new → fails self.old };
 
-    /// Waits for the end of a child in flight. Its ticket ends with every result. Suppose that the
-    /// child replies, and that what it sees and its folder have not changed since the spawn. Then
-    /// its reply and its folder are determined by the world at the spawn.
+    /// Waits for the end of a child in flight. Whatever the result, the child's ticket is then used
+    /// up. Suppose that the child replies, and that what it sees and its folder have not changed
+    /// since the spawn. Then its reply and its folder are determined by the world at the spawn.
     ///
     /// Errors: `Died`; `Capture`; `OutOfMemory`.
     fn finish(&mut self, alloc: Global, ticket: u64) -> Result<Ended, StartFault>
@@ -311,9 +311,9 @@ pub trait Place {
         ensures finishes { Finishes ticket result (at self.old) (at self.new) }
         ensures fails { IfErr result (λ e. e ≢ StartFault.OutOfMemory → fails self.old) };
 
-    /// Starts a child process and waits for its end: `spawn`, then `finish`. It first creates the
-    /// folder `command.out`, which no clause shows, since the maps contain only files. It changes
-    /// only files inside `out`; after an error `out` may contain anything.
+    /// Starts a child process and waits for its end: `spawn`, then `finish`. The folder
+    /// `command.out` is created first, which no clause shows, since the maps contain only files.
+    /// Only files inside `out` change; after an error `out` may contain anything.
     ///
     /// Errors: those of `spawn` and of `finish`.
     fn start(&mut self, alloc: Global, command: &Command) -> Result<Ended, StartFault>
@@ -339,9 +339,9 @@ pub trait Place {
     }
 
     /// Checks whether anything at or below a path, outside the target folder, has changed since the
-    /// child of this command was spawned; this must be the last child that has ended. If so,
-    /// `moved` contains it from then on. A machine that cannot decide reports a change. Nothing
-    /// else writes in the maps, so nothing moves there. The call is not counted.
+    /// child of this command was spawned. This child must be the last that has ended. From then on
+    /// `moved` contains a path that has changed. A machine that cannot decide reports a change.
+    /// Nothing else writes in the maps, so nothing moves there. The call is not counted.
     ///
     /// Errors: out of memory only.
     fn watch(

@@ -19,9 +19,9 @@ pub struct Ancestor<'a> {
     pub table: Option<&'a Profile>,
 }
 
-/// Returns the folder of a profile's output inside the target folder: `debug` for `dev` and `test`,
-/// `release` for `release` and `bench`, else the profile's name (The Cargo Book, Profiles). It
-/// takes no memory.
+/// Returns the folder of a profile's output inside the target folder (The Cargo Book, Profiles).
+/// The folder is `debug` for `dev` and `test`, and `release` for `release` and `bench`. For any
+/// other profile it has the profile's name. No memory is used.
 pub fn folder_of(profile: &str) -> &str
     ensures { result.now ≡ folder_of profile.now }
 {

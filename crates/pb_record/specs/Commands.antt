@@ -53,8 +53,8 @@ pub record AsksAs (a : RecordedCommand) (c : Command) : Type 0 where
 abbrev pub AskedIsCommand : Type 0
 AskedIsCommand = (c : Command) (a : RecordedCommand) → asked_in c ≡ Some a → command_of a ≡ c
 
--- If the command that a record describes is written to a record, it says the same, provided that
--- its variables are sorted.
+-- If the command that a record describes is written to a record, the new record says the same,
+-- provided that its variables are sorted.
 abbrev pub CommandIsAsked : Type 0
 CommandIsAsked = (a : RecordedCommand) → are_sorted a.pairs ≡ true → asked_in (command_of a) ≡ Some a
 

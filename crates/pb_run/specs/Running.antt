@@ -297,8 +297,8 @@ pub record AnswersThen (by : Awaited) (answer : Result Ended StartFault) (well :
   pub ends : EndsBy by answer well old.still old.world world old.counts counts
   pub comes : Then world counts
 
--- What came of a unit is how its child's answer is judged, or, if it had no child, how the replayed
--- answer is judged. A good unit then has the record `record_left`.
+-- What came of a unit with a child is how the child's answer is judged. What came of a unit without
+-- a child is how the replayed answer is judged. A good unit then has the record `record_left`.
 pub record AnswersUnit (is_modelled : Bool) (project : Project) (u : Planned) (begun : Begun) (before now : Store) (old new : At) (ran : Ran) : Type 0 where
   pub started : ran.started ≡ is_some (child_of begun)
   pub directives : directives_in (outcome_by finite.empty ran) ≡ ran.directives
@@ -369,8 +369,8 @@ pub record HasTold (is_modelled : Bool) (child : Answers) (project : Project) (i
   pub answered : StepAnswers is_modelled child project index u begun answer before now old new
   pub told : TellsAnswer project u begun.difference answer result
 
--- Either the unit could not begin, with this fault. Or the unit began and then answered. Its answer
--- starts from the store and the place that its beginning left.
+-- Either the unit could not begin, with this fault. Or the unit began and then answered. The answer
+-- starts from the store and the place that the beginning left.
 abbrev pub RunsUnit : {P : Type 0} → (P → At) → Bool → Answers → Setup → Project → List (Option (List Directive)) → ℕ → Planned → Result Outcome StepFault → Store → Store → P → P → Type 0
 RunsUnit {P} at is_modelled child setup project done index u result before now old new =
     ((fault : StepFault) × (result ≡ Err fault) × StepBegins is_modelled child setup project done index u (Err fault) before now (at old) (at new))

@@ -225,10 +225,10 @@ fn step<P, O, F: Drop, E, C: Executor<P, O, F, E>, T: Turn>(
     }
 }
 
-/// Drives a flight on which nothing has begun: makes each step that the turn chooses, until
-/// all units have answered, or all up to and including the first bad one. Units later than
-/// the first bad one may be in flight at the end, and after a fault any may be. Once all
-/// these units have answered, no answer is taken; after a fault the turn is not asked again.
+/// Drives a flight in which nothing has begun, by the steps that the turn chooses. The flight ends
+/// when all units have answered, or all up to and including the first bad one. Units later than the
+/// first bad one may be in flight at the end, and after a fault any units may be. Once all these
+/// units have answered, no answer is taken. After a fault the turn decides no further step.
 pub fn drive<P, O, F: Drop, E, C: Executor<P, O, F, E>, T: Turn>(
     alloc: Global,
     crew: &mut C,

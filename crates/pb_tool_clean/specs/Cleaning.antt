@@ -29,8 +29,8 @@ abbrev pub path_or : List ℕ → Result (List ℕ) PathFault → List ℕ
 path_or other (Ok path) = path
 path_or other (Err fault) = other
 
--- The path that a text spells; a relative text starts at the root. If there is no text, or it has
--- byte 0, it is the other path.
+-- The path that a text spells; a relative text starts at the root. If there is no text, or the text
+-- has byte 0, this is the other path.
 abbrev pub told_or : List ℕ → List ℕ → Option (List ℕ) → List ℕ
 told_or root other None = other
 told_or root other (Some text) = path_or other (joined root text)

@@ -84,8 +84,8 @@ IsCompared project w u c (Unreached index) said = ⊥
 -- The units of a plan.
 
 -- The fate of a unit, given the fates and the directives of the units before it. If all units that
--- it reaches are kept, it is compared with its record. The command is the one that a build would
--- give it.
+-- the unit reaches are kept, the unit is compared with its record. The command is the one that a
+-- build would give it.
 abbrev pub IsFate : Setup → Project → World → List Fate → List (Option (List Directive)) → Planned → Fate → Option (List Directive) → Type 0
 IsFate setup project w fates done u fate said =
     MatchOption (first_unkept fates u.reaches) (IsCompared project w u (command_of setup project u done) fate said) (λ index. (fate ≡ waits_for fates index) × (said ≡ None))

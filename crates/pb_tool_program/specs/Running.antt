@@ -29,9 +29,9 @@ use Rattle.pb_tool_program.specs.Writing.{Tells}
 
 -- Sessions.
 
--- The session in these bytes was run. With status 0 its lines were written as output, and nothing
--- beside them. With status 1 the session is reported as bad, and only the lines from before memory
--- ran out or the sink failed were written.
+-- The session in these bytes was run. With status 0 the session's lines were written as output, and
+-- nothing beside the output. With status 1 the session is reported as bad, and only the lines from
+-- before memory ran out or the sink failed were written.
 pub record RunsSession (bytes : List ℕ) (status : ℕ) (old new said_before said_after : SinkState) : Type 0 where
   pub ends : (status ≡ 0) ⊎ (status ≡ 1)
   pub written : status ≡ 0 → SessionWritten true bytes old new
@@ -71,9 +71,9 @@ Explains OutOfMemory status old new said_before said_after = (status ≡ 101) ×
 
 -- The program.
 
--- What a build shows beside its lines was set before it. The place was told if it names its
--- children, and the sink of the lines if it shows them as text. Both were told if they erase a
--- status line. Both sinks of text were told if levels have colours.
+-- What a build shows beside its lines was set before the build. The place knows if it names its
+-- children. The sink of the lines knows if it shows them as text. Both know if they erase a status
+-- line. Both sinks of text know if levels have colours.
 abbrev pub IsShownAs : {P O E : Type 0} → (P → Bool → Bool → P → Type 0) → (O → Bool → Bool → Bool → O → Type 0) → (E → Bool → E → Type 0) → P → O → E → Shown → Type 0
 IsShownAs {P} {O} {E} Speaks Shows Colors place out err shown =
     ((told : P) × Speaks place shown.verbose shown.progress told) × ((told : O) × Shows out shown.render shown.progress shown.colors told)

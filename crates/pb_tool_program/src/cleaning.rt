@@ -157,8 +157,8 @@ fn clean_found<P: Place>(
 ///
 /// With 101, `err` has notes and `error: ` with a result line. The target folder is listed first;
 /// if nothing that is wanted is there, nothing is done. Between this look and the removal, the
-/// guard is asked for the target folder. If a build has it, a line on `err` says so, and this
-/// removal waits.
+/// target folder is requested from the guard. If a build has the folder, a line on `err` says so,
+/// and this removal waits.
 pub fn clean_options<P: Place + Reporting, G: Guard<P, E>, E: Out>(
     alloc: Global,
     place: &mut P,

@@ -19,10 +19,10 @@ use std::{fs, io};
 /// The locked folder is the one to which the path leads once the lock is taken. If another folder
 /// replaced the first meanwhile, that other folder is locked.
 ///
-/// A locked and empty folder gets the tag of a target folder, `CACHEDIR.TAG`, so that programs do
-/// not back it up, and builds do not take it for sources. The tag of another program gets one more
-/// line. A folder with other files and without a tag gets none: it may be somebody's own. If the
-/// tag cannot be written, there is none.
+/// A locked and empty folder gets the tag of a target folder, `CACHEDIR.TAG`. So programs do not
+/// back the folder up, and builds do not take it for sources. The tag of another program gets one
+/// more line. A folder with other files and without a tag gets no tag: it may be somebody's own. If
+/// the tag cannot be written, there is none.
 #[derive(Drop)]
 pub(crate) struct FolderLock<'a> {
     runtime: &'a HostRuntime,

@@ -7,11 +7,12 @@ ghost use Rattle.pb_place_types.specs.Sinks.{SinkState};
 use pb_place_types::{Out, PathText, Place};
 
 /// Keeps target folders for one build at a time, if it can. Its contracts see the counters of the
-/// place and what was written beside the output at the moment of the call, so they say when the
-/// call comes.
+/// place, and what was written beside the output at the moment of the call. So these contracts say
+/// when the call comes.
 pub trait Guard<P: Place, E: Out> {
-    /// How a folder is requested: the guard before, the folder, the place's counters, what `err`
-    /// has received, whether another build has the folder, and the guard after.
+    /// How a folder is requested. The relation has the guard before, the folder, the place's
+    /// counters, what `err` has received, whether another build has the folder, and the guard
+    /// after.
     ghost asks: { Self → List ℕ → Counts → SinkState → Bool → Self → Type 0 };
 
     /// How a folder is waited for: the guard before, the place's counters, what `err` has received,

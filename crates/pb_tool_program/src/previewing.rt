@@ -88,10 +88,10 @@ fn look_ahead<P: Place, E: Out>(
     }
 }
 
-/// Writes to `err` what a build of these options would start and why, and returns the status: 0, or
-/// 101 with `error: ` and the result line of a build that ends so, after the notes that such a
-/// build writes. No child is started but the compiler's query, and no file or folder is changed;
-/// so the target folder is not guarded.
+/// Writes to `err` what a build of these options would start and why, and returns the status, which
+/// is 0 or 101. With 101, the notes of a failed build and `error: ` with its result line are
+/// written, too. No child is started but the compiler's query, and no file or folder is changed. So
+/// the target folder is not guarded.
 pub fn preview_options<P: Place + Reporting, E: Out>(
     alloc: Global,
     place: &mut P,

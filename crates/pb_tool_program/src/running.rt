@@ -98,10 +98,10 @@ fn build<P: Speaking, G: Guard<P, E>, O: Screen, E: Coloring, L: Out>(
 /// The whole program: does what the arguments of the command line request, the program's own name
 /// first.
 ///
-/// A build asks the guard for its target folder, once it is planned, and a removal once it has
-/// listed. What a build shows beside its lines is set at the place (its children), at `out` (its
-/// lines, as text), at `err` (colours) and at the status line (which unit begins). The page
-/// contains the meanings of the names of result lines.
+/// A build requests its target folder from the guard once it is planned, and a removal once it has
+/// listed. What a build shows beside its lines is set at four places. Its children are named at the
+/// place, its lines are shown as text at `out`, colours are set at `err`, and the status line shows
+/// which unit begins. The page contains the meanings of the names of result lines.
 ///
 /// The status is:
 ///

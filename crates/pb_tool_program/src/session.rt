@@ -67,9 +67,9 @@ fn carry_out<O: Out>(alloc: Global, bytes: &[u8], out: &mut O) -> Result<bool, B
     Ok(written)
 }
 
-/// The session program: reads a session from bytes, runs it in memory with the small compiler as
-/// its child, and writes to `out` all message lines of its builds and then one result line for each
-/// build, followed by a line feed.
+/// The session program. A session is read from bytes and run in memory with the small compiler as
+/// its child. All message lines of its builds are written to `out`, and then one result line for
+/// each build, followed by a line feed.
 ///
 /// The status is 0, or 1 with `error: bad session` and a line feed on `err`. It is 1 if:
 ///

@@ -112,12 +112,12 @@ fn tool_note(differences: &[Difference]) -> &'static str
     }
 }
 
-/// Returns why a build of so many units started what it started: for each unit whose child was
-/// started, in order of starting, its key and what differed first, or one line for five or more
-/// units with one reason; then how many were started, how many were replayed from their records,
-/// and how many did not begin, if any. A note before this line says what `CARGO` is, if that alone
-/// is known to differ. Each line ends with a line feed. The words are our own
-/// choice.
+/// Returns why a build of n units started children. Each unit whose child was started has a line,
+/// in the order of these starts, with its key and its first difference. Five or more units with one
+/// reason have one line together. Then come the numbers of units that were started, that were
+/// replayed from their records, and that did not begin, if any. A note before this line says what
+/// `CARGO` is, if that alone is known to differ. Each line ends with a line feed. The words are our
+/// own choice.
 ///
 /// Errors: out of memory.
 pub fn explanation(alloc: Global, summary: &Summary, units: usize) -> Result<String, AllocError>

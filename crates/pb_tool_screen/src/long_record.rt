@@ -101,8 +101,9 @@ pub(crate) fn may_be_long(path: &PathText, length: u64) -> bool {
     length > LONGEST as u64 && path.as_str().ends_with(RUN_RECORD)
 }
 
-/// Returns the note on a file that was written, as a line, if the file is the record of a script
-/// that names no input and has more than 16,777,216 bytes; `None` for any other file.
+/// Returns the note on a file that was written, as a line. The file must be the record of a script
+/// that names no input, and must have more than 16,777,216 bytes. For any other file the result is
+/// `None`.
 ///
 /// Errors: out of memory.
 pub(crate) fn long_record_line(

@@ -12,8 +12,8 @@ use std::alloc::{AllocError, Global};
 
 /// A sink of message lines that can also show them as text.
 pub trait Screen: Out {
-    /// How the showing of lines is switched: the sink before, whether it shows lines, whether it
-    /// erases a status line, whether levels have colours, and the sink after.
+    /// How the showing of lines is switched. The relation has the sink before, whether it shows
+    /// lines, whether it erases a status line, whether levels have colours, and the sink after.
     ghost shows: { Self → Bool → Bool → Bool → Self → Type 0 };
 
     /// Sets whether lines are shown from now on, whether a status line is erased before each write,

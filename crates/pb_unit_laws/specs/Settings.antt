@@ -1,5 +1,5 @@
--- The settings of a package. Several sets of values count for it, in order. Each key has the first
--- value that they have for it (The Cargo Book, Profiles).
+-- The settings of a package. Several sets of values count for the package, in order. Each key has
+-- the first value that these sets have for the key (The Cargo Book, Profiles).
 use Rattle.std.specs.Prelude.{◌≡◌, ◌∷◌, ◌++◌, [], ℕ, if◌then◌else◌, codes, List, map, Option, Some, None, option_and_then, option_map, slice_get, unwrap_or}
 use Rattle.std.specs.List.{filter_map, find, flat_map}
 use Rattle.std.specs.Str.{bytes_eq}

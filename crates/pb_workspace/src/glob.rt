@@ -163,9 +163,9 @@ fn last_matched(row: &Row) -> bool
 }
 
 /// Returns whether a pattern matches a whole name, which is one part of a path (The Cargo Book,
-/// Workspaces). `*` matches any number of characters, even a dot at the front; `?` matches one
-/// character; every other byte matches itself. By our own choice `[` matches itself, and `**` is
-/// the same as `*`. The time is proportional to the pattern's length times the name's.
+/// Workspaces). `*` matches any number of characters, even a dot at the front. `?` matches one
+/// character, and every other byte matches itself. By our own choice `[` matches itself, and `**`
+/// is the same as `*`. The time is proportional to the pattern's length times the name's.
 ///
 /// Errors: out of memory only.
 pub fn matches(alloc: Global, pattern: &str, name: &str) -> Result<bool, AllocError>

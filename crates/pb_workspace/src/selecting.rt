@@ -255,9 +255,10 @@ fn selection_of(
 /// Returns what the options of a build request of the workspace (The Cargo Book, Workspaces and
 /// cargo build).
 ///
-/// The packages are all members with `--workspace`; else the members that `-p` names; else those of
-/// `default-members`; else the root package; else all members. Their indices are in ascending order
-/// without repeats, and the type guarantees that each is one of the workspace's packages.
+/// The packages are all members with `--workspace`, or else the members that `-p` names. Without
+/// both, `default-members` decides, or else the root package, or else all members. The packages'
+/// indices are in ascending order without repeats, and the type guarantees that each is one of the
+/// workspace's packages.
 ///
 /// The features are the texts between the commas and spaces of `--features`, in order; empty texts
 /// are left out.

@@ -98,9 +98,9 @@ fn looked_for_main(
 /// Returns the source of a `[[bin]]` of a package (The Cargo
 /// Book, Cargo Targets): the path that it writes, as it is.
 ///
-/// If it writes none, the source is the first of these paths that is a file: `src/main.rs` (only if
-/// the binary is named as its package), `src/bin/NAME.rs`, `src/bin/NAME/main.rs`. If none is a
-/// file, the source is the first of these paths.
+/// If no path is written, the source is the first of these paths that is a file. The paths are
+/// `src/main.rs` (only if the binary is named as its package), `src/bin/NAME.rs` and
+/// `src/bin/NAME/main.rs`. If none is a file, the source is the first of these paths.
 ///
 /// Errors: out of memory.
 pub fn binary_source(

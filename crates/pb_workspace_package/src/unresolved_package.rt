@@ -224,9 +224,9 @@ fn draft_seen(
     draft_with(alloc, listings, at, is_member, given, tables, keys)
 }
 
-/// Returns the package of a manifest: what the manifest and its folder
-/// say, with all that it takes from its workspace (The Cargo Book,
-/// Manifest Format and Workspaces). It looks at its folder once.
+/// Returns the package of a manifest. The manifest and its folder describe the package, with all
+/// that it inherits from its workspace (The Cargo Book, Manifest Format and Workspaces). The folder
+/// is looked at once.
 ///
 /// Errors: the first that occurs. It reads the keys, then
 /// `[dependencies]`, then `[build-dependencies]`:

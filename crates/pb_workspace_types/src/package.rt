@@ -81,9 +81,9 @@ pub struct About {
     pub license: Text,
     /// `license-file`, as a path relative to the package's folder.
     pub license_file: Text,
-    /// `readme`, as a path relative to the package's folder: `README.md` for `true`, nothing for
-    /// `false`. If it is not written, the first of `README.md`, `README.txt`, `README` that is a
-    /// file.
+    /// `readme`, as a path from the package's folder: `README.md` for `true`, nothing for `false`.
+    /// If `readme` is not written, this is the first of `README.md`, `README.txt`, `README` that is
+    /// a file.
     pub readme: Text,
     /// `repository`.
     pub repository: Text,
@@ -123,9 +123,9 @@ pub struct Package {
     /// of their keys.
     pub entries: EntriesByKey,
     /// Its features in byte order of their names, without repeats. An optional dependency N makes a
-    /// feature N with the one item `dep:N`, unless a feature N or some item `dep:N` is written (The
-    /// Cargo Book, Features). Therefore a feature's name may be any package name, even one that
-    /// begins with `-`.
+    /// feature N with the one item `dep:N`. If a feature N or some item `dep:N` is written, it
+    /// makes none (The Cargo Book, Features). Therefore a feature's name may be any package name,
+    /// even a name that begins with `-`.
     pub features: FeaturesByName,
     /// The keys of `[dev-dependencies]`, in byte order.
     pub development: Items<Text>,
