@@ -3,7 +3,7 @@
 
 It counts the definitions of `specs/` that a definition names, with all that these name in turn, and their lines without
 comments, imports and empty lines, by crate. The default is `Headline` of pb_build with `ByFirst`, the schedule of `build`,
-and `IsReading`, which the law `records_have_a_reading` states of `reading`.
+and `FindsAsReading`, which the law `records_have_a_reading` states of `reading`.
 
 `--but=NAME=NAME,..` counts the statements of laws in place of what one definition names. A reader who believes the laws
 reads these, and of the definition its type. `--laws` takes all laws of LAWS. Names are CRATE.File.name, or a last part that
@@ -21,7 +21,7 @@ LAWS = """
 --but=pb_directive.Directives.line_directives=LinesSay
 --but=pb_directive.DepInfo.line_info=InfosSay
 --but=pb_workspace_types.Settled.IsSettled=AllAreSettled
---but=pb_record.Parts.Reads=HasOneReading,HasReading
+--but=pb_record.Parts.ReadsAs=HasOneReading,HasReading
 --but=pb_store_soundness.Sound.Sound=NothingIsSound,OutsideLaw
 --but=pb_feature_types.Features.is_active=FeaturesAreOne
 --but=pb_feature_types.Features.features_at=FeaturesAreOne
@@ -193,7 +193,7 @@ for it in sys.argv[1:] + (LAWS if "--laws" in sys.argv else []):
         old, _, new = it[6:].partition("=")
         instead[named(old)] = {named(part) for part in new.split(",") if part}
 starts = [named(it) for it in words] or [
-    named("pb_build.Headline.Headline"), named("pb_build.Headline.ByFirst"), named("pb_record.Parts.IsReading")]
+    named("pb_build.Headline.Headline"), named("pb_build.Headline.ByFirst"), named("pb_record.Parts.FindsAsReading")]
 stops = {old: set() for old in instead}
 
 

@@ -255,8 +255,9 @@ impl<P: Place, O: Out> Executor<P, O, BadUnit, BuildFault> for UnitExecutor {
         (moment (P.at place) (O.heard out)) (P.at place).still es given };
 
     ghost stops = { λ fault asked first first_place first_out crew place out es.
-        StoryEnds P.is_modelled P.child fault asked first (moment (P.at first_place) (O.heard first_out))
-        crew (moment (P.at place) (O.heard out)) (P.at place).still es };
+        StoryEnds P.is_modelled P.child fault asked first
+        (moment (P.at first_place) (O.heard first_out)) crew
+        (moment (P.at place) (O.heard out)) (P.at place).still es };
 
     fn in_flight(&self, alloc: Global) -> Result<Vec<usize>, AllocError> {
         places_of(alloc, self.running.as_slice())

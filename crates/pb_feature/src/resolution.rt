@@ -96,7 +96,8 @@ fn resolve_checked(
     selected: &SelectedWorkspace<'_>,
 ) -> Result<Features, FeatureFault>
     ensures exactly { IfOk result (IsResolved selected.now.workspace selected.now.selection) }
-    ensures complete { OnOk result (LacksFeature selected.now.workspace selected.now.selection → ⊥) }
+    ensures complete { OnOk result
+        (LacksFeature selected.now.workspace selected.now.selection → ⊥) }
     ensures missing { IfErr result (λ e. (e ≡ OutOfMemory)
         ⊎ ((e ≡ NoSuchFeature) × LacksFeature selected.now.workspace selected.now.selection)) }
 {

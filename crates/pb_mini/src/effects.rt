@@ -63,7 +63,8 @@ pub(crate) fn add_said(
     message: &str,
     number: u64,
 ) -> Result<(), AllocError>
-    ensures { OnOk result (AddsEffect effects.new effects.old (diagnosed level message.now number)) }
+    ensures { OnOk result
+        (AddsEffect effects.new effects.old (diagnosed level message.now number)) }
 {
     add_diagnostic(effects, level, Text::from_str(alloc, message)?, number)
 }

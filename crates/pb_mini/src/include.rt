@@ -123,8 +123,8 @@ fn add_no_file(
     number: u64,
     written: &str,
 ) -> Result<(), AllocError>
-    ensures { OnOk result (AddsEffect effects.new effects.old (diagnosed Level.Error (codes "no file "
-        ++ written.now) number)) }
+    ensures { OnOk result (AddsEffect effects.new effects.old
+        (diagnosed Level.Error (codes "no file " ++ written.now) number)) }
 {
     let message = no_file(alloc, written)?;
     add_diagnostic(effects, Level::Error, message, number)

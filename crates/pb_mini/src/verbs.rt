@@ -134,8 +134,8 @@ fn add_no_library(
     number: u64,
     name: &str,
 ) -> Result<(), AllocError>
-    ensures { OnOk result (AddsEffect effects.new effects.old (diagnosed Level.Error (codes "no library "
-        ++ name.now) number)) }
+    ensures { OnOk result (AddsEffect effects.new effects.old
+        (diagnosed Level.Error (codes "no library " ++ name.now) number)) }
 {
     let message = no_library(alloc, name)?;
     add_diagnostic(effects, Level::Error, message, number)
@@ -166,7 +166,8 @@ fn add_used(
     name: &str,
     file: &Option<Bytes>,
 ) -> Result<(), AllocError>
-    ensures { OnOk result (AddsEffect effects.new effects.old (used number line.now name.now file.now)) }
+    ensures { OnOk result
+        (AddsEffect effects.new effects.old (used number line.now name.now file.now)) }
 {
     match file {
         Some(bytes) => add_library(alloc, effects, line, bytes.as_slice()),

@@ -134,8 +134,8 @@ fn read_by_format(alloc: Global, text: &[u8]) -> Result<Option<Record>, AllocErr
 /// Errors: only out of memory.
 pub fn read_record(alloc: Global, text: &[u8]) -> Result<Option<Record>, AllocError>
     ensures reads { IfOk result (λ found. ReadsAs text.now found) }
-    ensures found { IfOk result (λ found. (read : List ℕ → Option Record) → FindsAsReading read → found
-        ≡ read text.now) }
+    ensures found { IfOk result (λ found.
+        (read : List ℕ → Option Record) → FindsAsReading read → found ≡ read text.now) }
 {
     let found = read_by_format(alloc, text)?;
     Ok(found)

@@ -114,10 +114,11 @@ fn text_of(alloc: Global, kept: &Record) -> Result<Bytes, AllocError>
 /// Errors: only out of memory.
 pub fn write_record(alloc: Global, kept: &Record) -> Result<Bytes, AllocError>
     ensures says { IfOk result (λ text. Says text kept.now) }
-    ensures read { IfOk result (λ text. (read : List ℕ → Option Record) → FindsAsReading read → read text
-        ≡ Some kept.now) }
-    ensures torn { IfOk result (λ text. (read : List ℕ → Option Record) → FindsAsReading read → (n : ℕ) →
-        n < length text → read (take n text) ≡ None) }
+    ensures read { IfOk result (λ text.
+        (read : List ℕ → Option Record) → FindsAsReading read → read text ≡ Some kept.now) }
+    ensures torn { IfOk result (λ text.
+        (read : List ℕ → Option Record) → FindsAsReading read →
+        (n : ℕ) → n < length text → read (take n text) ≡ None) }
 {
     let text = text_of(alloc, kept)?;
     Ok(text)

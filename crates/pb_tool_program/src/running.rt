@@ -122,7 +122,8 @@ pub fn run<S: AsStr, P: Speaking, G: Guard<P, E>, O: Screen, E: Coloring, L: Out
 ) -> u8
     requires none { (P.at place.old).counts.starts.flying ≡ [] }
     ensures { Runs P.is_modelled P.child (Guarded G.asks G.waits guard.old guard.new)
-        (IsShownAs P.speaks O.shows E.colors place.old out.old err.old) page.now (P.at place.new).moved
+        (IsShownAs P.speaks O.shows E.colors place.old out.old err.old)
+        page.now (P.at place.new).moved
         (map S.text words.now) here.now result
         (moment (P.at place.old) (O.heard out.old)) (moment (P.at place.new) (O.heard out.new))
         (E.heard err.old) (E.heard err.new) }

@@ -230,7 +230,8 @@ fn all_made(
     requires owners { All (λ u. u.owner < length workspace.now.packages) units.now }
     requires names { All (λ (s : Step). is_relative s.key ≡ true) steps.items }
     ensures { IfOk result (λ planned.
-        AllZip (IsPlannedFrom workspace.now (map seen frame.now.line.items) frame.now.folder units.now)
+        AllZip (IsPlannedFrom workspace.now (map seen frame.now.line.items)
+        frame.now.folder units.now)
         steps.items planned.items) }
 {
     let mut planned = Vec::new(alloc);

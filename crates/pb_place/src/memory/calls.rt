@@ -239,7 +239,8 @@ impl<C: Child> Place for Memory<C> {
         pieces: &[Bytes],
     ) -> Result<(), PlaceFault>
         ensures answers { FailsByFuse (call.Write path.now) result self.old }
-        ensures err { OnErr result (Torn path.now (concat pieces.now) self.old.world self.new.world) }
+        ensures err { OnErr result
+            (Torn path.now (concat pieces.now) self.old.world self.new.world) }
         ensures only { ChangesOnly (is_at_or_below path.now) self.old.world self.new.world }
         ensures state { self.new ≡ record (called (call.Write path.now) result self.old) {
           world = after_write result path.now (concat pieces.now) self.old.world;
