@@ -3,8 +3,10 @@ from concurrent.futures import ThreadPoolExecutor
 
 program, compiler, folder, every, workers, only = sys.argv[1:]
 FAILED = b'{"reason":"build-finished","success":false}\n'
-# The second is said if memory for the first is refused too.
-MEMORY = (b"error: fault memory OutOfMemory", b"error: out of memory for why the build failed")
+NOTES = (b"note: out of memory", b"note: out of memory for what the fault is about")
+ERRORS = (b"error: fault memory OutOfMemory", b"error: out of memory for why the build failed")
+# The second of each is said if memory for the first is refused too. So the first pair comes first.
+MEMORY = [note + b"\n" + error for note in NOTES for error in ERRORS]
 
 
 def manifest(name, more=""):
@@ -83,9 +85,9 @@ def wrong_in(work, before, number, on, right, clean, files):
     status, lines, said = built(work, more)
     if (status, lines) == (0, right):
         came = "right"
-    elif status == 101 and said in MEMORY[: 1 + on] and not lines:
+    elif status == 101 and said in MEMORY[: 4 if on else 1] and not lines:
         came = "before"
-    elif status == 101 and said in MEMORY[: 1 + on] and lines[-1] == FAILED and lines[:-1] == right[: len(lines) - 1] and len(lines) <= len(right):
+    elif status == 101 and said in MEMORY[: 4 if on else 1] and lines[-1] == FAILED and lines[:-1] == right[: len(lines) - 1] and len(lines) <= len(right):
         came = "memory"
     else:
         return f"allocation {number}: status {status}, says {said!r}, writes {lines!r}"[:900], "wrong"

@@ -7,9 +7,9 @@
 # A build whose memory was refused must print one of these:
 #
 # - the right lines, with status 0, if it can do without that memory
-# - the first whole lines, the failing finish line, and `error: fault memory OutOfMemory`, with status 101 (or the line that
+# - the first whole lines, the failing finish line, `note: out of memory` and `error: fault memory OutOfMemory`, with status 101 (or the line that
 #   needs no memory, if all allocations that follow are refused too)
-# - that error alone, if memory was refused before the first line
+# - that note and that error alone, if memory was refused before the first line
 #
 # The next build, with memory, must print the lines of a clean build except for `fresh`. The folder of each unit must have
 # the files that a clean build leaves. A third build must start nothing.

@@ -214,8 +214,8 @@ mkdir "$folder/faults"
 cd "$folder/faults"
 package . a
 : > src/lib.rs
-# fault COMPILER
-fault() { RUSTC="$1" "$PROGRAM" build > lines 2> said || true; tr '\n' '|' < said; }
+# fault COMPILER: what follows the sentence of the fault, which is the first note
+fault() { RUSTC="$1" "$PROGRAM" build > lines 2> said || true; tail -n +2 said | tr '\n' '|'; }
 # compiler NAME LINES
 compiler() { printf '#!/bin/sh\n%s\n' "$2" > "$1"; chmod +x "$1"; }
 say 'no such compiler' "note: cannot start $PWD/none in $PWD: No such file or directory|error: fault -vV CannotStart|" "$(fault "$PWD/none")"

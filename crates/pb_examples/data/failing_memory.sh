@@ -1,7 +1,8 @@
 # The builder under one limit of its memory after another, each two pages above the one before, until a build ends well.
 # Each piece of memory takes pages of its own, so each limit refuses the growth that first goes past it. A build that was
-# refused memory prints nothing or the failing line alone, and says that memory was refused. The build after it has no
-# limit: it prints the lines of one from nothing, and leaves the same files. How much memory that takes is not looked at.
+# refused memory prints nothing or the failing line alone, and says that memory was refused, by a note and by its result
+# line. The build after it has no limit: it prints the lines of one from nothing, and leaves the same files. How much
+# memory that takes is not looked at.
 package . a
 file src/lib.rs 'print x'
 pb_tool build > wanted
@@ -13,7 +14,10 @@ ulimit -c 0
 } < wanted
 again=${artifact%false\}}true\}
 failed='{"reason":"build-finished","success":false}'
-# The line that takes no memory, where none is left for the other.
+# The note and the result line, and for each the line that takes no memory, where none is left for the other.
+noted='note: out of memory'
+unnoted='note: out of memory for what the fault is about'
+error='error: fault memory OutOfMemory'
 unsaid='error: out of memory for why the build failed'
 within() (
     MALLOC_MMAP_THRESHOLD_=0
@@ -37,7 +41,10 @@ while [ $status != 0 ] && [ $limit -lt 65536 ]; do
     if [ $status = 101 ]; then
         refused=$((refused + 1))
         lines told
-        [ "$said" = 'error: fault memory OutOfMemory|' ] || [ "$said" = "$unsaid|" ] || echo "status 101: $said"
+        case $said in
+        "$noted|$error|" | "$noted|$unsaid|" | "$unnoted|$error|" | "$unnoted|$unsaid|") ;;
+        *) echo "status 101: $said" ;;
+        esac
         lines came
         [ "$said" = '' ] || [ "$said" = "$failed|" ] || echo "printed: $said"
         pb_tool build > came

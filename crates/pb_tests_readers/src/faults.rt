@@ -41,6 +41,8 @@ pub enum Ending {
     Child(&'static str, StartFault),
     /// The call for this path or key that failed.
     Device(&'static str, PlaceFault),
+    /// No run number is left for the record of this key.
+    NumbersSpent(&'static str),
     /// No host is said.
     Toolchain,
     /// No line can be written.
@@ -133,6 +135,15 @@ fn device_fault(alloc: Global, at: &str, fault: PlaceFault) -> Result<BuildFault
     })
 }
 
+/// The fault of a build that has no run number left for the record of this key.
+fn numbers_fault(alloc: Global, key: &str) -> Result<BuildFault, PathFault> {
+    let unit = Text::from_str(alloc, key)?;
+    Ok(BuildFault::Device {
+        unit,
+        fault: DeviceFault::NumbersSpent,
+    })
+}
+
 /// A fault of a build.
 pub fn build_fault(alloc: Global, ending: Ending) -> Result<BuildFault, PathFault> {
     match ending {
@@ -143,6 +154,7 @@ pub fn build_fault(alloc: Global, ending: Ending) -> Result<BuildFault, PathFaul
         Ending::Plan(name) => Ok(BuildFault::Plan(refused_plan(alloc, name)?)),
         Ending::Child(key, fault) => child_fault(alloc, key, fault),
         Ending::Device(at, fault) => device_fault(alloc, at, fault),
+        Ending::NumbersSpent(key) => numbers_fault(alloc, key),
         Ending::Toolchain => Ok(BuildFault::Toolchain),
         Ending::Sink => Ok(BuildFault::Sink),
         Ending::OutOfMemory => Ok(BuildFault::OutOfMemory),

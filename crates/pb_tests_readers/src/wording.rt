@@ -2,10 +2,13 @@
 
 use crate::faults::{Bad, Ending, build_fault, unit_fault};
 use pb_directive::LineFault;
+use pb_feature::FeatureFault;
 use pb_manifest_types::{Key, ManifestFault};
-use pb_place_types::PathFault;
+use pb_place_types::{PathFault, PlaceFault, StartFault};
+use pb_profile::ProfileFault;
 use pb_tests_files::{Shown, holds};
-use std::alloc::Global;
+use pb_tool_sentences::{build_sentence, unit_sentence};
+use std::alloc::{AllocError, Global};
 use std::fmt::Display;
 
 /// Whether a value is this in words.
@@ -86,5 +89,160 @@ fn words(rt: HostRuntime) {
     for case in UNIT_WORDS {
         let (bad, wanted) = *case;
         assert!(rt; holds(bad_reads(rt.alloc(), bad, wanted)), "{wanted}");
+    }
+}
+
+/// Whether a sentence is what a fault's `Display` writes.
+fn is_sentence<T: Display>(alloc: Global, fault: &T, sentence: Result<String, AllocError>) -> bool {
+    match sentence {
+        Ok(sentence) => reads(alloc, fault, sentence.as_str()),
+        Err(_) => false,
+    }
+}
+
+/// Whether the sentence of a build's fault is what the fault's `Display` writes.
+fn ending_agrees(alloc: Global, ending: Ending) -> Result<bool, PathFault> {
+    let fault = build_fault(alloc, ending)?;
+    Ok(is_sentence(alloc, &fault, build_sentence(alloc, &fault)))
+}
+
+/// Whether the sentence of a unit's fault is what the fault's `Display` writes.
+fn bad_agrees(alloc: Global, bad: Bad) -> Result<bool, PathFault> {
+    let fault = unit_fault(alloc, bad)?;
+    Ok(is_sentence(alloc, &fault, unit_sentence(alloc, &fault)))
+}
+
+/// All faults of a manifest.
+static MANIFEST_FAULTS: &[ManifestFault] = &[
+    ManifestFault::NotToml,
+    ManifestFault::BadKind(Key::LicenseFile),
+    ManifestFault::BadName,
+    ManifestFault::BadVersion,
+    ManifestFault::UnsupportedTable,
+    ManifestFault::UnsupportedSource,
+    ManifestFault::UnsupportedCrateType,
+    ManifestFault::BadProfile,
+    ManifestFault::BadFeature,
+    ManifestFault::TooLarge,
+    ManifestFault::OldResolver,
+    ManifestFault::OutOfMemory,
+];
+
+/// The names of all faults of a workspace but that of a manifest.
+const LOAD_FAULTS: &str =
+    "NoManifest SameName NameMismatch VersionMismatch LinksTwice LinksWithoutScript NoInherited TooMany SameBinary Place NoSuchPackage OutOfMemory";
+
+/// The names of all faults of a plan but that of a profile.
+const PLAN_FAULTS: &str = "Cycle TooManyUnits NothingToBuild OutOfMemory";
+
+/// All faults of features.
+static FEATURE_FAULTS: &[FeatureFault] = &[
+    FeatureFault::NoSuchFeature,
+    FeatureFault::NoSuchDependency,
+    FeatureFault::NotOptional,
+    FeatureFault::OutOfMemory,
+];
+
+/// All faults of a profile.
+static PROFILE_FAULTS: &[ProfileFault] = &[
+    ProfileFault::NoSuchProfile,
+    ProfileFault::InheritsCycle,
+    ProfileFault::NotInOverride,
+    ProfileFault::OutOfMemory,
+];
+
+/// All faults of a call of a place.
+static PLACE_FAULTS: &[PlaceFault] = &[
+    PlaceFault::Read,
+    PlaceFault::List,
+    PlaceFault::Write,
+    PlaceFault::Remove,
+    PlaceFault::Variable,
+    PlaceFault::OutOfMemory,
+];
+
+/// All faults of a child.
+static START_FAULTS: &[StartFault] = &[
+    StartFault::CannotStart,
+    StartFault::Died,
+    StartFault::Capture,
+    StartFault::OutOfMemory,
+];
+
+/// The other faults of a build.
+static OTHER_ENDINGS: &[Ending] = &[
+    Ending::NumbersSpent("a.target.lib"),
+    Ending::Toolchain,
+    Ending::Sink,
+    Ending::OutOfMemory,
+];
+
+/// All faults of a unit.
+static BAD_UNITS: &[Bad] = &[
+    Bad::Status(101),
+    Bad::Status(-1),
+    Bad::Line(LineFault::NotText(1)),
+    Bad::Line(LineFault::UnknownKey(2)),
+    Bad::Line(LineFault::BadValue(3)),
+    Bad::Line(LineFault::BadFlag(18446744073709551615)),
+    Bad::Line(LineFault::OutOfMemory),
+    Bad::Named("NoDepInfo"),
+    Bad::Named("ForeignInput"),
+    Bad::Named("OutputTooLong"),
+    Bad::Named("ScriptError"),
+    Bad::Named("OutOfMemory"),
+];
+
+/// Rules: `tool.notes`.
+#[test]
+fn sentences_of_refusals(rt: HostRuntime) {
+    let alloc = rt.alloc();
+    for fault in MANIFEST_FAULTS {
+        assert!(rt;
+            holds(ending_agrees(alloc, Ending::Manifest(*fault))),
+            "{fault}"
+        );
+    }
+    for name in LOAD_FAULTS.split(' ') {
+        assert!(rt; holds(ending_agrees(alloc, Ending::Load(name))), "{name}");
+    }
+    for fault in FEATURE_FAULTS {
+        assert!(rt;
+            holds(ending_agrees(alloc, Ending::Feature(*fault))),
+            "{fault}"
+        );
+    }
+    for fault in PROFILE_FAULTS {
+        assert!(rt;
+            holds(ending_agrees(alloc, Ending::Profile(*fault))),
+            "{fault}"
+        );
+    }
+    for name in PLAN_FAULTS.split(' ') {
+        assert!(rt; holds(ending_agrees(alloc, Ending::Plan(name))), "{name}");
+    }
+}
+
+/// Rules: `tool.notes`.
+#[test]
+fn sentences_of_faults(rt: HostRuntime) {
+    let alloc = rt.alloc();
+    for fault in PLACE_FAULTS {
+        assert!(rt;
+            holds(ending_agrees(alloc, Ending::Device("/w/x", *fault))),
+            "{fault}"
+        );
+    }
+    for fault in START_FAULTS {
+        assert!(rt;
+            holds(ending_agrees(alloc, Ending::Child("-vV", *fault))),
+            "{fault}"
+        );
+    }
+    for ending in OTHER_ENDINGS {
+        assert!(rt; holds(ending_agrees(alloc, *ending)));
+    }
+    for bad in BAD_UNITS {
+        assert!(rt; holds(bad_agrees(alloc, *bad)));
     }
 }

@@ -16,7 +16,7 @@ pub static OTHERS: [Entry; 14] = [
 b.target.run said:
 cargo::warning=w
 cargo::unknown=x
-note: line 2 of its output
+note: the script's output is refused: line 2 has an unknown key
 error: bad b.target.run Directive(UnknownKey) started=b.target.script,b.target.run
 ```
 
@@ -28,7 +28,7 @@ error: bad b.target.run Directive(UnknownKey) started=b.target.script,b.target.r
         text: r#"An input is in the target folder, and in the folder of no unit that this unit reaches.
 
 ```
-note: /w/target/x lies in the target folder
+note: the input `/w/target/x` is in the target folder
 error: bad a.target.lib ForeignInput started=a.target.lib
 ```
 
@@ -41,6 +41,7 @@ error: bad a.target.lib ForeignInput started=a.target.lib
         text: r#"The compiler left no dep-info (the list of what it read) that can be read.
 
 ```
+note: the compiler left no dep-info that can be read
 error: bad a.target.lib NoDepInfo started=a.target.lib
 ```
 
@@ -54,6 +55,7 @@ error: bad a.target.lib NoDepInfo started=a.target.lib
         text: r#"A stream of the child process is too long: more than 4,194,304 bytes.
 
 ```
+note: the child process wrote more to a stream than it may
 error: bad a.target.lib OutputTooLong started=a.target.lib
 ```
 
@@ -67,6 +69,7 @@ error: bad a.target.lib OutputTooLong started=a.target.lib
 ```
 a.target.run said:
 to nobody
+note: the build script reported an error
 error: bad a.target.run ScriptError started=a.target.script,a.target.run
 ```
 
@@ -80,10 +83,17 @@ error: bad a.target.run ScriptError started=a.target.script,a.target.run
 ```
 a.target.run said:
 hello
+note: the child process ended with status 3
 error: bad a.target.run Status(3) started=a.target.script,a.target.run
 ```
 
-- Of a compile, read the [diagnostics](MESSAGES.md#recipes) on standard output.
+```
+note: the child process ended with status 1
+note: the compiler's messages, if it wrote any, are in the lines on standard output; --render shows them as text
+error: bad a.target.lib Status(1) started=a.target.lib
+```
+
+- Of a compile, read the [diagnostics](MESSAGES.md#recipes) on standard output; `--render` shows them as text.
 - Read what comes after `UNIT said:`.
 "#,
     },
@@ -92,11 +102,12 @@ error: bad a.target.run Status(3) started=a.target.script,a.target.run
         text: r#"The program cannot be started, or the unit's output folder cannot be made.
 
 ```
+note: `-vV` gave no answer: the program cannot be started
 note: cannot start rustc in /w: no folder of PATH has it
 error: fault -vV CannotStart
 ```
 
-- The note names the program or the folder, and says [what the system says](MESSAGES.md#notes-of-a-fault).
+- The second note names the program or the folder, and says [what the system says](MESSAGES.md#notes-of-a-fault).
 - Look at `RUSTC`; for the run of a script (`.run`) at `--runner`.
 - Look whether the target folder can be made and written.
 - Look for a word or a variable that the system does not take: over 128 KiB, or with byte 0.
@@ -107,6 +118,7 @@ error: fault -vV CannotStart
         text: r#"The output of the child process could not be taken in.
 
 ```
+note: `a.target.lib` gave no answer: the output of the child process could not be read
 note: cannot read what the child of a.target.lib wrote: Input/output error
 error: fault a.target.lib Capture
 ```
@@ -119,7 +131,7 @@ error: fault a.target.lib Capture
         text: r#"A call on files or variables failed. AT is that path or variable, or the unit in whose folder, record or inputs it was.
 
 ```
-note: a file could not be read
+note: a call for `/w/Cargo.toml` failed: a file could not be read
 note: cannot read /w/Cargo.toml: Permission denied
 error: fault /w/Cargo.toml Device
 ```
@@ -135,11 +147,12 @@ error: fault /w/Cargo.toml Device
         text: r#"The child process ended without a status.
 
 ```
+note: `a.target.lib` gave no answer: the child process ended without a status
 note: the child of a.target.lib was ended by signal 9
 error: fault a.target.lib Died
 ```
 
-- The note names the signal. With 9, look for limits of the system, as of memory.
+- The second note names the signal. With 9, look for limits of the system, as of memory.
 "#,
     },
     Entry {
@@ -147,6 +160,7 @@ error: fault a.target.lib Died
         text: r#"No run number is left for the unit's record. Nothing was removed.
 
 ```
+note: a call for `a.target.lib` failed: no run number is left
 error: fault a.target.lib NumbersSpent
 ```
 
@@ -159,6 +173,7 @@ error: fault a.target.lib NumbersSpent
         text: r#"Memory was refused.
 
 ```
+note: out of memory
 error: fault memory OutOfMemory
 ```
 
@@ -170,6 +185,7 @@ error: fault memory OutOfMemory
         text: r#"The message lines cannot be written.
 
 ```
+note: the message lines cannot be written
 error: fault sink Sink
 ```
 
@@ -181,6 +197,7 @@ error: fault sink Sink
         text: r#"The compiler does not say its host. Its answer to `-vV` has another status than 0, is too long, is not UTF-8, or has no line `host: TRIPLE`.
 
 ```
+note: the compiler did not report its version and host
 note: /w/compiler -vV ended with status 1
 note: it wrote: no toolchain is installed
 error: fault -vV Toolchain

@@ -9,7 +9,7 @@ pub static REFUSED: [Entry; 31] = [
         text: r#"A name or an item in `[features]` cannot be read. An item has one of the forms `F`, `dep:N`, `N/F`, `N?/F`.
 
 ```
-note: in /w/Cargo.toml
+note: `/w/Cargo.toml` is refused: a feature has a name or an item that is not allowed
 note: in /w/Cargo.toml, line 4, key features.default: "a b" has none of the forms "F", "dep:N", "N/F", "N?/F"
 error: refused BadFeature
 ```
@@ -22,8 +22,8 @@ error: refused BadFeature
         text: r#"A key has a value that it may not have: another type, another spelling, or a path with byte 0. With `key package` the manifest may have no `[package]` where a package is needed.
 
 ```
-note: in /w/Cargo.toml, key edition
-note: in /w/Cargo.toml, line 3, key package.edition: "2022" is a text; it may be "2015", "2018", "2021" or "2024"
+note: `/w/Cargo.toml` is refused: `edition` has a value that is not allowed
+note: in /w/Cargo.toml, line 3, key package.edition: "2022" is not allowed; it must be "2015", "2018", "2021" or "2024"
 error: refused BadKind
 ```
 
@@ -36,7 +36,7 @@ error: refused BadKind
         text: r#"A name is missing or has other letters than it may have.
 
 ```
-note: in /w/Cargo.toml
+note: `/w/Cargo.toml` is refused: a name is missing or has letters that are not allowed
 note: in /w/Cargo.toml, line 2, key package.name: "my app" may have only ASCII letters, digits, - and _, and at least one of these
 error: refused BadName
 ```
@@ -50,8 +50,8 @@ error: refused BadName
         text: r#"Something in `[profile]` cannot be read.
 
 ```
-note: in /w/Cargo.toml
-note: in /w/Cargo.toml, line 4, key profile.dev.opt-level: 5 is a number; it may be 0, 1, 2, 3, "s" or "z"
+note: `/w/Cargo.toml` is refused: a profile has a name or a value that is not allowed, or has no `inherits`
+note: in /w/Cargo.toml, line 4, key profile.dev.opt-level: 5 is not allowed; it must be 0, 1, 2, 3, "s" or "z"
 error: refused BadProfile
 ```
 
@@ -65,7 +65,7 @@ error: refused BadProfile
         text: r#"A version, or a requirement of a version, cannot be read.
 
 ```
-note: in /w/Cargo.toml
+note: `/w/Cargo.toml` is refused: a version or a version requirement cannot be read
 note: in /w/Cargo.toml, line 3, key package.version: "0.1" has no third number
 error: refused BadVersion
 ```
@@ -79,12 +79,12 @@ error: refused BadVersion
         text: r#"Packages depend on one another. Path dependencies of the selected packages count, and of all packages that they reach; those of build scripts too.
 
 ```
-note: the packages are core-lib util
+note: packages depend on one another: core-lib util
 note: core-lib -> util -> core-lib
 error: refused Cycle
 ```
 
-- Remove one dependency between the packages that the note names.
+- Remove one dependency between the packages that the notes name.
 "#,
     },
     Entry {
@@ -92,7 +92,8 @@ error: refused Cycle
         text: r#"Profiles inherit from one another.
 
 ```
-note: in /w/Cargo.toml: profiles inherit so: one -> two -> one
+note: profiles inherit from one another
+note: in /w/Cargo.toml: one -> two -> one
 error: refused InheritsCycle
 ```
 
@@ -104,6 +105,7 @@ error: refused InheritsCycle
         text: r#"Two packages link one native library. All packages that are read count.
 
 ```
+note: two packages link the same native library
 note: in /w/m1/Cargo.toml, line 3, key package.links: z is in /w/m2/Cargo.toml too
 error: refused LinksTwice
 ```
@@ -116,7 +118,8 @@ error: refused LinksTwice
         text: r#"A package links a native library and has no build script.
 
 ```
-note: in /w/Cargo.toml, line 3, key package.links: z is linked, and there is no build script
+note: a package links a native library but has no build script
+note: in /w/Cargo.toml, line 3, key package.links: z is linked, and /w/build.rs is not there
 error: refused LinksWithoutScript
 ```
 
@@ -129,6 +132,7 @@ error: refused LinksWithoutScript
         text: r#"A dependency leads to a package of another name.
 
 ```
+note: a dependency leads to a package with another name
 note: in /w/Cargo.toml, line 4, key dependencies.utils: it leads to /w/util/Cargo.toml, whose name is util (package = "util" would keep the key)
 error: refused NameMismatch
 ```
@@ -141,6 +145,7 @@ error: refused NameMismatch
         text: r#"A key is not there to inherit: a manifest says `workspace = true`, and the root has no such key or entry. A package that is no member has nothing to inherit either.
 
 ```
+note: a package inherits a key or an entry that is not there
 note: in /w/m/Cargo.toml, line 3, key package.version: /w/Cargo.toml has no workspace.package.version
 error: refused NoInherited
 ```
@@ -154,8 +159,8 @@ error: refused NoInherited
         text: r#"No manifest may be read at that path. It is not there, it is not named `Cargo.toml`, or it is in the target folder.
 
 ```
-note: no manifest at /w/utli/Cargo.toml
-note: in /w/app/Cargo.toml, line 5, key dependencies.util: it leads to /w/utli/Cargo.toml
+note: no manifest can be read at `/w/utli/Cargo.toml`
+note: in /w/app/Cargo.toml, line 5, key dependencies.util: it leads to /w/utli/Cargo.toml (near: util)
 error: refused NoManifest
 ```
 
@@ -169,7 +174,8 @@ error: refused NoManifest
         text: r#"A feature names a dependency that its package does not have (`dep:N`, `N/F`, `N?/F`).
 
 ```
-note: in /w/Cargo.toml, line 4, key features.default: dep:serd: there is no dependency serd (near: serde)
+note: a feature names a dependency that does not exist
+note: in /w/Cargo.toml, line 4, key features.default: dep:serd names no dependency (near: serde)
 error: refused NoSuchDependency
 ```
 
@@ -181,6 +187,7 @@ error: refused NoSuchDependency
         text: r#"A feature is requested that is not there.
 
 ```
+note: a requested feature does not exist
 note: --features a/fastt: a has no feature fastt (near: fast)
 error: refused NoSuchFeature
 ```
@@ -194,7 +201,8 @@ error: refused NoSuchFeature
         text: r#"A package is requested that is no member of the workspace; or `pb_tool clean` found nothing of the packages that `-p` names.
 
 ```
-note: -p utl: there is no such member (near: util)
+note: a requested package is not a member of the workspace
+note: -p names utl (near: util)
 error: refused NoSuchPackage
 ```
 
@@ -213,7 +221,8 @@ error: refused NoSuchPackage
         text: r#"There is no such profile; or `pb_tool clean` found nothing under the profile that `--profile` or `--release` names.
 
 ```
-note: --profile relase: there is no such profile (near: release)
+note: a requested profile does not exist
+note: --profile names relase (near: release)
 error: refused NoSuchProfile
 ```
 
@@ -244,7 +253,8 @@ error: refused NoTargetFolder
         text: r#"An override sets a key that it may not set: `panic`, `lto` or `rpath` under `package` or `build-override` of a profile.
 
 ```
-note: in /w/Cargo.toml, line 5, key profile.dev.package.util.panic: an override may not set it
+note: an override in a profile sets `panic`, `lto` or `rpath`
+note: in /w/Cargo.toml, line 5, key profile.dev.package.util.panic: only the profile itself may set it
 error: refused NotInOverride
 ```
 
@@ -256,7 +266,8 @@ error: refused NotInOverride
         text: r#"A feature names a dependency that is not optional (`dep:N`, `N?/F`).
 
 ```
-note: in /w/Cargo.toml, line 4, key features.default: dep:serde: the dependency serde is not optional
+note: a feature names a dependency that is not optional
+note: in /w/Cargo.toml, line 4, key features.default: dep:serde names a dependency that is not optional
 error: refused NotOptional
 ```
 
@@ -268,7 +279,7 @@ error: refused NotOptional
         text: r#"The manifest is not TOML, or not UTF-8.
 
 ```
-note: in /w/Cargo.toml
+note: `/w/Cargo.toml` is refused: the manifest is not TOML
 note: in /w/Cargo.toml, line 5, column 1: duplicate key
 error: refused NotToml
 ```
@@ -282,6 +293,7 @@ error: refused NotToml
         text: r#"There is no unit.
 
 ```
+note: there is nothing to build
 note: --bin ap: there is no such binary (near: app)
 error: refused NothingToBuild
 ```
@@ -296,8 +308,8 @@ error: refused NothingToBuild
         text: r#"Resolver 1 is not supported.
 
 ```
-note: in /w/Cargo.toml
-note: in /w/Cargo.toml, line 3, key workspace.resolver: "1" is not supported; it may be "2" or "3"
+note: `/w/Cargo.toml` is refused: resolver 1 is not supported
+note: in /w/Cargo.toml, line 3, key workspace.resolver: it must be "2" or "3"
 error: refused OldResolver
 ```
 
@@ -309,6 +321,7 @@ error: refused OldResolver
         text: r#"A package has two binaries of one name.
 
 ```
+note: a package has two binaries with the same name
 note: in /w/Cargo.toml, line 7, key bin[2].name: x is the name of bin[1] too
 error: refused SameBinary
 ```
@@ -321,6 +334,7 @@ error: refused SameBinary
         text: r#"Two packages have one name. All members count, and all packages to which path dependencies lead.
 
 ```
+note: two packages have the same name
 note: in /w/m1/Cargo.toml, line 2, key package.name: util is in /w/m2/Cargo.toml too
 error: refused SameName
 ```
@@ -333,7 +347,7 @@ error: refused SameName
         text: r#"The manifest is too large: more than 1,048,576 bytes.
 
 ```
-note: in /w/Cargo.toml
+note: `/w/Cargo.toml` is refused: the manifest is longer than a manifest may be
 note: in /w/Cargo.toml: it has more than 1048576 bytes
 error: refused TooLarge
 ```
@@ -346,7 +360,8 @@ error: refused TooLarge
         text: r#"There are more than 256 packages.
 
 ```
-note: in /w/Cargo.toml, line 3, key workspace.members: 257 members; with the packages that they need, at most 256 are possible
+note: there are more than 256 packages
+note: in /w/Cargo.toml, line 3, key workspace.members: it names 257 members; the packages that they need are counted too
 error: refused TooMany
 ```
 
@@ -358,7 +373,8 @@ error: refused TooMany
         text: r#"There are more than 4,096 units.
 
 ```
-note: a plan has at most 4096 units, and each binary is one: the packages have 4096 binaries
+note: there are more than 4,096 units
+note: each binary is a unit: the packages have 4096 binaries
 note: in /w/Cargo.toml: 4096 of them; --bin NAME and -p NAME select fewer
 error: refused TooManyUnits
 ```
@@ -371,8 +387,8 @@ error: refused TooManyUnits
         text: r#"A library has a crate type that is not supported: `lib`, `rlib` and `bin` are.
 
 ```
-note: in /w/Cargo.toml
-note: in /w/Cargo.toml, line 4, key lib.crate-type: "cdylib" is not supported; it may be "lib", "rlib" or "bin"
+note: `/w/Cargo.toml` is refused: the library has a crate type that is not supported
+note: in /w/Cargo.toml, line 4, key lib.crate-type: "cdylib" must be "lib", "rlib" or "bin"
 error: refused UnsupportedCrateType
 ```
 
@@ -384,7 +400,7 @@ error: refused UnsupportedCrateType
         text: r#"A dependency has a source that is not supported: `git`, `registry`, or no `path`.
 
 ```
-note: in /w/Cargo.toml
+note: `/w/Cargo.toml` is refused: a dependency has a source other than `path`
 note: in /w/Cargo.toml, line 5, key dependencies.serde: it has no path
 error: refused UnsupportedSource
 ```
@@ -398,8 +414,8 @@ error: refused UnsupportedSource
         text: r#"A table is not supported: `target`, `patch` or `replace`.
 
 ```
-note: in /w/Cargo.toml
-note: in /w/Cargo.toml, line 3, key target: this table is not supported
+note: `/w/Cargo.toml` is refused: `target`, `patch` and `replace` are not supported
+note: in /w/Cargo.toml, line 3, key target: remove this table
 error: refused UnsupportedTable
 ```
 
@@ -411,6 +427,7 @@ error: refused UnsupportedTable
         text: r#"A dependency leads to a package of another version.
 
 ```
+note: a dependency leads to a package whose version does not match
 note: in /w/Cargo.toml, line 4, key dependencies.util: it asks for util 0.2, and /w/util/Cargo.toml has 0.1.0
 error: refused VersionMismatch
 ```

@@ -2,8 +2,7 @@
 
 use pb_manifest_types::letters::is_name;
 use pb_tool_notes_pages::{
-    Kind, Notes, Page, Spot, describe_value, expectation, fits, rule_of, spots_of, tell_key,
-    tell_page,
+    Kind, Notes, Page, Spot, fits, rule_of, spots_of, tell_key, tell_page, wrong_value,
 };
 use std::alloc::{AllocError, Global};
 use toml::{Table, Value};
@@ -18,9 +17,7 @@ fn tell_values(
     for (key, value) in spot.table {
         if let Some(rule) = rule_of(spot.kind, key.as_str()) {
             if !fits(rule, value) {
-                let shown = describe_value(alloc, value)?;
-                let may = expectation(rule);
-                let text = format!(in alloc; "{}; it may be {may}", shown.as_str())?;
+                let text = wrong_value(alloc, rule, value)?;
                 tell_key(
                     alloc,
                     notes,

@@ -40,9 +40,13 @@ fn tell_inherits(
             None => "",
         };
         if !from.is_empty() && !is_among(from, names) {
+            if notes.is_full() {
+                notes.pass_over();
+                continue;
+            }
             let near = near(alloc, from, names)?;
             let way = format!(in alloc; "profile.{}", name.as_str())?;
-            let text = format!(in alloc; "there is no profile {from}{}", near.as_str())?;
+            let text = format!(in alloc; "it names {from}{}", near.as_str())?;
             tell_key(alloc, notes, page, way.as_str(), "inherits", text.as_str())?;
         }
     }
@@ -59,10 +63,7 @@ pub fn tell_no_profile(
     let names = names_of(alloc, page)?;
     if !is_among(requested, names.as_slice()) {
         let near = near(alloc, requested, names.as_slice())?;
-        let text = format!(in alloc;
-            "--profile {requested}: there is no such profile{}",
-            near.as_str()
-        )?;
+        let text = format!(in alloc; "--profile names {requested}{}", near.as_str())?;
         notes.say(alloc, text.as_str())?;
     }
     tell_inherits(alloc, notes, page, names.as_slice())
@@ -104,7 +105,6 @@ pub fn tell_inherits_cycle(
             break;
         }
     }
-    let text = format!(in alloc; "profiles inherit so: {}", text.as_str())?;
     tell_page(alloc, notes, page, text.as_str())
 }
 
@@ -121,7 +121,7 @@ pub fn tell_not_in_override(
         if spot.kind == Kind::Override {
             for key in ["lto", "panic", "rpath"] {
                 if spot.table.get(key).is_some() {
-                    let text = "an override may not set it";
+                    let text = "only the profile itself may set it";
                     tell_key(alloc, notes, page, spot.way.as_str(), key, text)?;
                 }
             }

@@ -52,7 +52,7 @@ pub fn tell_tables(
 ) -> Result<(), AllocError> {
     for key in ["target", "patch", "replace"] {
         if table.get(key).is_some() {
-            tell_key(alloc, notes, page, "", key, "this table is not supported")?;
+            tell_key(alloc, notes, page, "", key, "remove this table")?;
         }
     }
     Ok(())
@@ -74,7 +74,7 @@ pub fn tell_resolver(
                     page,
                     key,
                     "resolver",
-                    "\"1\" is not supported; it may be \"2\" or \"3\"",
+                    "it must be \"2\" or \"3\"",
                 )?;
             }
         }
@@ -92,9 +92,7 @@ fn tell_types(
     for one in types {
         if let Some(text) = one.as_str() {
             if !matches!(text, "lib" | "rlib" | "bin") {
-                let text = format!(in alloc;
-                    "\"{text}\" is not supported; it may be \"lib\", \"rlib\" or \"bin\""
-                )?;
+                let text = format!(in alloc; "\"{text}\" must be \"lib\", \"rlib\" or \"bin\"")?;
                 tell_key(alloc, notes, page, "lib", "crate-type", text.as_str())?;
             }
         }
@@ -148,10 +146,11 @@ fn tell_unread(
     spot: &Spot,
 ) -> Result<(), AllocError> {
     for (key, _value) in spot.table {
-        if notes.is_full() {
-            return Ok(());
-        }
         if rule_of(spot.kind, key.as_str()).is_none() {
+            if notes.is_full() {
+                notes.pass_over();
+                continue;
+            }
             let keys = keys_of(alloc, rows_of(spot.kind))?;
             let near = near(alloc, key.as_str(), keys.as_slice())?;
             let text = format!(in alloc; "it is not used{}", near.as_str())?;

@@ -20,6 +20,6 @@ pub use near_miss::near;
 pub use note::{MOST_NOTES, Note, Notes};
 pub use page::{Page, text_at};
 pub use pages::{Pages, page_at, pages_of};
-pub use rules::{Kind, expectation, fits, is_taken, rows_of, rule_of};
+pub use rules::{Kind, fits, is_taken, rows_of, rule_of};
 pub use spots::{Spot, spots_of};
-pub use teller::{describe_value, tell_key, tell_page};
+pub use teller::{tell_key, tell_page, wrong_value};

@@ -82,6 +82,8 @@ fn is_plain(text: &str) -> bool
 #[derive(Drop)]
 pub struct Notes {
     inside: Items<Text>,
+    /// How many notes came after the tenth.
+    more: usize,
 }
 
 impl Model for Notes {
@@ -104,12 +106,18 @@ impl Notes {
     {
         Notes {
             inside: Items::new(alloc),
+            more: 0,
         }
     }
 
     /// Returns whether there are as many notes as allowed.
     pub fn is_full(&self) -> bool {
         self.inside.len() >= MOST_NOTES
+    }
+
+    /// Counts a note that comes after the tenth.
+    pub fn pass_over(&mut self) {
+        self.more = self.more.saturating_add(1);
     }
 
     /// Adds a text, if it has no line feed and there are fewer than ten. If memory runs out, the
@@ -120,11 +128,12 @@ impl Notes {
         }
     }
 
-    /// Adds a note.
+    /// Adds a note. After the tenth, it only counts the note.
     ///
     /// Errors: only out of memory.
     pub fn add(&mut self, alloc: Global, note: &Note) -> Result<(), AllocError> {
         if self.is_full() {
+            self.pass_over();
             return Ok(());
         }
         let text = whole(alloc, note)?;
@@ -146,6 +155,29 @@ impl Notes {
                 text,
             },
         )
+    }
+
+    /// Returns the first nine notes, and a tenth that says how many others there are.
+    fn shortened(&self, alloc: Global) -> Result<Notes, AllocError> {
+        let mut notes = Notes::new(alloc);
+        for text in self.inside.as_slice().iter().take(MOST_NOTES - 1) {
+            notes.push(String::from_str(alloc, text.as_str())?);
+        }
+        let more = self.more.saturating_add(1);
+        notes.push(format!(in alloc; "and {more} more")?);
+        Ok(notes)
+    }
+
+    /// Returns the notes as they are printed: if some came after the tenth, the tenth is
+    /// `and N more`. If memory runs out for that, they stay as they are.
+    pub fn closed(self, alloc: Global) -> Notes {
+        if self.more == 0 {
+            return self;
+        }
+        match self.shortened(alloc) {
+            Ok(notes) => notes,
+            Err(_) => self,
+        }
     }
 
     /// Returns the texts.

@@ -196,8 +196,22 @@ pub fn fits(rule: &str, value: &Value) -> bool {
     }
 }
 
+/// Returns whether a rule allows another value of a value's type.
+pub(crate) fn has_values(rule: &str, value: &Value) -> bool {
+    match rule.strip_suffix('+').unwrap_or(rule) {
+        "edition" | "resolver" | "panic" => value.is_str(),
+        "level" => value.is_str() || value.is_integer(),
+        "debug" => value.is_str() || value.is_integer() || value.is_bool(),
+        "strip" | "lto" => value.is_str() || value.is_bool(),
+        "units" => value.is_integer(),
+        "build" | "taken" => value.is_bool(),
+        "texts" | "tables" => value.is_array(),
+        _ => false,
+    }
+}
+
 /// Returns what is allowed, in words.
-pub fn expectation(rule: &str) -> &'static str {
+pub(crate) fn expectation(rule: &str) -> &'static str {
     match rule.strip_suffix('+').unwrap_or(rule) {
         "text" => "a text",
         "texts" => "a list of texts",

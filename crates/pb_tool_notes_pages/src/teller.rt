@@ -3,6 +3,7 @@
 use crate::lines::line_of;
 use crate::note::{Note, Notes};
 use crate::page::Page;
+use crate::rules::{expectation, has_values};
 use crate::spots::way_to;
 use std::alloc::{AllocError, Global};
 use toml::Value;
@@ -17,6 +18,7 @@ pub fn tell_key(
     text: &str,
 ) -> Result<(), AllocError> {
     if notes.is_full() {
+        notes.pass_over();
         return Ok(());
     }
     let whole = way_to(alloc, way, key)?;
@@ -52,16 +54,38 @@ pub fn tell_page(
     )
 }
 
-/// Returns what a value is: `2021 is a number`, `it is a table`.
-pub fn describe_value(alloc: Global, value: &Value) -> Result<String, AllocError> {
+/// Returns a value as it is written, or `it` if it is none of a few characters.
+fn as_written(alloc: Global, value: &Value) -> Result<String, AllocError> {
     match value {
-        Value::String(text) => format!(in alloc; "\"{}\" is a text", text.as_str()),
-        Value::Integer(number) => format!(in alloc; "{number} is a number"),
-        Value::Float(_) => String::from_str(alloc, "it is a number"),
-        Value::Boolean(true) => String::from_str(alloc, "true is a truth value"),
-        Value::Boolean(false) => String::from_str(alloc, "false is a truth value"),
-        Value::Datetime(_) => String::from_str(alloc, "it is a date"),
-        Value::Array(_) => String::from_str(alloc, "it is a list"),
-        Value::Table(_) => String::from_str(alloc, "it is a table"),
+        Value::String(text) => format!(in alloc; "\"{}\"", text.as_str()),
+        Value::Integer(number) => format!(in alloc; "{number}"),
+        Value::Boolean(true) => String::from_str(alloc, "true"),
+        Value::Boolean(false) => String::from_str(alloc, "false"),
+        _ => String::from_str(alloc, "it"),
     }
+}
+
+/// Returns of which type a value is.
+fn type_of(value: &Value) -> &'static str {
+    match value {
+        Value::String(_) => "a text",
+        Value::Integer(_) | Value::Float(_) => "a number",
+        Value::Boolean(_) => "a truth value",
+        Value::Datetime(_) => "a date",
+        Value::Array(_) => "a list",
+        Value::Table(_) => "a table",
+    }
+}
+
+/// Returns why a value is not allowed by a rule: `2021 is a number; it must be a text`. If another
+/// value of its type is allowed, the type is not what is wrong: `5 is not allowed; it must be ..`.
+pub fn wrong_value(alloc: Global, rule: &str, value: &Value) -> Result<String, AllocError> {
+    let written = as_written(alloc, value)?;
+    let what = if has_values(rule, value) {
+        "not allowed"
+    } else {
+        type_of(value)
+    };
+    let expected = expectation(rule);
+    format!(in alloc; "{} is {what}; it must be {expected}", written.as_str())
 }

@@ -3,7 +3,7 @@
 ghost use Rattle.pb_tool_notes_pages.specs.Looks.{LooksAgain};
 
 use crate::binaries::push_binaries;
-use pb_data::{MAX_PACKAGES, MAX_UNITS, Text};
+use pb_data::Text;
 use pb_place_types::{Place, PlaceFault};
 use pb_tool_notes_pages::{Notes, Page, Pages, Role, tell_key, tell_page};
 use std::alloc::{AllocError, Global};
@@ -26,13 +26,11 @@ pub fn tell_too_many(alloc: Global, notes: &mut Notes, pages: &Pages) -> Result<
     };
     let members = members_in(pages);
     if members == 0 {
-        let text = format!(in alloc;
-            "with what it needs, it has more than {MAX_PACKAGES} packages, which is the limit"
-        )?;
-        return tell_page(alloc, notes, root, text.as_str());
+        let text = "the package and all that it needs are counted";
+        return tell_page(alloc, notes, root, text);
     }
     let text = format!(in alloc;
-        "{members} members; with the packages that they need, at most {MAX_PACKAGES} are possible"
+        "it names {members} members; the packages that they need are counted too"
     )?;
     tell_key(alloc, notes, root, "workspace", "members", text.as_str())
 }
@@ -104,9 +102,7 @@ pub fn tell_too_many_units<P: Place>(
 {
     let counted = count_all(alloc, place, pages)?;
     let all = counted.all;
-    let text = format!(in alloc;
-        "a plan has at most {MAX_UNITS} units, and each binary is one: the packages have {all} binaries"
-    )?;
+    let text = format!(in alloc; "each binary is a unit: the packages have {all} binaries")?;
     notes.say(alloc, text.as_str())?;
     if let Some(page) = counted.page {
         let most = counted.most;

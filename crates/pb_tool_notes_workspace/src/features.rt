@@ -45,6 +45,27 @@ fn has_optional(page: &Page, key: &str) -> bool {
     false
 }
 
+/// Returns whether a package has a dependency.
+fn has_entry(page: &Page, key: &str) -> bool {
+    for table in ["dependencies", "build-dependencies"] {
+        if let Some(entries) = page.table_at(table) {
+            if entries.get(key).is_some() {
+                return true;
+            }
+        }
+    }
+    false
+}
+
+/// Returns whether a package has a feature: a written one, or an optional dependency.
+fn has_feature(page: &Page, name: &str) -> bool {
+    let is_written = match page.table_at("features") {
+        Some(features) => features.get(name).is_some(),
+        None => false,
+    };
+    is_written || has_optional(page, name)
+}
+
 /// Returns the names of the features of a package: the written ones, and its optional dependencies.
 fn features_of(alloc: Global, page: &Page) -> Result<Vec<&str>, AllocError> {
     let mut names = Vec::new(alloc);
@@ -57,9 +78,27 @@ fn features_of(alloc: Global, page: &Page) -> Result<Vec<&str>, AllocError> {
     Ok(names)
 }
 
-/// Returns whether a name is among some names.
-fn is_among(name: &str, names: &[&str]) -> bool {
-    names.iter().any(|one| *one == name)
+/// Returns ` (near: KEY)` for a dependency of a package, unless no note is added any more.
+fn near_entry(alloc: Global, notes: &Notes, page: &Page, key: &str) -> Result<String, AllocError> {
+    if notes.is_full() {
+        return Ok(String::new(alloc));
+    }
+    let keys = entries_of(alloc, page)?;
+    near(alloc, key, keys.as_slice())
+}
+
+/// Returns ` (near: NAME)` for a feature of a package, unless no note is added any more.
+fn near_feature(
+    alloc: Global,
+    notes: &Notes,
+    page: &Page,
+    name: &str,
+) -> Result<String, AllocError> {
+    if notes.is_full() {
+        return Ok(String::new(alloc));
+    }
+    let names = features_of(alloc, page)?;
+    near(alloc, name, names.as_slice())
 }
 
 /// Returns the manifest that an entry of another manifest names.
@@ -74,12 +113,11 @@ fn page_of_entry<'a>(pages: &'a Pages, page: &Page, key: &str) -> Option<&'a Pag
 
 /// Returns `NAME has no feature F (near: ..)`, if the package lacks the feature, else an empty
 /// text.
-fn lacks(alloc: Global, page: &Page, feature: &str) -> Result<String, AllocError> {
-    let names = features_of(alloc, page)?;
-    if is_among(feature, names.as_slice()) || feature == "default" {
+fn lacks(alloc: Global, notes: &Notes, page: &Page, feature: &str) -> Result<String, AllocError> {
+    if has_feature(page, feature) || feature == "default" {
         return Ok(String::new(alloc));
     }
-    let near = near(alloc, feature, names.as_slice())?;
+    let near = near_feature(alloc, notes, page, feature)?;
     format!(in alloc;
         "{} has no feature {feature}{}",
         page.package_text("name"),
@@ -98,18 +136,17 @@ fn tell_item_of(
 ) -> Result<(), AllocError> {
     let (entry, feature) = item;
     let key = entry.strip_suffix('?').unwrap_or(entry);
-    let entries = entries_of(alloc, page)?;
-    if !is_among(key, entries.as_slice()) {
-        let near = near(alloc, key, entries.as_slice())?;
-        let text = format!(in alloc; "there is no dependency {key}{}", near.as_str())?;
+    if !has_entry(page, key) {
+        let near = near_entry(alloc, notes, page, key)?;
+        let text = format!(in alloc; "{entry}/{feature} names no dependency{}", near.as_str())?;
         return tell_key(alloc, notes, page, "features", name, text.as_str());
     }
     if key != entry && !has_optional(page, key) {
-        let text = format!(in alloc; "the dependency {key} is not optional")?;
+        let text = format!(in alloc; "{entry}/{feature} names a dependency that is not optional")?;
         return tell_key(alloc, notes, page, "features", name, text.as_str());
     }
     if let Some(other) = page_of_entry(pages, page, key) {
-        let lacks = lacks(alloc, other, feature)?;
+        let lacks = lacks(alloc, notes, other, feature)?;
         if !lacks.is_empty() {
             return tell_key(alloc, notes, page, "features", name, lacks.as_str());
         }
@@ -125,14 +162,13 @@ fn tell_dependency_item(
     name: &str,
     key: &str,
 ) -> Result<(), AllocError> {
-    let entries = entries_of(alloc, page)?;
-    if !is_among(key, entries.as_slice()) {
-        let near = near(alloc, key, entries.as_slice())?;
-        let text = format!(in alloc; "dep:{key}: there is no dependency {key}{}", near.as_str())?;
+    if !has_entry(page, key) {
+        let near = near_entry(alloc, notes, page, key)?;
+        let text = format!(in alloc; "dep:{key} names no dependency{}", near.as_str())?;
         return tell_key(alloc, notes, page, "features", name, text.as_str());
     }
     if !has_optional(page, key) {
-        let text = format!(in alloc; "dep:{key}: the dependency {key} is not optional")?;
+        let text = format!(in alloc; "dep:{key} names a dependency that is not optional")?;
         return tell_key(alloc, notes, page, "features", name, text.as_str());
     }
     Ok(())
@@ -153,11 +189,10 @@ fn tell_item(
     if let Some(key) = item.strip_prefix("dep:") {
         return tell_dependency_item(alloc, notes, page, name, key);
     }
-    let names = features_of(alloc, page)?;
-    if is_among(item, names.as_slice()) {
+    if has_feature(page, item) {
         return Ok(());
     }
-    let near = near(alloc, item, names.as_slice())?;
+    let near = near_feature(alloc, notes, page, item)?;
     let text = format!(in alloc;
         "{item} is neither a feature nor an optional dependency{}",
         near.as_str()
@@ -176,9 +211,6 @@ fn tell_items(
     for (name, value) in features {
         if let Some(items) = value.as_array() {
             for item in items.iter().take(MOST_FEATURES) {
-                if notes.is_full() {
-                    return Ok(());
-                }
                 if let Some(item) = item.as_str() {
                     tell_item(alloc, notes, pages, page, name.as_str(), item)?;
                 }
@@ -224,7 +256,7 @@ fn tell_entry(
     };
     for feature in features.iter().take(MOST_FEATURES) {
         if let Some(feature) = feature.as_str() {
-            let lacks = lacks(alloc, to, feature)?;
+            let lacks = lacks(alloc, notes, to, feature)?;
             if !lacks.is_empty() {
                 tell_key(
                     alloc,
@@ -244,7 +276,7 @@ fn tell_entry(
 pub fn tell_entries(alloc: Global, notes: &mut Notes, pages: &Pages) -> Result<(), AllocError> {
     for ask in pages.asks.as_slice() {
         if let (Some(page), Some(to)) = (pages.at(ask.by.as_str()), pages.at(ask.path.as_str())) {
-            if !ask.key.as_str().is_empty() && !notes.is_full() {
+            if !ask.key.as_str().is_empty() {
                 tell_entry(alloc, notes, page, to, ask)?;
             }
         }
@@ -263,12 +295,6 @@ fn all_features(alloc: Global, pages: &Pages) -> Result<Vec<&str>, AllocError> {
     Ok(names)
 }
 
-/// Returns whether a package has a feature.
-fn has_feature(alloc: Global, page: &Page, feature: &str) -> Result<bool, AllocError> {
-    let names = features_of(alloc, page)?;
-    Ok(is_among(feature, names.as_slice()))
-}
-
 /// Adds which package has a requested feature, or that none has.
 fn tell_asked(
     alloc: Global,
@@ -277,7 +303,7 @@ fn tell_asked(
     feature: &str,
 ) -> Result<(), AllocError> {
     for page in pages.pages.as_slice() {
-        if has_feature(alloc, page, feature)? {
+        if has_feature(page, feature) {
             let text = format!(in alloc;
                 "--features {feature}: the package {} has it; is that package selected?",
                 page.package_text("name")
@@ -301,7 +327,7 @@ fn tell_asked_of(
 ) -> Result<(), AllocError> {
     match pages.page_of(name) {
         Some(page) => {
-            let lacks = lacks(alloc, page, feature)?;
+            let lacks = lacks(alloc, notes, page, feature)?;
             let text = if lacks.is_empty() {
                 format!(in alloc;
                     "--features {name}/{feature}: the package {name} has it; is that package selected?"

@@ -167,9 +167,6 @@ fn tell_same_names(
     let mut number = 0usize;
     for one in binaries.iter().take(MOST_BINARIES) {
         number = number.saturating_add(1);
-        if notes.is_full() {
-            return Ok(());
-        }
         let name = match one.as_table() {
             Some(table) => text_at(table, "name"),
             None => continue,

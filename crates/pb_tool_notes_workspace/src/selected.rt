@@ -11,7 +11,7 @@ use pb_tool_notes_pages::{
 };
 use pb_workspace_types::Options;
 use std::alloc::{AllocError, Global};
-use toml::Value;
+use toml::{Table, Value};
 
 /// Returns the names of the packages of a workspace.
 fn names_of(alloc: Global, pages: &Pages) -> Result<Vec<&str>, AllocError> {
@@ -39,14 +39,13 @@ fn tell_requested(
 ) -> Result<(), AllocError> {
     for one in requested {
         let name = one.as_str();
-        if is_among(name, names) {
-            let text = format!(in alloc; "-p {name}: if it is no member, it cannot be selected")?;
-            notes.say(alloc, text.as_str())?;
+        let text = if is_among(name, names) {
+            format!(in alloc; "-p names {name}: only a member can be selected")?
         } else {
             let near = near(alloc, name, names)?;
-            let text = format!(in alloc; "-p {name}: there is no such member{}", near.as_str())?;
-            notes.say(alloc, text.as_str())?;
-        }
+            format!(in alloc; "-p names {name}{}", near.as_str())?
+        };
+        notes.say(alloc, text.as_str())?;
     }
     Ok(())
 }
@@ -117,6 +116,29 @@ fn texts_in(alloc: Global, names: &[Text]) -> Result<Vec<&str>, AllocError> {
     Ok(texts)
 }
 
+/// Returns the texts of a list, with commas between them.
+fn joined(alloc: Global, values: &[Value]) -> Result<String, AllocError> {
+    let mut all = String::new(alloc);
+    for one in values {
+        if let Some(text) = one.as_str() {
+            if !all.is_empty() {
+                all.push_str(", ")?;
+            }
+            all.push_str(text)?;
+        }
+    }
+    Ok(all)
+}
+
+/// Returns the features that a binary requires, with commas between them; an empty text if there
+/// are none.
+fn required_by(alloc: Global, binary: &Table) -> Result<String, AllocError> {
+    match binary.get("required-features").and_then(Value::as_array) {
+        Some(features) => joined(alloc, features.as_slice()),
+        None => Ok(String::new(alloc)),
+    }
+}
+
 /// Adds each `[[bin]]` of a name in a package that requires features.
 fn tell_required(
     alloc: Global,
@@ -129,9 +151,13 @@ fn tell_required(
     for one in binaries {
         number = number.saturating_add(1);
         if let Some(table) = one.as_table() {
-            if text_at(table, "name") == name && table.get("required-features").is_some() {
+            let features = required_by(alloc, table)?;
+            if text_at(table, "name") == name && !features.is_empty() {
                 let way = format!(in alloc; "bin[{number}]")?;
-                let text = format!(in alloc; "{name} is left out unless these features are on")?;
+                let text = format!(in alloc;
+                    "{name} is left out unless these features are on: {}",
+                    features.as_str()
+                )?;
                 tell_key(
                     alloc,
                     notes,

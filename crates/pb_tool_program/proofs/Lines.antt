@@ -15,8 +15,10 @@ use Rattle.pb_build.specs.declared.sessions.BuildOutcome.{BuildOutcome}
 use Rattle.pb_tool_program.specs.Session.{SessionStopped, SessionWritten, small_compiler, lines_of}
 use Rattle.pb_place_types.specs.declared.moved.Moved.{Moved}
 use Rattle.pb_tool_notes_pages.specs.Notes.{lines_of as note_lines}
-use Rattle.pb_tool_program.specs.Building.{notes_of, moved_notes}
+use Rattle.pb_tool_program.specs.Building.{moved_notes}
+use Rattle.pb_tool_sentences.specs.Libraries.{notes_of}
 use Rattle.pb_tool_program.specs.Writing.{Tells, TellsOr, Writes}
+use Rattle.pb_workspace_types.specs.declared.package.Package.{Package}
 
 pub session_written : (whole : Bool) (bytes : List ℕ) (read steps : List SessionStep) (first last : Held) (old mid new : SinkState) (answers told : List BuildOutcome)
     → session_of bytes ≡ Ok read → steps ≡ read
@@ -73,9 +75,9 @@ pub tells_some : (lost bytes : List ℕ) (old new : SinkState) → bytes ≢ [] 
 tells_some lost [] old new some tells = absurd (some refl)
 tells_some lost (byte ∷ bytes) old new some tells = tells
 
-pub notes_some : (names : List (List ℕ)) → length names == 0 ≡ false → notes_of names ≢ []
-notes_some [] none = absurd (false≢true (sym none))
-notes_some (name ∷ names) some = λ e. cc
+pub notes_some : (packages : List Package) (names : List (List ℕ)) → length names == 0 ≡ false → notes_of packages names ≢ []
+notes_some packages [] none = absurd (false≢true (sym none))
+notes_some packages (name ∷ names) some = λ e. cc
 
 pub moved_some : (moved : List Moved) → length moved == 0 ≡ false → moved_notes moved ≢ []
 moved_some [] none = absurd (false≢true (sym none))

@@ -17,7 +17,8 @@ use Rattle.pb_place_host.specs.Reports.{AreReported}
 use Rattle.pb_place_types.specs.Sinks.{SinkState}
 use Rattle.pb_build_turns.specs.Executor.{BuildState}
 use Rattle.pb_tool_notes_pages.specs.Notes.{AreNotes, lines_of}
-use Rattle.pb_tool_program.specs.Details.{detail}
+use Rattle.pb_tool_sentences.specs.Details.{detail}
+use Rattle.pb_tool_program.specs.Libraries.{NotesOf}
 use Rattle.pb_tool_reasons.specs.Started.{explanation}
 use Rattle.pb_tool_program.specs.Writing.{Tells, TellsOr}
 
@@ -29,11 +30,6 @@ success_status false = 101
 abbrev pub status_of : Result Summary BuildFault → ℕ
 status_of (Ok summary) = success_status summary.success
 status_of (Err fault) = 101
-
--- a line for each of these packages, which have no library
-abbrev pub notes_of : List (List ℕ) → List ℕ
-notes_of [] = []
-notes_of (name ∷ names) = codes "note: " ++ name ++ codes " has no library\n" ++ notes_of names
 
 -- The line for a unit that will be built again. A path that its child read was changed while the
 -- child was at work.
@@ -53,9 +49,6 @@ error_of answer = codes "error: " ++ result_line answer ++ codes "\n"
 -- notes, moved files, reasons, a child's output, and the detail of a fault.
 abbrev pub why_lost : List ℕ
 why_lost = codes "error: out of memory for why the build failed\n"
-
-abbrev pub notes_lost : List ℕ
-notes_lost = codes "note: out of memory for notes of packages without a library\n"
 
 abbrev pub moved_lost : List ℕ
 moved_lost = codes "note: out of memory for what was changed during the build\n"
@@ -103,9 +96,9 @@ TellsSaid (Err fault) old new = new ≡ old
 TellsSaid (Ok summary) old new = TellsOr said_lost (said_by_bad summary.bad summary.said) old new
 
 -- What is written about the fault of a build: the fault's detail, or that memory ran out for the
--- detail. If the fault has no more than a name, nothing is written.
-abbrev pub TellsDetail : Result Summary BuildFault → SinkState → SinkState → Type 0
-TellsDetail answer old new = TellsOr detail_lost (detail answer) old new
+-- detail. If all units are good, nothing is written.
+abbrev pub TellsDetail : Bool → Result Summary BuildFault → SinkState → SinkState → Type 0
+TellsDetail rendered answer old new = TellsOr detail_lost (detail rendered answer) old new
 
 -- What a place reports about a fault from outside: at most ten texts without line feeds. Nothing
 -- more is promised about these texts. Without such a fault there are none.
@@ -123,14 +116,14 @@ TellsReport texts old new = TellsOr report_lost (lines_of texts) old new
 -- How a build with this answer ends. The build has a status. Why children were started, if this is
 -- requested, is written beside the output, and then what a failing child printed. The fault's
 -- detail, the place's report, the notes, and the reason of a failure follow.
-pub record Concludes (explain : Option ℕ) (answer : Result Summary BuildFault) (report notes : List (List ℕ)) (status : ℕ) (old new : SinkState) : Type 0 where
+pub record Concludes (explain : Option ℕ) (rendered : Bool) (answer : Result Summary BuildFault) (report notes : List (List ℕ)) (status : ℕ) (old new : SinkState) : Type 0 where
   pub told : status ≡ status_of answer
   pub explained : SinkState
   pub reasons : TellsReasons explain answer old explained
   pub repeated : SinkState
   pub said : TellsSaid answer explained repeated
   pub detailed : SinkState
-  pub detail : TellsDetail answer repeated detailed
+  pub detail : TellsDetail rendered answer repeated detailed
   pub reported : SinkState
   pub reports : TellsReport report detailed reported
   pub told_again : SinkState
@@ -151,12 +144,6 @@ LooksTwice (Ok summary) notes old new = Looked old new
 LooksTwice (Err (build.Plan refusal)) notes old new = Looked old new
 LooksTwice (Err fault) notes old new = (new ≡ old) × (notes ≡ [])
 
--- What is written before a build: notes about the packages without a library in its plan, or that
--- memory ran out for the notes. Without such packages, or without a plan, nothing is written.
-abbrev pub NotesOf : Result BuildPlan BuildFault → SinkState → SinkState → Type 0
-NotesOf (Ok plan) old new = TellsOr notes_lost (notes_of plan.project.plan.without_library) old new
-NotesOf (Err fault) old new = new ≡ old
-
 -- the target folder of a plan, if there is a plan
 abbrev pub folder_of : Result BuildPlan BuildFault → Option (List ℕ)
 folder_of (Ok plan) = Some plan.environment.target
@@ -164,7 +151,7 @@ folder_of (Err fault) = None
 
 -- A build was planned, and this plan was carried out. No further call was made but those of a
 -- second look. `moved` is the list that the place then has.
-pub record BuildsTold (is_modelled : Bool) (child : Answers) (Guards : Option (List ℕ) → Counts → SinkState → SinkState → Type 0) (moved : List Moved) (options : Options) (explain : Bool) (status : ℕ) (old new : BuildState) (said_before said_after : SinkState) : Type 0 where
+pub record BuildsTold (is_modelled : Bool) (child : Answers) (Guards : Option (List ℕ) → Counts → SinkState → SinkState → Type 0) (moved : List Moved) (options : Options) (explain rendered : Bool) (status : ℕ) (old new : BuildState) (said_before said_after : SinkState) : Type 0 where
   -- the plan of the build
   pub plan : Result BuildPlan BuildFault
   pub planned : BuildState
@@ -193,4 +180,4 @@ pub record BuildsTold (is_modelled : Bool) (child : Answers) (Guards : Option (L
   pub report : List (List ℕ)
   pub reports : Reported answer report
   -- what is written after the build
-  pub concluded : Concludes (units_if explain plan) answer report notes_again status marked said_after
+  pub concluded : Concludes (units_if explain plan) rendered answer report notes_again status marked said_after

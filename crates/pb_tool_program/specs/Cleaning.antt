@@ -1,5 +1,5 @@
 -- What `pb_tool clean` does.
-use Rattle.std.specs.Prelude.{◌≡◌, ◌⊎◌, ℕ, Bool, false, codes, List, [], ◌++◌, Option, Some, None, Result, Ok, Err}
+use Rattle.std.specs.Prelude.{◌≡◌, ◌⊎◌, ℕ, Bool, true, false, codes, List, [], ◌++◌, Option, Some, None, Result, Ok, Err}
 use Rattle.pb_build_result.specs.declared.fault.BuildFault.{BuildFault}
 use Rattle.pb_build_result.specs.declared.fault.BuildFault.TheVariants as build_fault
 use Rattle.pb_build_result.specs.declared.fault.DeviceFault.TheVariants as device
@@ -47,7 +47,7 @@ build_fault_of fault = build_fault.OutOfMemory
 pub record TellsFault (fault : BuildFault) (status : ℕ) (old new : SinkState) : Type 0 where
   pub report : List (List ℕ)
   pub reports : Reported (Err fault) report
-  pub concluded : Concludes None (Err fault) report [] status old new
+  pub concluded : Concludes None true (Err fault) report [] status old new
 
 -- What is written after a removal. If everything chosen is removed, nothing is written, and the
 -- status is 0. If not, the reason is written, and the status is 101.

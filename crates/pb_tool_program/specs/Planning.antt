@@ -52,7 +52,7 @@ pub record PlanFails (fault : BuildFault) (status : ℕ) (old new : BuildState) 
   pub looked : LooksTwice (Err fault) notes old new
   pub report : List (List ℕ)
   pub reports : Reported (Err fault) report
-  pub concluded : Concludes None (Err fault) report notes status said_before said_after
+  pub concluded : Concludes None true (Err fault) report notes status said_before said_after
 
 -- How the command ends. If the plan was written, the status is 0, and nothing else is done or
 -- written. If not, the command ends as `PlanFails` says.

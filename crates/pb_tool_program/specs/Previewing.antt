@@ -14,7 +14,7 @@ use Rattle.pb_run.specs.Steps.{HasCause}
 use Rattle.pb_tool_preview.specs.Foreseeing.{Foresees, LooksAtSome}
 use Rattle.pb_tool_preview.specs.Telling.{preview_lines}
 use Rattle.pb_tool_preview.specs.declared.fate.Fate.{Fate}
-use Rattle.pb_tool_program.specs.Building.{NotesOf}
+use Rattle.pb_tool_program.specs.Libraries.{NotesOf}
 use Rattle.pb_tool_program.specs.Planning.{EndsPlan}
 use Rattle.pb_tool_program.specs.Writing.{Tells}
 use Rattle.pb_unit.specs.declared.plan.Planned.{Planned}

@@ -11,12 +11,12 @@ ghost use Rattle.pb_build_result.specs.declared.fault.BuildFault.{BuildFault};
 ghost use Rattle.pb_build_result.specs.declared.summary.Summary.{Summary};
 ghost use Rattle.pb_tool_notes_pages.specs.Looks.{LooksAgain};
 ghost use Rattle.pb_tool_notes_pages.specs.Notes.{lines_of};
-ghost use Rattle.pb_tool_program.specs.Building.{status_of, notes_of, moved_lost, moved_note, moved_notes, look_lost, error_of, folder_of, units_if, LooksTwice, NotesOf, TellsDetail, TellsReasons, TellsSaid, TellsWhy, Concludes, BuildsTold};
+ghost use Rattle.pb_tool_program.specs.Building.{status_of, moved_lost, moved_note, moved_notes, look_lost, error_of, folder_of, units_if, LooksTwice, TellsDetail, TellsReasons, TellsSaid, TellsWhy, Concludes, BuildsTold};
 ghost use Rattle.pb_tool_program.specs.Guarding.{Guarded, waiting};
 ghost use Rattle.pb_tool_program.specs.Writing.{Tells, TellsOr};
 
-use crate::details::detail;
 use crate::guard::Guard;
+use crate::libraries::note;
 use crate::reports::{reports_of, tell_report};
 use pb_build::{BuildPlan, plan_build};
 use pb_build_result::{BuildFault, Refusal, Summary, result_line, summary_text};
@@ -27,6 +27,7 @@ use pb_tool_notes::{Notes, notes_on_build, notes_on_features, notes_on_load, not
 use pb_tool_progress::build_watched;
 use pb_tool_reasons::explanation;
 use pb_tool_screen::StatusLine;
+use pb_tool_sentences::detail;
 use pb_workspace_types::Options;
 use std::alloc::{AllocError, Global};
 
@@ -38,28 +39,6 @@ fn status_of(answer: &Result<Summary, BuildFault>) -> u8
         Ok(summary) => { if summary.success { 0 } else { 101 } }
         Err(_) => 101,
     }
-}
-
-/// Adds a line for a package without a library.
-fn push_note(notes: &mut String, name: &str) -> Result<(), AllocError>
-    ensures { OnOk result (string_bytes notes.new ≡ string_bytes notes.old ++ codes "note: "
-        ++ name.now ++ codes " has no library\n") }
-{
-    notes.push_str("note: ")?;
-    notes.push_str(name)?;
-    notes.push_str(" has no library\n")?;
-    Ok(())
-}
-
-/// Returns a line for each package without a library that an enabled dependency names.
-fn notes_of(alloc: Global, names: &[Text]) -> Result<String, AllocError>
-    ensures { IfOk result (λ notes. string_bytes notes ≡ notes_of names.now) }
-{
-    let mut notes = String::new(alloc);
-    for name in names {
-        push_note(&mut notes, name.as_str())?;
-    }
-    Ok(notes)
 }
 
 /// Returns the line of a unit that will be built again.
@@ -120,29 +99,6 @@ fn error_of(alloc: Global, answer: &Result<Summary, BuildFault>) -> Result<Strin
     line.push_str(result_line(alloc, answer)?.as_str())?;
     line.push_str("\n")?;
     Ok(line)
-}
-
-/// Writes which packages that are depended on have no library, by the build's plan. Nothing is
-/// written if there are none, or if there is no plan: the build then reports why. If memory runs
-/// out, a line is written that needs no memory.
-pub(crate) fn note<E: Out>(alloc: Global, err: &mut E, plan: &Result<BuildPlan, BuildFault>)
-    ensures { NotesOf plan.now (E.heard err.old) (E.heard err.new) }
-{
-    let plan = match plan {
-        Ok(plan) => plan,
-        Err(_) => return,
-    };
-    let names = plan.project.without_library();
-    if names.is_empty() {
-        return;
-    }
-    match notes_of(alloc, names) {
-        Ok(notes) => write_all(err, notes.as_bytes()),
-        Err(_) => write_all(
-            err,
-            b"note: out of memory for notes of packages without a library\n",
-        ),
-    };
 }
 
 /// Writes that another build has the target folder.
@@ -256,12 +212,17 @@ fn repeat_to<E: Out>(alloc: Global, err: &mut E, answer: &Result<Summary, BuildF
     };
 }
 
-/// Writes the detail of a build's fault, if the fault has more than a name. If memory runs out for
-/// that, it writes a line that needs no memory.
-fn tell_detail<E: Out>(alloc: Global, err: &mut E, answer: &Result<Summary, BuildFault>)
-    ensures { TellsDetail answer.now (E.heard err.old) (E.heard err.new) }
+/// Writes the detail of a build that failed. If memory runs out for that, it writes a line that
+/// needs no memory.
+fn tell_detail<E: Out>(
+    alloc: Global,
+    err: &mut E,
+    rendered: bool,
+    answer: &Result<Summary, BuildFault>,
+)
+    ensures { TellsDetail rendered answer.now (E.heard err.old) (E.heard err.new) }
 {
-    match detail(alloc, answer) {
+    match detail(alloc, rendered, answer) {
         Ok(about) if about.is_empty() => true,
         Ok(about) => write_all(err, about.as_bytes()),
         Err(_) => write_all(err, b"note: out of memory for what the fault is about\n"),
@@ -321,16 +282,17 @@ pub(crate) fn conclude<E: Out>(
     alloc: Global,
     err: &mut E,
     explain: Option<usize>,
+    rendered: bool,
     answer: &Result<Summary, BuildFault>,
     report: &[Text],
     notes: &Notes,
 ) -> u8
-    ensures { Concludes explain answer.now report.now notes.now result
+    ensures { Concludes explain rendered answer.now report.now notes.now result
         (E.heard err.old) (E.heard err.new) }
 {
     explain_to(alloc, err, explain, answer);
     repeat_to(alloc, err, answer);
-    tell_detail(alloc, err, answer);
+    tell_detail(alloc, err, rendered, answer);
     tell_report(alloc, err, report);
     tell_notes(alloc, err, notes);
     let status = status_of(answer);
@@ -342,13 +304,14 @@ pub(crate) fn conclude<E: Out>(
 ///
 /// Message lines go to `out` in plan order, as they are due. These go to `err`:
 ///
-/// - Before the build, a line `note: NAME has no library` for each package without a library that
-///   an enabled dependency names.
+/// - Before the build, a line `note: in PATH: NAME has no library` for each package without a
+///   library that an enabled dependency names; PATH is its manifest.
 /// - After it, what was changed while a unit was built that read it; the next build builds that
 ///   unit again.
 /// - If requested, why each child was started.
 /// - What the child of a bad unit printed that no message line contains.
-/// - The detail of the fault, as the path of a manifest, if the fault has more than a name.
+/// - The sentence of the fault; and where a compiler's messages are, if it failed and they were not
+///   rendered.
 /// - What the place reports of a fault of the outside.
 /// - The notes of a second look.
 /// - For a build that failed or was refused, `error: ` and its result line.
@@ -367,10 +330,11 @@ pub fn build_options<P: Place + Reporting, G: Guard<P, E>, O: Out, E: Out, L: Ou
     line: &mut StatusLine<L>,
     options: &Options,
     explain: bool,
+    rendered: bool,
 ) -> u8
     requires none { (P.at place.old).counts.starts.flying ≡ [] }
     ensures { BuildsTold P.is_modelled P.child (Guarded G.asks G.waits guard.old guard.new)
-        (P.at place.new).moved options.now explain result
+        (P.at place.new).moved options.now explain rendered result
         (moment (P.at place.old) (O.heard out.old)) (moment (P.at place.new) (O.heard out.new))
         (E.heard err.old) (E.heard err.new) }
 {
@@ -385,5 +349,5 @@ pub fn build_options<P: Place + Reporting, G: Guard<P, E>, O: Out, E: Out, L: Ou
     notes.texts();
     mark(alloc, err, place.moved_paths());
     let report = reports_of(place, &answer);
-    conclude(alloc, err, units, &answer, report, &notes)
+    conclude(alloc, err, units, rendered, &answer, report, &notes)
 }

@@ -99,7 +99,7 @@ fn tell_fault<P: Place + Reporting, E: Out>(
     let answer = Err(fault);
     let report = reports_of(place, &answer);
     let notes = Notes::new(alloc);
-    conclude(alloc, err, None, &answer, report, &notes)
+    conclude(alloc, err, None, true, &answer, report, &notes)
 }
 
 /// Writes how a removal ended, unless all is removed, and returns the status.

@@ -4,10 +4,10 @@
 
 mod building;
 mod cleaning;
-mod details;
 mod folder_lock;
 mod guard;
 mod laws;
+mod libraries;
 mod machine;
 mod names;
 mod planning;

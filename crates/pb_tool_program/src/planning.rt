@@ -93,7 +93,7 @@ pub(crate) fn fail<P: Place + Reporting, E: Out>(
     // For the proof: they are at most ten lines.
     notes.texts();
     let report = reports_of(place, &answer);
-    conclude(alloc, err, None, &answer, report, &notes)
+    conclude(alloc, err, None, true, &answer, report, &notes)
 }
 
 /// Prints the plan of a build in a form, and returns the status. The status is 0, or 101 if there

@@ -8,7 +8,7 @@ ghost use Rattle.pb_store.specs.Folder.{HasNumbers};
 ghost use Rattle.pb_store_soundness.specs.Records.{records};
 ghost use Rattle.pb_tool_program.specs.Previewing.{Foretells, LooksAhead, PreviewsTold, TellsFates};
 
-use crate::building::note;
+use crate::libraries::note;
 use crate::planning::fail;
 use pb_build::{BuildPlan, Prepared, plan_build, prepare};
 use pb_build_result::BuildFault;

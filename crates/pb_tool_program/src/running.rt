@@ -84,7 +84,7 @@ fn build<P: Speaking, G: Guard<P, E>, O: Screen, E: Coloring, L: Out>(
     requires none { (P.at place.old).counts.starts.flying ≡ [] }
     ensures told { IsShownAs P.speaks O.shows E.colors place.old out.old err.old shown }
     ensures builds { BuildsTold P.is_modelled P.child (Guarded G.asks G.waits guard.old guard.new)
-        (P.at place.new).moved options.now shown.explain result
+        (P.at place.new).moved options.now shown.explain shown.render result
         (moment (P.at place.old) (O.heard out.old)) (moment (P.at place.new) (O.heard out.new))
         (E.heard err.old) (E.heard err.new) }
 {
@@ -92,7 +92,17 @@ fn build<P: Speaking, G: Guard<P, E>, O: Screen, E: Coloring, L: Out>(
     out.show(shown.render, shown.progress, shown.colors);
     err.color(shown.colors);
     line.switch(shown.progress, shown.counts);
-    build_options(alloc, place, guard, out, err, line, options, shown.explain)
+    build_options(
+        alloc,
+        place,
+        guard,
+        out,
+        err,
+        line,
+        options,
+        shown.explain,
+        shown.render,
+    )
 }
 
 /// The whole program: does what the arguments of the command line request, the program's own name

@@ -9,7 +9,7 @@ name = "a"
 version = "0.1.0"
 authors = ["A" "B"]
 ---
-note: in /w/Cargo.toml
+note: `/w/Cargo.toml` is refused: the manifest is not TOML
 note: in /w/Cargo.toml, line 4, column 16: missing comma between array elements, expected `,` or `]`
 error: refused NotToml
 === [manifest.order] a key twice
@@ -20,7 +20,7 @@ version = "0.1.0"
 
 name = "b"
 ---
-note: in /w/Cargo.toml
+note: `/w/Cargo.toml` is refused: the manifest is not TOML
 note: in /w/Cargo.toml, line 5, column 1: duplicate key
 error: refused NotToml
 === [manifest.kinds] another type in an entry
@@ -36,10 +36,10 @@ name = "x"
 name = "y"
 path = true
 ---
-note: in /w/Cargo.toml, key edition
-note: in /w/Cargo.toml, line 3, key package.edition: 2021 is a number; it may be "2015", "2018", "2021" or "2024"
-note: in /w/Cargo.toml, line 10, key bin[2].path: true is a truth value; it may be a text
-note: in /w/Cargo.toml, line 5, key dependencies.util.path: 3 is a number; it may be a text
+note: `/w/Cargo.toml` is refused: `edition` has a value that is not allowed
+note: in /w/Cargo.toml, line 3, key package.edition: 2021 is a number; it must be "2015", "2018", "2021" or "2024"
+note: in /w/Cargo.toml, line 10, key bin[2].path: true is a truth value; it must be a text
+note: in /w/Cargo.toml, line 5, key dependencies.util.path: 3 is a number; it must be a text
 error: refused BadKind
 === [package.edition] an edition that is none
 @ /w/Cargo.toml
@@ -47,8 +47,8 @@ error: refused BadKind
 name = "app"
 edition = "2022"
 ---
-note: in /w/Cargo.toml, key edition
-note: in /w/Cargo.toml, line 3, key package.edition: "2022" is a text; it may be "2015", "2018", "2021" or "2024"
+note: `/w/Cargo.toml` is refused: `edition` has a value that is not allowed
+note: in /w/Cargo.toml, line 3, key package.edition: "2022" is not allowed; it must be "2015", "2018", "2021" or "2024"
 error: refused BadKind
 === [dependencies.version] a dependency's version that is a number
 @ /w/Cargo.toml
@@ -58,14 +58,14 @@ name = "app"
 path = "util"
 version = 1
 ---
-note: in /w/Cargo.toml, key version
-note: in /w/Cargo.toml, line 5, key dependencies.util.version: 1 is a number; it may be a text
+note: `/w/Cargo.toml` is refused: `version` has a value that is not allowed
+note: in /w/Cargo.toml, line 5, key dependencies.util.version: 1 is a number; it must be a text
 error: refused BadKind
 === [package.present] no package
 @ /w/Cargo.toml
 [dependencies]
 ---
-note: in /w/Cargo.toml, key package
+note: `/w/Cargo.toml` is refused: `package` has a value that is not allowed
 note: in /w/Cargo.toml: there is no [package]
 error: refused BadKind
 === [package.version] a version of two numbers
@@ -74,7 +74,7 @@ error: refused BadKind
 name = "app"
 version = "0.1"
 ---
-note: in /w/Cargo.toml
+note: `/w/Cargo.toml` is refused: a version or a version requirement cannot be read
 note: in /w/Cargo.toml, line 3, key package.version: "0.1" has no third number
 error: refused BadVersion
 === [dependencies.version] a requirement that is none
@@ -84,7 +84,7 @@ name = "app"
 [dependencies]
 util = { path = "util", version = "one" }
 ---
-note: in /w/Cargo.toml
+note: `/w/Cargo.toml` is refused: a version or a version requirement cannot be read
 note: in /w/Cargo.toml, line 4, key dependencies.util.version: "one" is no requirement of a version, as "0.1" is one
 error: refused BadVersion
 === [profile.values] an optimization that is none
@@ -94,8 +94,8 @@ name = "app"
 [profile.dev]
 opt-level = 5
 ---
-note: in /w/Cargo.toml
-note: in /w/Cargo.toml, line 4, key profile.dev.opt-level: 5 is a number; it may be 0, 1, 2, 3, "s" or "z"
+note: `/w/Cargo.toml` is refused: a profile has a name or a value that is not allowed, or has no `inherits`
+note: in /w/Cargo.toml, line 4, key profile.dev.opt-level: 5 is not allowed; it must be 0, 1, 2, 3, "s" or "z"
 error: refused BadProfile
 === [profile.inherits] a custom profile without inherits
 @ /w/Cargo.toml
@@ -104,7 +104,7 @@ name = "app"
 [profile.small]
 opt-level = "z"
 ---
-note: in /w/Cargo.toml
+note: `/w/Cargo.toml` is refused: a profile has a name or a value that is not allowed, or has no `inherits`
 note: in /w/Cargo.toml, line 3, key profile.small: it has no inherits
 error: refused BadProfile
 === [package.name] a name with a blank
@@ -112,7 +112,7 @@ error: refused BadProfile
 [package]
 name = "my app"
 ---
-note: in /w/Cargo.toml
+note: `/w/Cargo.toml` is refused: a name is missing or has letters that are not allowed
 note: in /w/Cargo.toml, line 2, key package.name: "my app" may have only ASCII letters, digits, - and _, and at least one of these
 error: refused BadName
 === [features.item] a feature with a blank
@@ -122,7 +122,7 @@ name = "app"
 [features]
 default = ["a b"]
 ---
-note: in /w/Cargo.toml
+note: `/w/Cargo.toml` is refused: a feature has a name or an item that is not allowed
 note: in /w/Cargo.toml, line 4, key features.default: "a b" has none of the forms "F", "dep:N", "N/F", "N?/F"
 error: refused BadFeature
 === [dependencies.source] a registry, git, and a path
@@ -135,7 +135,7 @@ serde = "1"
 log = { version = "0.4", features = ["std"] }
 web = { git = "https://w" }
 ---
-note: in /w/Cargo.toml
+note: `/w/Cargo.toml` is refused: a dependency has a source other than `path`
 note: in /w/Cargo.toml, line 6, key dependencies.log: it has no path
 note: in /w/Cargo.toml, line 5, key dependencies.serde: it has no path
 note: in /w/Cargo.toml, line 7, key dependencies.web: git is not supported
@@ -152,7 +152,7 @@ name = "m"
 [dependencies]
 serde = { workspace = true }
 ---
-note: in /w/m/Cargo.toml
+note: `/w/m/Cargo.toml` is refused: a dependency has a source other than `path`
 note: in /w/m/Cargo.toml, line 4, key dependencies.serde: it takes workspace.dependencies.serde of /w/Cargo.toml, whose source is not a path alone
 error: refused UnsupportedSource
 === [manifest.order] a table for a target
@@ -162,8 +162,8 @@ name = "app"
 [target.'cfg(unix)'.dependencies]
 util = { path = "util" }
 ---
-note: in /w/Cargo.toml
-note: in /w/Cargo.toml, line 3, key target: this table is not supported
+note: `/w/Cargo.toml` is refused: `target`, `patch` and `replace` are not supported
+note: in /w/Cargo.toml, line 3, key target: remove this table
 error: refused UnsupportedTable
 === [lib.crate-type] a dynamic library
 @ /w/Cargo.toml
@@ -172,15 +172,15 @@ name = "app"
 [lib]
 crate-type = ["lib", "cdylib"]
 ---
-note: in /w/Cargo.toml
-note: in /w/Cargo.toml, line 4, key lib.crate-type: "cdylib" is not supported; it may be "lib", "rlib" or "bin"
+note: `/w/Cargo.toml` is refused: the library has a crate type that is not supported
+note: in /w/Cargo.toml, line 4, key lib.crate-type: "cdylib" must be "lib", "rlib" or "bin"
 error: refused UnsupportedCrateType
 === [lib.proc-macro] a proc macro
 @ /w/Cargo.toml
 package = { name = "app" }
 lib = { proc-macro = true }
 ---
-note: in /w/Cargo.toml
+note: `/w/Cargo.toml` is refused: the library has a crate type that is not supported
 note: in /w/Cargo.toml, line 2, key lib.proc-macro: proc macros are not supported
 error: refused UnsupportedCrateType
 === [package.resolver] an old resolver
@@ -189,7 +189,7 @@ error: refused UnsupportedCrateType
 members = ["m"]
 resolver = "1"
 ---
-note: in /w/Cargo.toml
-note: in /w/Cargo.toml, line 3, key workspace.resolver: "1" is not supported; it may be "2" or "3"
+note: `/w/Cargo.toml` is refused: resolver 1 is not supported
+note: in /w/Cargo.toml, line 3, key workspace.resolver: it must be "2" or "3"
 error: refused OldResolver
 "#;

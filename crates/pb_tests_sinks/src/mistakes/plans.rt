@@ -9,6 +9,7 @@ name = "a"
 fast = []
 @ /w/src/lib.rs
 ---
+note: a requested feature does not exist
 note: --features fsat: no package has it (near: fast)
 error: refused NoSuchFeature
 === [resolve.requested] no such feature of a package: --features a/fastt
@@ -19,6 +20,7 @@ name = "a"
 fast = []
 @ /w/src/lib.rs
 ---
+note: a requested feature does not exist
 note: --features a/fastt: a has no feature fastt (near: fast)
 error: refused NoSuchFeature
 === [resolve.asked] no such feature of a dependency
@@ -35,6 +37,7 @@ name = "util"
 quick = []
 @ /w/util/src/lib.rs
 ---
+note: a requested feature does not exist
 note: in /w/Cargo.toml, line 4, key dependencies.util: util has no feature quik (near: quick)
 error: refused NoSuchFeature
 === [resolve.refused] an item that names no feature
@@ -46,6 +49,7 @@ default = ["fastt"]
 fast = []
 @ /w/src/lib.rs
 ---
+note: a requested feature does not exist
 note: in /w/Cargo.toml, line 4, key features.default: fastt is neither a feature nor an optional dependency (near: fast)
 error: refused NoSuchFeature
 === [resolve.refused] an item that names no dependency
@@ -61,7 +65,8 @@ serde = { path = "serde", optional = true }
 [package]
 name = "serde"
 ---
-note: in /w/Cargo.toml, line 4, key features.default: dep:serd: there is no dependency serd (near: serde)
+note: a feature names a dependency that does not exist
+note: in /w/Cargo.toml, line 4, key features.default: dep:serd names no dependency (near: serde)
 error: refused NoSuchDependency
 === [resolve.refused] an item that names no optional dependency
 @ /w/Cargo.toml
@@ -76,7 +81,8 @@ serde = { path = "serde" }
 [package]
 name = "serde"
 ---
-note: in /w/Cargo.toml, line 4, key features.default: dep:serde: the dependency serde is not optional
+note: a feature names a dependency that is not optional
+note: in /w/Cargo.toml, line 4, key features.default: dep:serde names a dependency that is not optional
 error: refused NotOptional
 === [settings.refused] no such profile: --profile relase
 @ /w/Cargo.toml
@@ -84,7 +90,8 @@ error: refused NotOptional
 name = "a"
 @ /w/src/lib.rs
 ---
-note: --profile relase: there is no such profile (near: release)
+note: a requested profile does not exist
+note: --profile names relase (near: release)
 error: refused NoSuchProfile
 === [settings.refused] no such profile to inherit from: --profile small
 @ /w/Cargo.toml
@@ -94,7 +101,8 @@ name = "a"
 inherits = "relase"
 @ /w/src/lib.rs
 ---
-note: in /w/Cargo.toml, line 4, key profile.small.inherits: there is no profile relase (near: release)
+note: a requested profile does not exist
+note: in /w/Cargo.toml, line 4, key profile.small.inherits: it names relase (near: release)
 error: refused NoSuchProfile
 === [settings.refused] profiles that inherit from one another: --profile one
 @ /w/Cargo.toml
@@ -106,7 +114,8 @@ inherits = "two"
 inherits = "one"
 @ /w/src/lib.rs
 ---
-note: in /w/Cargo.toml: profiles inherit so: one -> two -> one
+note: profiles inherit from one another
+note: in /w/Cargo.toml: one -> two -> one
 error: refused InheritsCycle
 === [settings.refused] an override that sets too much
 @ /w/Cargo.toml
@@ -117,7 +126,8 @@ opt-level = 3
 panic = "abort"
 @ /w/src/lib.rs
 ---
-note: in /w/Cargo.toml, line 5, key profile.dev.package.util.panic: an override may not set it
+note: an override in a profile sets `panic`, `lto` or `rpath`
+note: in /w/Cargo.toml, line 5, key profile.dev.package.util.panic: only the profile itself may set it
 error: refused NotInOverride
 === [units.roots] no such binary: --bin ap
 @ /w/Cargo.toml
@@ -125,6 +135,7 @@ error: refused NotInOverride
 name = "app"
 @ /w/src/main.rs
 ---
+note: there is nothing to build
 note: --bin ap: there is no such binary (near: app)
 error: refused NothingToBuild
 === [units.roots] a binary that requires a feature: --bin mean
@@ -138,12 +149,14 @@ name = "mean"
 required-features = ["mean"]
 @ /w/src/bin/mean.rs
 ---
-note: in /w/Cargo.toml, line 7, key bin[1].required-features: mean is left out unless these features are on
+note: there is nothing to build
+note: in /w/Cargo.toml, line 7, key bin[1].required-features: mean is left out unless these features are on: mean
 error: refused NothingToBuild
 === [plan.refused] a workspace without members
 @ /w/Cargo.toml
 [workspace]
 ---
+note: there is nothing to build
 note: in /w/Cargo.toml: the workspace has no members
 error: refused NothingToBuild
 === [members.globs] a pattern that matches nothing
@@ -151,6 +164,7 @@ error: refused NothingToBuild
 [workspace]
 members = ["crates/*"]
 ---
+note: there is nothing to build
 note: in /w/Cargo.toml, line 2, key workspace.members: crates/* matches no package
 note: in /w/Cargo.toml: the workspace has no members
 error: refused NothingToBuild
@@ -177,7 +191,7 @@ name = "app"
 util = { path = "../util" }
 @ /w/app/src/lib.rs
 ---
-note: the packages are core-lib util
+note: packages depend on one another: core-lib util
 note: core-lib -> util -> core-lib
 error: refused Cycle
 "#;

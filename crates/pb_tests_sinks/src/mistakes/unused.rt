@@ -28,7 +28,7 @@ version = "0.1"
 name = "x"
 requred-features = ["y"]
 ---
-note: in /w/Cargo.toml
+note: `/w/Cargo.toml` is refused: a version or a version requirement cannot be read
 note: in /w/Cargo.toml, line 3, key package.version: "0.1" has no third number
 note: in /w/Cargo.toml, line 6, key bin[1].requred-features: it is not used (near: required-features)
 error: refused BadVersion
@@ -64,7 +64,7 @@ a8 = 1
 a9 = 1
 b1 = 1
 ---
-note: in /w/Cargo.toml
+note: `/w/Cargo.toml` is refused: a name is missing or has letters that are not allowed
 note: in /w/Cargo.toml, line 2, key package.name: "a b" may have only ASCII letters, digits, - and _, and at least one of these
 note: in /w/Cargo.toml, line 3, key package.a1: it is not used
 note: in /w/Cargo.toml, line 4, key package.a2: it is not used
@@ -74,6 +74,6 @@ note: in /w/Cargo.toml, line 7, key package.a5: it is not used
 note: in /w/Cargo.toml, line 8, key package.a6: it is not used
 note: in /w/Cargo.toml, line 9, key package.a7: it is not used
 note: in /w/Cargo.toml, line 10, key package.a8: it is not used
-note: in /w/Cargo.toml, line 11, key package.a9: it is not used
+note: and 2 more
 error: refused BadName
 "#;

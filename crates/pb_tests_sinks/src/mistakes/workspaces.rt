@@ -15,7 +15,7 @@ util = { path = "../utli" }
 [package]
 name = "util"
 ---
-note: no manifest at /w/utli/Cargo.toml
+note: no manifest can be read at `/w/utli/Cargo.toml`
 note: in /w/app/Cargo.toml, line 5, key dependencies.util: it leads to /w/utli/Cargo.toml (near: util)
 error: refused NoManifest
 === [members.folder] a missing member
@@ -26,7 +26,7 @@ members = ["app", "gone"]
 [package]
 name = "app"
 ---
-note: no manifest at /w/gone/Cargo.toml
+note: no manifest can be read at `/w/gone/Cargo.toml`
 note: in /w/Cargo.toml, line 2, key workspace.members: it names the folder of /w/gone/Cargo.toml
 error: refused NoManifest
 === [load.root] outside a workspace
@@ -34,7 +34,7 @@ error: refused NoManifest
 [package]
 name = "a"
 ---
-note: no manifest at /w/Cargo.toml
+note: no manifest can be read at `/w/Cargo.toml`
 note: it is what --manifest-path names, or the current folder
 error: refused NoManifest
 === [load.root] a folder for a manifest: --manifest-path /w/app
@@ -42,7 +42,7 @@ error: refused NoManifest
 [package]
 name = "a"
 ---
-note: no manifest at /w/app
+note: no manifest can be read at `/w/app`
 note: it is a folder: /w/app/Cargo.toml is there
 note: it is what --manifest-path names, or the current folder
 error: refused NoManifest
@@ -57,6 +57,7 @@ util = { path = "util", version = "0.2" }
 name = "util"
 version = "0.1.0"
 ---
+note: a dependency leads to a package whose version does not match
 note: in /w/Cargo.toml, line 4, key dependencies.util: it asks for util 0.2, and /w/util/Cargo.toml has 0.1.0
 error: refused VersionMismatch
 === [load.checks] another name
@@ -69,6 +70,7 @@ utils = { path = "util" }
 [package]
 name = "util"
 ---
+note: a dependency leads to a package with another name
 note: in /w/Cargo.toml, line 4, key dependencies.utils: it leads to /w/util/Cargo.toml, whose name is util (package = "util" would keep the key)
 error: refused NameMismatch
 === [load.checks] two packages of one name
@@ -87,6 +89,7 @@ name = "util"
 [package]
 name = "util"
 ---
+note: two packages have the same name
 note: in /w/m1/Cargo.toml, line 2, key package.name: util is in /w/m2/Cargo.toml too
 error: refused SameName
 === [load.checks] one native library twice
@@ -104,6 +107,7 @@ name = "m2"
 links = "z"
 @ /w/m2/build.rs
 ---
+note: two packages link the same native library
 note: in /w/m1/Cargo.toml, line 3, key package.links: z is in /w/m2/Cargo.toml too
 error: refused LinksTwice
 === [load.checks] a native library without a script
@@ -112,7 +116,8 @@ error: refused LinksTwice
 name = "a"
 links = "z"
 ---
-note: in /w/Cargo.toml, line 3, key package.links: z is linked, and there is no build script
+note: a package links a native library but has no build script
+note: in /w/Cargo.toml, line 3, key package.links: z is linked, and /w/build.rs is not there
 error: refused LinksWithoutScript
 === [inherit.missing] nothing to inherit
 @ /w/Cargo.toml
@@ -125,6 +130,7 @@ version.workspace = true
 [dependencies]
 util.workspace = true
 ---
+note: a package inherits a key or an entry that is not there
 note: in /w/m/Cargo.toml, line 3, key package.version: /w/Cargo.toml has no workspace.package.version
 note: in /w/m/Cargo.toml, line 5, key dependencies.util: /w/Cargo.toml has no workspace.dependencies.util
 error: refused NoInherited
@@ -138,6 +144,7 @@ package.version = "0.1.0"
 name = "m"
 version.workspace = true
 ---
+note: a package inherits a key or an entry that is not there
 note: /w/m/Cargo.toml has no [workspace]: call from the workspace's root, or give --manifest-path
 note: in /w/m/Cargo.toml, line 3, key package.version: /w/m/Cargo.toml has no workspace.package.version
 note: in /w/Cargo.toml, line 2, key workspace.members: it lists /w/m: call from the folder of that manifest, or give --manifest-path /w/Cargo.toml
@@ -153,6 +160,7 @@ path = "x.rs"
 name = "x"
 path = "y.rs"
 ---
+note: a package has two binaries with the same name
 note: in /w/Cargo.toml, line 7, key bin[2].name: x is the name of bin[1] too
 error: refused SameBinary
 === [select.order] no such package: -p utl
@@ -163,7 +171,8 @@ members = ["util"]
 [package]
 name = "util"
 ---
-note: -p utl: there is no such member (near: util)
+note: a requested package is not a member of the workspace
+note: -p names utl (near: util)
 error: refused NoSuchPackage
 === [select.default-members] no such default member
 @ /w/Cargo.toml
@@ -174,6 +183,7 @@ default-members = ["ap"]
 [package]
 name = "app"
 ---
+note: a requested package is not a member of the workspace
 note: in /w/Cargo.toml, line 3, key workspace.default-members: ap is no member's folder (near: app)
 error: refused NoSuchPackage
 "#;

@@ -39,5 +39,5 @@ returns g c =
       looked = c.look-notes.ensures (g.O.Out.heard c.build_watched-answer.new.out);
       report = c.reports_of-report.result.now;
       reports = c.reports_of-report.ensures;
-      concluded = subst (λ units. Concludes units c.build_watched-answer.result c.reports_of-report.result.now c.look-notes.result c.conclude.result (g.E.Out.heard c.mark.new.err) (g.E.Out.heard c.conclude.new.err)) c.units_if-units.ensures c.conclude.ensures;
+      concluded = subst (λ units. Concludes units c.args.rendered c.build_watched-answer.result c.reports_of-report.result.now c.look-notes.result c.conclude.result (g.E.Out.heard c.mark.new.err) (g.E.Out.heard c.conclude.new.err)) c.units_if-units.ensures c.conclude.ensures;
     }

@@ -14,7 +14,7 @@ pub returns-clause-builds : goal.returns-clause-builds
 returns-clause-builds g c =
     let new = moment (g.P.Place.at c.build_options.new.place) (g.O.Out.heard c.build_options.new.out) in
     let after = (g.E.Out.heard c.build_options.new.err) in
-    subst (λ (from : BuildState). BuildsTold g.P.Place.is_modelled g.P.Place.child (Guarded g.G.Guard.asks g.G.Guard.waits c.args.guard.now c.build_options.new.guard) (g.P.Place.at c.build_options.new.place).moved c.args.options.now c.args.shown.explain c.build_options.result from new (g.E.Out.heard c.args.err.now) after)
+    subst (λ (from : BuildState). BuildsTold g.P.Place.is_modelled g.P.Place.child (Guarded g.G.Guard.asks g.G.Guard.waits c.args.guard.now c.build_options.new.guard) (g.P.Place.at c.build_options.new.place).moved c.args.options.now c.args.shown.explain c.args.shown.render c.build_options.result from new (g.E.Out.heard c.args.err.now) after)
     (same_moment (g.P.Place.at c.args.place.now) (g.P.Place.at c.speak.new.self) (g.O.Out.heard c.args.out.now) (g.O.Out.heard c.show.new.self) c.speak.ensures.at c.show.ensures.heard)
-    (subst (λ (said : SinkState). BuildsTold g.P.Place.is_modelled g.P.Place.child (Guarded g.G.Guard.asks g.G.Guard.waits c.args.guard.now c.build_options.new.guard) (g.P.Place.at c.build_options.new.place).moved c.args.options.now c.args.shown.explain c.build_options.result
+    (subst (λ (said : SinkState). BuildsTold g.P.Place.is_modelled g.P.Place.child (Guarded g.G.Guard.asks g.G.Guard.waits c.args.guard.now c.build_options.new.guard) (g.P.Place.at c.build_options.new.place).moved c.args.options.now c.args.shown.explain c.args.shown.render c.build_options.result
     (moment (g.P.Place.at c.speak.new.self) (g.O.Out.heard c.show.new.self)) new said after) c.color.ensures.heard c.build_options.ensures)

@@ -1,0 +1,16 @@
+-- Notes on packages without a library that dependencies name.
+use Rattle.std.specs.Prelude.{◌≡◌, ℕ, codes, List, Result, Ok, Err}
+use Rattle.pb_build.specs.declared.builder.BuildPlan.{BuildPlan}
+use Rattle.pb_build_result.specs.declared.fault.BuildFault.{BuildFault}
+use Rattle.pb_place_types.specs.Sinks.{SinkState}
+use Rattle.pb_tool_program.specs.Writing.{TellsOr}
+use Rattle.pb_tool_sentences.specs.Libraries.{notes_of}
+
+abbrev pub notes_lost : List ℕ
+notes_lost = codes "note: out of memory for notes of packages without a library\n"
+
+-- what is written before a build: notes on the packages without a library in its plan, or that memory ran out for them;
+-- nothing if there are no such packages, or no plan
+abbrev pub NotesOf : Result BuildPlan BuildFault → SinkState → SinkState → Type 0
+NotesOf (Ok plan) old new = TellsOr notes_lost (notes_of plan.project.workspace.packages plan.project.plan.without_library) old new
+NotesOf (Err fault) old new = new ≡ old

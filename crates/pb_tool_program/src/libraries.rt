@@ -1,0 +1,49 @@
+//! Notes on packages without a library that dependencies name.
+
+ghost use Rattle.std.specs.Prelude.{◌≡◌, ◌==◌, length, IfOk, string_bytes};
+ghost use Rattle.pb_tool_program.specs.Libraries.{NotesOf};
+ghost use Rattle.pb_tool_sentences.specs.Libraries.{notes_of};
+
+use pb_build::BuildPlan;
+use pb_build_result::BuildFault;
+use pb_place_types::{Out, write_all};
+use pb_tool_sentences::notes_of;
+use std::alloc::{AllocError, Global};
+
+/// Returns whether no dependency of a plan names a package without a library.
+fn has_libraries(plan: &BuildPlan) -> bool
+    ensures { result ≡ (length plan.now.project.plan.without_library == 0) }
+{
+    plan.project.without_library().is_empty()
+}
+
+/// Returns a line for each package without a library that a dependency of a plan names.
+fn plan_notes(alloc: Global, plan: &BuildPlan) -> Result<String, AllocError>
+    ensures { IfOk result (λ notes. string_bytes notes
+        ≡ notes_of plan.now.project.workspace.packages plan.now.project.plan.without_library) }
+{
+    let packages = plan.project.get().workspace.packages.as_slice();
+    notes_of(alloc, packages, plan.project.without_library())
+}
+
+/// Writes which packages that are depended on have no library, by the build's plan. It writes
+/// nothing if there are none, or if there is no plan: the build then reports why. If memory runs
+/// out, it writes a line that needs no memory.
+pub(crate) fn note<E: Out>(alloc: Global, err: &mut E, plan: &Result<BuildPlan, BuildFault>)
+    ensures { NotesOf plan.now (E.heard err.old) (E.heard err.new) }
+{
+    let plan = match plan {
+        Ok(plan) => plan,
+        Err(_) => return,
+    };
+    if has_libraries(plan) {
+        return;
+    }
+    match plan_notes(alloc, plan) {
+        Ok(notes) => write_all(err, notes.as_bytes()),
+        Err(_) => write_all(
+            err,
+            b"note: out of memory for notes of packages without a library\n",
+        ),
+    };
+}

@@ -1,0 +1,19 @@
+//! The first notes on a build: the sentence of the fault that ends it, as its `Display` writes it, and
+//! packages without a library.
+#![tactic(auto)]
+
+mod details;
+mod fixed;
+mod libraries;
+mod made;
+
+pub use details::detail;
+pub use fixed::{
+    device_sentence, feature_sentence, place_sentence, plan_sentence, profile_sentence,
+    start_sentence,
+};
+pub use libraries::notes_of;
+pub use made::{
+    build_sentence, line_sentence, load_sentence, manifest_sentence, refusal_sentence,
+    unit_sentence,
+};
