@@ -11,7 +11,9 @@ use pb_mini::Mini;
 use pb_place::Memory;
 use pb_place_types::{Out, Over, PathText, Place};
 use pb_tests_files::{Case, Shown, Trial, put_files, try_cases};
-use pb_tool_program::{Colored, Guard, Here, Rendered, Spoken, StatusLine, page_of_errors, run};
+use pb_tool_program::{
+    Colored, Guard, Here, Rendered, Spoken, StatusLine, Witness, page_of_errors, run,
+};
 use std::alloc::{AllocError, Global};
 use std::process::Abort;
 use std::test::Fail;
@@ -59,7 +61,7 @@ fn said_at(alloc: Global, memory: Memory<Mini>, words: &str) -> Result<Vec<u8>, 
         shows_colors: false,
     };
     let mut said = Vec::new(alloc);
-    let mut place = Spoken::new(memory, Over::new(Vec::new(alloc)));
+    let mut place = Witness::new(alloc, Spoken::new(memory, Over::new(Vec::new(alloc))));
     run(
         alloc,
         words.as_slice(),

@@ -20,6 +20,9 @@ use Rattle.pb_tool_notes_pages.specs.Notes.{AreNotes, lines_of}
 use Rattle.pb_tool_sentences.specs.Details.{detail}
 use Rattle.pb_tool_program.specs.Libraries.{NotesOf}
 use Rattle.pb_tool_reasons.specs.Started.{explanation}
+use Rattle.pb_tool_reasons.specs.declared.detail.Detail.{Detail}
+use Rattle.pb_tool_reasons.specs.declared.noted.Noted.{Noted}
+use Rattle.pb_store.specs.declared.difference.Difference.{Difference}
 use Rattle.pb_tool_program.specs.Writing.{Tells, TellsOr}
 
 abbrev pub success_status : Bool → ℕ
@@ -80,13 +83,30 @@ units_if false (Ok plan) = None
 units_if true (Ok plan) = Some (length plan.project.plan.planned)
 units_if explain (Err fault) = None
 
--- What is written about reasons. If reasons are requested and the build ended without a fault, why
--- children were started is written, or that memory ran out for the reasons. In any other case
--- nothing is written.
-abbrev pub TellsReasons : Option ℕ → Result Summary BuildFault → SinkState → SinkState → Type 0
-TellsReasons None answer old new = new ≡ old
-TellsReasons (Some units) (Err fault) old new = new ≡ old
-TellsReasons (Some units) (Ok summary) old new = Tells (explanation units summary) old new ⊎ Tells reasons_lost old new
+-- why the children of these units were started, or that memory ran out for that
+abbrev pub TellsStarted : ℕ → List (List ℕ) → List Difference → List Detail → ℕ → SinkState → SinkState → Type 0
+TellsStarted units keys differences details kept old new = Tells (explanation units keys differences details kept) old new ⊎ Tells reasons_lost old new
+
+-- The reasons of a build of this number of units that ended without a fault. The summary has the
+-- units and what differed. The place has noted how they differ, and nothing is promised about that.
+abbrev pub TellsSummary : ℕ → Summary → SinkState → SinkState → Type 0
+TellsSummary units summary old new = (details : List Detail) × TellsStarted units summary.started summary.differences details (length summary.kept) old new
+
+-- The reasons of a build of this number of units that a fault ended. The place has noted all of
+-- them. If memory ran out for a note, only that is written.
+abbrev pub TellsNotedUnless : Bool → ℕ → Noted → SinkState → SinkState → Type 0
+TellsNotedUnless true units noted old new = Tells reasons_lost old new
+TellsNotedUnless false units noted old new = TellsStarted units noted.started noted.differences noted.details noted.kept old new
+
+abbrev pub TellsNoted : ℕ → Noted → SinkState → SinkState → Type 0
+TellsNoted units noted old new = TellsNotedUnless noted.lost units noted old new
+
+-- What is written about reasons. If they are requested, why children were started is written, or
+-- that memory ran out for the reasons. Else nothing is written.
+abbrev pub TellsReasons : Option ℕ → Result Summary BuildFault → Noted → SinkState → SinkState → Type 0
+TellsReasons None answer noted old new = new ≡ old
+TellsReasons (Some units) (Err fault) noted old new = TellsNoted units noted old new
+TellsReasons (Some units) (Ok summary) noted old new = TellsSummary units summary old new
 
 -- What is written if a build ended without a fault. What a bad unit's child printed is written, if
 -- no message line contains it, or that memory ran out for this output. Without such output nothing
@@ -118,8 +138,9 @@ TellsReport texts old new = TellsOr report_lost (lines_of texts) old new
 -- detail, the place's report, the notes, and the reason of a failure follow.
 pub record Concludes (explain : Option ℕ) (rendered : Bool) (answer : Result Summary BuildFault) (report notes : List (List ℕ)) (status : ℕ) (old new : SinkState) : Type 0 where
   pub told : status ≡ status_of answer
+  pub noted : Noted
   pub explained : SinkState
-  pub reasons : TellsReasons explain answer old explained
+  pub reasons : TellsReasons explain answer noted old explained
   pub repeated : SinkState
   pub said : TellsSaid answer explained repeated
   pub detailed : SinkState

@@ -72,11 +72,12 @@ Explains OutOfMemory status old new said_before said_after = (status ≡ 101) ×
 -- The program.
 
 -- What a build shows beside its lines was set before the build. The place knows if it names its
--- children. The sink of the lines knows if it shows them as text. Both know if they erase a status
--- line. Both sinks of text know if levels have colours.
-abbrev pub IsShownAs : {P O E : Type 0} → (P → Bool → Bool → P → Type 0) → (O → Bool → Bool → Bool → O → Type 0) → (E → Bool → E → Type 0) → P → O → E → Shown → Type 0
-IsShownAs {P} {O} {E} Speaks Shows Colors place out err shown =
-    ((told : P) × Speaks place shown.verbose shown.progress told) × ((told : O) × Shows out shown.render shown.progress shown.colors told)
+-- children, and then if it notes units. The sink of the lines knows if it shows them as text. Place
+-- and sink know if they erase a status line. Both sinks of text know if levels have colours.
+abbrev pub IsShownAs : {P O E : Type 0} → (P → Bool → Bool → P → Type 0) → (P → Bool → P → Type 0) → (O → Bool → Bool → Bool → O → Type 0) → (E → Bool → E → Type 0) → P → O → E → Shown → Type 0
+IsShownAs {P} {O} {E} Speaks Notes Shows Colors place out err shown =
+    ((told : P) × Speaks place shown.verbose shown.progress told × ((noting : P) × Notes told shown.explain noting))
+    × ((told : O) × Shows out shown.render shown.progress shown.colors told)
     × ((told : E) × Colors err shown.colors told)
 
 -- the arguments request this, or they request nothing for this reason

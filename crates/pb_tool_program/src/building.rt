@@ -11,10 +11,11 @@ ghost use Rattle.pb_build_result.specs.declared.fault.BuildFault.{BuildFault};
 ghost use Rattle.pb_build_result.specs.declared.summary.Summary.{Summary};
 ghost use Rattle.pb_tool_notes_pages.specs.Looks.{LooksAgain};
 ghost use Rattle.pb_tool_notes_pages.specs.Notes.{lines_of};
-ghost use Rattle.pb_tool_program.specs.Building.{status_of, moved_lost, moved_note, moved_notes, look_lost, error_of, folder_of, units_if, LooksTwice, TellsDetail, TellsReasons, TellsSaid, TellsWhy, Concludes, BuildsTold};
+ghost use Rattle.pb_tool_program.specs.Building.{status_of, moved_lost, moved_note, moved_notes, look_lost, error_of, folder_of, units_if, LooksTwice, TellsDetail, TellsSaid, TellsWhy, Concludes, BuildsTold};
 ghost use Rattle.pb_tool_program.specs.Guarding.{Guarded, waiting};
 ghost use Rattle.pb_tool_program.specs.Writing.{Tells, TellsOr};
 
+use crate::explaining::explain_to;
 use crate::guard::Guard;
 use crate::libraries::note;
 use crate::reports::{reports_of, tell_report};
@@ -25,9 +26,10 @@ use pb_place_host::Reporting;
 use pb_place_types::{Moved, Out, PathText, Place, write_all};
 use pb_tool_notes::{Notes, notes_on_build, notes_on_features, notes_on_load, notes_on_plan};
 use pb_tool_progress::build_watched;
-use pb_tool_reasons::explanation;
+use pb_tool_reasons::Noted;
 use pb_tool_screen::StatusLine;
 use pb_tool_sentences::detail;
+use pb_tool_witness::Noting;
 use pb_workspace_types::Options;
 use std::alloc::{AllocError, Global};
 
@@ -170,30 +172,6 @@ fn units_if(explain: bool, plan: &Result<BuildPlan, BuildFault>) -> Option<usize
     }
 }
 
-/// Writes why a build of n units started children, if the build ended without a fault and reasons
-/// are requested. If memory runs out for the reasons, a line is written that needs no memory.
-fn explain_to<E: Out>(
-    alloc: Global,
-    err: &mut E,
-    explain: Option<usize>,
-    answer: &Result<Summary, BuildFault>,
-)
-    ensures { TellsReasons explain answer.now (E.heard err.old) (E.heard err.new) }
-{
-    let units = match explain {
-        Some(units) => units,
-        None => return,
-    };
-    let summary = match answer {
-        Ok(summary) => summary,
-        Err(_) => return,
-    };
-    match explanation(alloc, summary, units) {
-        Ok(text) => write_all(err, text.as_bytes()),
-        Err(_) => write_all(err, b"note: out of memory for the reasons\n"),
-    };
-}
-
 /// Writes what the child of a build's bad unit printed that no message line contains, if anything.
 /// If memory runs out for that, it writes a line that needs no memory.
 fn repeat_to<E: Out>(alloc: Global, err: &mut E, answer: &Result<Summary, BuildFault>)
@@ -284,13 +262,14 @@ pub(crate) fn conclude<E: Out>(
     explain: Option<usize>,
     rendered: bool,
     answer: &Result<Summary, BuildFault>,
+    noted: &Noted,
     report: &[Text],
     notes: &Notes,
 ) -> u8
     ensures { Concludes explain rendered answer.now report.now notes.now result
         (E.heard err.old) (E.heard err.new) }
 {
-    explain_to(alloc, err, explain, answer);
+    explain_to(alloc, err, explain, answer, noted);
     repeat_to(alloc, err, answer);
     tell_detail(alloc, err, rendered, answer);
     tell_report(alloc, err, report);
@@ -308,7 +287,7 @@ pub(crate) fn conclude<E: Out>(
 ///   library that an enabled dependency names; PATH is its manifest.
 /// - After it, what was changed while a unit was built that read it; the next build builds that
 ///   unit again.
-/// - If requested, why each child was started.
+/// - If requested, why each child was started: after a fault too, as far as the place has noted it.
 /// - What the child of a bad unit printed that no message line contains.
 /// - The sentence of the fault; and where a compiler's messages are, if it failed and they were not
 ///   rendered.
@@ -321,7 +300,7 @@ pub(crate) fn conclude<E: Out>(
 ///
 /// If the status line is on, it shows each unit that begins. The status line changes nothing else,
 /// and the contract says nothing about it.
-pub fn build_options<P: Place + Reporting, G: Guard<P, E>, O: Out, E: Out, L: Out>(
+pub fn build_options<P: Noting + Reporting, G: Guard<P, E>, O: Out, E: Out, L: Out>(
     alloc: Global,
     place: &mut P,
     guard: &mut G,
@@ -349,5 +328,14 @@ pub fn build_options<P: Place + Reporting, G: Guard<P, E>, O: Out, E: Out, L: Ou
     notes.texts();
     mark(alloc, err, place.moved_paths());
     let report = reports_of(place, &answer);
-    conclude(alloc, err, units, rendered, &answer, report, &notes)
+    conclude(
+        alloc,
+        err,
+        units,
+        rendered,
+        &answer,
+        place.noted(),
+        report,
+        &notes,
+    )
 }

@@ -19,6 +19,7 @@ use pb_place_types::{Out, PathText, Place, write_all};
 use pb_profile::ProfileFault;
 use pb_tool_clean::{Choice, CleanFault, Wanted, clean, find};
 use pb_tool_notes::Notes;
+use pb_tool_reasons::Noted;
 use pb_unit::PlanFault;
 use pb_workspace_types::Options;
 use std::alloc::{AllocError, Global};
@@ -99,7 +100,16 @@ fn tell_fault<P: Place + Reporting, E: Out>(
     let answer = Err(fault);
     let report = reports_of(place, &answer);
     let notes = Notes::new(alloc);
-    conclude(alloc, err, None, true, &answer, report, &notes)
+    conclude(
+        alloc,
+        err,
+        None,
+        true,
+        &answer,
+        &Noted::new(alloc),
+        report,
+        &notes,
+    )
 }
 
 /// Writes how a removal ended, unless all is removed, and returns the status.

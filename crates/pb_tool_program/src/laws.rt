@@ -6,10 +6,11 @@ ghost use Rattle.pb_tool_program.specs.Shown.{ShownChangesNothing};
 
 use crate::guard::Guard;
 use pb_tool_screen::{Coloring, Screen, Speaking};
+use pb_tool_witness::Noting;
 
 /// Whatever is shown of a build beside its lines, the build itself is the same. Its status, its
 /// lines, the children that it starts and the files that it leaves do not change.
-pub fn shown_changes_nothing<P: Speaking, G: Guard<P, E>, O: Screen, E: Coloring>()
+pub fn shown_changes_nothing<P: Speaking + Noting, G: Guard<P, E>, O: Screen, E: Coloring>()
     ensures { ShownChangesNothing P.is_modelled P.child (Guarded G.asks G.waits)
-        (IsShownAs P.speaks O.shows E.colors) }
+        (IsShownAs P.speaks P.notes O.shows E.colors) }
 {}

@@ -4,6 +4,7 @@
 
 mod building;
 mod cleaning;
+mod explaining;
 mod folder_lock;
 mod guard;
 mod laws;
@@ -26,6 +27,7 @@ pub use pb_place_host::HostPlace;
 pub use pb_tool_arguments::{Here, PlanForm};
 pub use pb_tool_explain::page_of_errors;
 pub use pb_tool_screen::{Colored, Rendered, Spoken, StatusLine};
+pub use pb_tool_witness::{Noted, Noting, Witness};
 pub use planning::plan_options;
 pub use previewing::preview_options;
 pub use running::run;

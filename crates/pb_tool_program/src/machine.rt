@@ -8,6 +8,7 @@ use pb_place_types::{Over, PathFault, PathText, write_all};
 use pb_tool_arguments::Here;
 use pb_tool_explain::page_of_errors;
 use pb_tool_screen::{Colored, Counted, Rendered, Spoken, StatusLine};
+use pb_tool_witness::Witness;
 use std::env::VarError;
 use std::io::{ErrorKind, IsTerminal};
 use std::time::{Duration, Instant};
@@ -108,7 +109,10 @@ pub fn tool(rt: &HostRuntime) -> u8 {
         words.as_slice(),
         &here,
         &page_of_errors(),
-        &mut Spoken::new(HostPlace::new(rt.alloc(), rt), Over::new(rt.stderr())),
+        &mut Witness::new(
+            rt.alloc(),
+            Spoken::new(HostPlace::new(rt.alloc(), rt), Over::new(rt.stderr())),
+        ),
         &mut FolderLock::new(rt),
         &mut Rendered::new(
             rt.alloc(),

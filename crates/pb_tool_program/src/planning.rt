@@ -13,6 +13,7 @@ use pb_place_host::Reporting;
 use pb_place_types::{Out, Place, write_all};
 use pb_tool_arguments::PlanForm;
 use pb_tool_plan::{plan_dot, plan_json, plan_lines};
+use pb_tool_reasons::Noted;
 use pb_unit::Plan;
 use pb_workspace_types::Options;
 use std::alloc::{AllocError, Global};
@@ -93,7 +94,16 @@ pub(crate) fn fail<P: Place + Reporting, E: Out>(
     // For the proof: they are at most ten lines.
     notes.texts();
     let report = reports_of(place, &answer);
-    conclude(alloc, err, None, true, &answer, report, &notes)
+    conclude(
+        alloc,
+        err,
+        None,
+        true,
+        &answer,
+        &Noted::new(alloc),
+        report,
+        &notes,
+    )
 }
 
 /// Prints the plan of a build in a form, and returns the status. The status is 0, or 101 if there

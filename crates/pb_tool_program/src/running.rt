@@ -17,6 +17,7 @@ use pb_place_types::{Out, PathText, Place, write_all};
 use pb_tool_arguments::{ArgumentsError, Here, Invocation, Shown, read_command_line};
 use pb_tool_explain::Page;
 use pb_tool_screen::{Coloring, Screen, Speaking, StatusLine};
+use pb_tool_witness::Noting;
 use pb_workspace_types::Options;
 use std::alloc::Global;
 use std::convert::AsStr;
@@ -71,7 +72,7 @@ fn explain<O: Out, E: Out>(unasked: &ArgumentsError, out: &mut O, err: &mut E) -
 }
 
 /// Sets what the place and the sinks show of a build, and builds.
-fn build<P: Speaking, G: Guard<P, E>, O: Screen, E: Coloring, L: Out>(
+fn build<P: Speaking + Noting, G: Guard<P, E>, O: Screen, E: Coloring, L: Out>(
     alloc: Global,
     place: &mut P,
     guard: &mut G,
@@ -82,13 +83,14 @@ fn build<P: Speaking, G: Guard<P, E>, O: Screen, E: Coloring, L: Out>(
     shown: Shown,
 ) -> u8
     requires none { (P.at place.old).counts.starts.flying ≡ [] }
-    ensures told { IsShownAs P.speaks O.shows E.colors place.old out.old err.old shown }
+    ensures told { IsShownAs P.speaks P.notes O.shows E.colors place.old out.old err.old shown }
     ensures builds { BuildsTold P.is_modelled P.child (Guarded G.asks G.waits guard.old guard.new)
         (P.at place.new).moved options.now shown.explain shown.render result
         (moment (P.at place.old) (O.heard out.old)) (moment (P.at place.new) (O.heard out.new))
         (E.heard err.old) (E.heard err.new) }
 {
     place.speak(shown.verbose, shown.progress);
+    place.note_units(alloc, shown.explain);
     out.show(shown.render, shown.progress, shown.colors);
     err.color(shown.colors);
     line.switch(shown.progress, shown.counts);
@@ -119,7 +121,7 @@ fn build<P: Speaking, G: Guard<P, E>, O: Screen, E: Coloring, L: Out>(
 /// - 1 for a bad command line, and for a name that the page does not have;
 /// - 0 if help or a name's meaning was requested, 1 if it cannot be written;
 /// - 101 if memory runs out before.
-pub fn run<S: AsStr, P: Speaking, G: Guard<P, E>, O: Screen, E: Coloring, L: Out>(
+pub fn run<S: AsStr, P: Speaking + Noting, G: Guard<P, E>, O: Screen, E: Coloring, L: Out>(
     alloc: Global,
     words: &[S],
     here: &Here,
@@ -132,7 +134,7 @@ pub fn run<S: AsStr, P: Speaking, G: Guard<P, E>, O: Screen, E: Coloring, L: Out
 ) -> u8
     requires none { (P.at place.old).counts.starts.flying ≡ [] }
     ensures { Runs P.is_modelled P.child (Guarded G.asks G.waits guard.old guard.new)
-        (IsShownAs P.speaks O.shows E.colors place.old out.old err.old)
+        (IsShownAs P.speaks P.notes O.shows E.colors place.old out.old err.old)
         page.now (P.at place.new).moved
         (map S.text words.now) here.now result
         (moment (P.at place.old) (O.heard out.old)) (moment (P.at place.new) (O.heard out.new))

@@ -3,27 +3,48 @@
 ghost use Rattle.std.specs.Prelude.{◌≡◌, ◌++◌, ◌∷◌, [], IfOk, OnOk, string_bytes};
 ghost use Rattle.std.specs.List.{list_all};
 ghost use Rattle.std.specs.Option.{option_copied};
-ghost use Rattle.pb_tool_reasons.specs.Started.{counts_line, explanation, is_tool, note_if, row_if, rows_of, started_row, tool_note};
+ghost use Rattle.pb_tool_reasons.specs.Started.{counts_line, detail_or, explanation, is_tool, note_if, row_if, rows_of, started_row, tool_note};
 ghost use Rattle.pb_tool_reasons.specs.declared.grouping.Row.{Row};
 
+use crate::detail::Detail;
 use crate::grouping::{Row, group_rows};
-use crate::wording::{if_some, reason};
-use pb_build_result::Summary;
+use crate::wording::{if_some, reason_with};
 use pb_data::{Items, Text, TryCopy};
 use pb_store::Difference;
 use std::alloc::{AllocError, Global};
 
 /// Returns the row of a unit whose child was started.
-fn started_row(alloc: Global, key: &Text, difference: &Difference) -> Result<Row, AllocError>
-    ensures { IfOk result (λ row. row ≡ started_row key.now difference.now) }
+fn started_row(
+    alloc: Global,
+    key: &Text,
+    difference: &Difference,
+    detail: &Detail,
+) -> Result<Row, AllocError>
+    ensures { IfOk result (λ row. row ≡ started_row key.now difference.now detail.now) }
 {
     let mut said = String::from_str(alloc, "started, since ")?;
-    let reason = reason(alloc, difference)?;
+    let reason = reason_with(alloc, difference, detail)?;
     said.push_str(reason.as_str())?;
     Ok(Row {
         key: key.copy(alloc)?,
         said: Text::new(said),
     })
+}
+
+/// Returns the row of a unit whose child was started, with a detail, if there is one.
+fn row_with(
+    alloc: Global,
+    key: &Text,
+    difference: &Difference,
+    detail: Option<&Detail>,
+) -> Result<Row, AllocError>
+    ensures { IfOk result (λ row. row
+        ≡ started_row key.now difference.now (detail_or (option_copied detail.entry))) }
+{
+    match detail {
+        Some(detail) => started_row(alloc, key, difference, detail),
+        None => started_row(alloc, key, difference, &Detail::Nothing),
+    }
 }
 
 /// Adds the row of a unit whose child was started, if it is known what differed.
@@ -32,12 +53,13 @@ fn push_row(
     rows: &mut Items<Row>,
     key: &Text,
     difference: Option<&Difference>,
+    detail: Option<&Detail>,
 ) -> Result<(), AllocError>
     ensures { OnOk result (rows.new ≡ rows.old
-        ++ row_if key.now (option_copied difference.entry)) }
+        ++ row_if key.now (option_copied difference.entry) (option_copied detail.entry)) }
 {
     match difference {
-        Some(difference) => rows.push(started_row(alloc, key, difference)?),
+        Some(difference) => rows.push(row_with(alloc, key, difference, detail)?),
         None => Ok(()),
     }
 }
@@ -47,12 +69,19 @@ fn rows_of(
     alloc: Global,
     keys: &[Text],
     differences: &[Difference],
+    details: &[Detail],
 ) -> Result<Items<Row>, AllocError>
-    ensures { IfOk result (λ rows. rows ≡ rows_of keys.now differences.now) }
+    ensures { IfOk result (λ rows. rows ≡ rows_of keys.now differences.now details.now) }
 {
     let mut rows = Items::new(alloc);
     for index in 0..keys.len() {
-        push_row(alloc, &mut rows, &keys[index], differences.get(index))?;
+        push_row(
+            alloc,
+            &mut rows,
+            &keys[index],
+            differences.get(index),
+            details.get(index),
+        )?;
     }
     Ok(rows)
 }
@@ -112,28 +141,31 @@ fn tool_note(differences: &[Difference]) -> &'static str
     }
 }
 
-/// Returns why a build of n units started children. Each unit whose child was started has a line,
-/// in the order of these starts, with its key and its first difference. Five or more units with one
-/// reason have one line together. Then come the numbers of units that were started, that were
-/// replayed from their records, and that did not begin, if any. A note before this line says what
-/// `CARGO` is, if that alone is known to differ. Each line ends with a line feed. The words are our
-/// own choice.
+/// Returns why a build of so many units started the children of the units with these keys. Each
+/// line has a unit's key, what differed first and, if it is known, how. The lines are in order of
+/// starting. Five or more units with the same reason have one line.
+///
+/// The last line has how many units were started, how many were kept, and how many did not begin,
+/// if any. A note before this line says what `CARGO` is, if only `CARGO` is known to differ. Each
+/// line ends with a line feed. The words are our own choice.
 ///
 /// Errors: out of memory.
-pub fn explanation(alloc: Global, summary: &Summary, units: usize) -> Result<String, AllocError>
-    ensures { IfOk result (λ text. string_bytes text ≡ explanation units summary.now) }
+pub fn explanation(
+    alloc: Global,
+    keys: &[Text],
+    differences: &[Difference],
+    details: &[Detail],
+    kept: usize,
+    units: usize,
+) -> Result<String, AllocError>
+    ensures { IfOk result (λ text. string_bytes text
+        ≡ explanation units keys.now differences.now details.now kept) }
 {
-    let rows = rows_of(
-        alloc,
-        summary.started.as_slice(),
-        summary.differences.as_slice(),
-    )?;
+    let rows = rows_of(alloc, keys, differences, details)?;
     let mut text = group_rows(alloc, rows.as_slice())?;
-    text.push_str(tool_note(summary.differences.as_slice()))?;
-    let started = summary.started.len();
-    let kept = summary.kept.len();
-    let unreached = units.saturating_sub(started).saturating_sub(kept);
-    let counts = counts_line(alloc, started, kept, unreached)?;
+    text.push_str(tool_note(differences))?;
+    let unreached = units.saturating_sub(keys.len()).saturating_sub(kept);
+    let counts = counts_line(alloc, keys.len(), kept, unreached)?;
     text.push_str(counts.as_str())?;
     Ok(text)
 }

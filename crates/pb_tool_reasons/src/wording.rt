@@ -1,8 +1,10 @@
 //! The words for a difference.
 
-ghost use Rattle.std.specs.Prelude.{◌≡◌, ◌++◌, IfOk, string_bytes};
-ghost use Rattle.pb_tool_reasons.specs.Reasons.{if_some, part, reason};
+ghost use Rattle.std.specs.Prelude.{◌≡◌, ◌++◌, IfOk, codes, nat_lt, string_bytes};
+ghost use Rattle.pb_tool_reasons.specs.Reasons.{is_plain, changed_reason, if_some, part, reason, reason_with, word_reason};
 
+use crate::detail::Detail;
+use pb_data::Text;
 use pb_record::InputName;
 use pb_store::{CommandPart, Difference};
 use std::alloc::{AllocError, Global};
@@ -44,6 +46,85 @@ pub fn reason(alloc: Global, difference: &Difference) -> Result<String, AllocErr
         Difference::Input(InputName::Path(path)) => both(alloc, path.as_str(), " has changed"),
         Difference::Input(InputName::Variable(name)) => both(alloc, name.as_str(), " has changed"),
         Difference::Dependency(key) => both(alloc, key.as_str(), " was built again"),
+    }
+}
+
+/// Returns the name of something, and what has become of it.
+fn named(alloc: Global, name: &str, text: &Text) -> Result<String, AllocError>
+    ensures { IfOk result (λ said. string_bytes said ≡ name.now ++ codes " " ++ text.now) }
+{
+    let mut said = String::from_str(alloc, name)?;
+    said.push_str(" ")?;
+    said.push_str(text.as_str())?;
+    Ok(said)
+}
+
+/// Returns whether a byte is no ASCII control character below the blank.
+fn is_plain_byte(byte: u8) -> bool
+    ensures { result ≡ nat_lt 31 byte }
+{
+    31 < byte
+}
+
+/// Returns whether a text has no such character, so no line feed.
+fn is_plain(text: &Text) -> bool
+    ensures { result ≡ is_plain text.now }
+{
+    text.as_bytes().iter().all(|byte| is_plain_byte(*byte))
+}
+
+/// Returns why a unit's child was started, with what has become of the thing that differs.
+fn changed_reason(alloc: Global, difference: &Difference, text: &Text) -> Result<String, AllocError>
+    ensures { IfOk result (λ said. string_bytes said ≡ changed_reason difference.now text.now) }
+{
+    match difference {
+        Difference::Command(changed) => named(alloc, part(*changed), text),
+        Difference::Pair(name) => named(alloc, name.as_str(), text),
+        Difference::Input(InputName::Path(path)) => named(alloc, path.as_str(), text),
+        Difference::Input(InputName::Variable(name)) => named(alloc, name.as_str(), text),
+        Difference::NoRecord => reason(alloc, difference),
+        Difference::Dependency(_) => reason(alloc, difference),
+    }
+}
+
+/// Returns why a unit's child was started, with the word of its command that differs.
+fn word_reason(alloc: Global, difference: &Difference, text: &Text) -> Result<String, AllocError>
+    ensures { IfOk result (λ said. string_bytes said ≡ word_reason difference.now text.now) }
+{
+    match difference {
+        Difference::Command(CommandPart::Words) => String::from_str(alloc, text.as_str()),
+        _ => reason(alloc, difference),
+    }
+}
+
+/// Returns why a unit's child was started, and how the thing differs, if that is known and its text
+/// stays on one line.
+///
+/// Errors: out of memory.
+pub fn reason_with(
+    alloc: Global,
+    difference: &Difference,
+    detail: &Detail,
+) -> Result<String, AllocError>
+    ensures { IfOk result (λ text. string_bytes text ≡ reason_with difference.now detail.now) }
+{
+    match detail {
+        Detail::Nothing => reason(alloc, difference),
+        Detail::Unseen => String::from_str(alloc, "something differs from its record"),
+        Detail::Word(text) => {
+            if is_plain(text) {
+                word_reason(alloc, difference, text)
+            } else {
+                reason(alloc, difference)
+            }
+        }
+        Detail::Became(text) => {
+            if is_plain(text) {
+                changed_reason(alloc, difference, text)
+            } else {
+                reason(alloc, difference)
+            }
+        }
     }
 }
 

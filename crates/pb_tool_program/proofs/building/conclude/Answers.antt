@@ -3,6 +3,7 @@ use Rattle.pb_tool_program.proofs.building.conclude.Goals as goal
 pub returns : goal.returns
 returns g c = record {
   told = c.status_of-status.ensures;
+  noted = c.args.noted.now;
   explained = (g.E.Out.heard c.explain_to.new.err);
   reasons = c.explain_to.ensures;
   repeated = (g.E.Out.heard c.repeat_to.new.err);

@@ -1,0 +1,106 @@
+//! What was noted of the units of a build during it.
+
+use crate::detail::Detail;
+use pb_data::{Items, Text, TryCopy};
+use pb_record::InputName;
+use pb_store::Difference;
+use std::alloc::Global;
+
+/// What was noted of the units of a build, so that it is known after a fault too.
+#[derive(Drop)]
+pub struct Noted {
+    /// The keys of the units whose child was started, in order.
+    pub started: Items<Text>,
+    /// The first difference of each of them.
+    pub differences: Items<Difference>,
+    /// How each of them differs.
+    pub details: Items<Detail>,
+    /// How many units have begun and were kept.
+    pub kept: usize,
+    /// Whether memory ran out for a note. All other fields may then lack something.
+    pub lost: bool,
+}
+
+impl Noted {
+    /// Returns notes of a build in which nothing has begun. It takes no memory.
+    pub fn new(alloc: Global) -> Noted {
+        Noted {
+            started: Items::new(alloc),
+            differences: Items::new(alloc),
+            details: Items::new(alloc),
+            kept: 0,
+            lost: false,
+        }
+    }
+}
+
+/// Returns whether two inputs have the same name.
+fn is_same_name(name: &InputName, other: &InputName) -> bool {
+    match (name, other) {
+        (InputName::Path(path), InputName::Path(other)) => path.as_str() == other.as_str(),
+        (InputName::Variable(name), InputName::Variable(other)) => name.as_str() == other.as_str(),
+        _ => false,
+    }
+}
+
+/// Returns whether two differences are the same.
+fn is_same(difference: &Difference, other: &Difference) -> bool {
+    match (difference, other) {
+        (Difference::NoRecord, Difference::NoRecord) => true,
+        (Difference::Command(part), Difference::Command(other)) => part == other,
+        (Difference::Pair(name), Difference::Pair(other)) => name.as_str() == other.as_str(),
+        (Difference::Input(name), Difference::Input(other)) => is_same_name(name, other),
+        (Difference::Dependency(key), Difference::Dependency(other)) => {
+            key.as_str() == other.as_str()
+        }
+        _ => false,
+    }
+}
+
+/// Returns whether a unit and its difference are noted at an index of those that were started.
+fn is_noted(noted: &Noted, index: usize, key: &Text, difference: &Difference) -> bool {
+    let own_key = noted.started.as_slice().get(index);
+    let own_difference = noted.differences.as_slice().get(index);
+    match (own_key, own_difference) {
+        (Some(own_key), Some(own_difference)) => {
+            own_key.as_str() == key.as_str() && is_same(own_difference, difference)
+        }
+        _ => false,
+    }
+}
+
+/// Returns the detail at an index of the units that were started, if it is noted for this unit and
+/// this difference. Returns nothing if it is not, or if memory runs out for the detail.
+fn detail_at(
+    alloc: Global,
+    noted: &Noted,
+    index: usize,
+    key: &Text,
+    difference: &Difference,
+) -> Detail {
+    if !is_noted(noted, index, key, difference) {
+        return Detail::Nothing;
+    }
+    match noted.details.as_slice().get(index) {
+        Some(detail) => detail.copy(alloc).unwrap_or(Detail::Nothing),
+        None => Detail::Nothing,
+    }
+}
+
+/// Returns a detail for each of these units, which were started for these differences. If memory
+/// runs out, the list is shorter. Contracts promise nothing about details: they are for people.
+pub fn details_for(
+    alloc: Global,
+    noted: &Noted,
+    keys: &[Text],
+    differences: &[Difference],
+) -> Items<Detail> {
+    let mut details = Items::new(alloc);
+    for (index, (key, difference)) in keys.iter().zip(differences.iter()).enumerate() {
+        let detail = detail_at(alloc, noted, index, key, difference);
+        if details.push(detail).is_err() {
+            break;
+        }
+    }
+    details
+}

@@ -1,0 +1,49 @@
+//! The first difference of a unit whose child is started, and how it differs.
+
+use crate::command::command_differs;
+use crate::comparison::Comparison;
+use pb_data::{Table, Text, TryCopy};
+use pb_place_types::Command;
+use pb_record::Needed;
+use pb_store::{Difference, first_number};
+use pb_tool_reasons::Detail;
+use std::alloc::{AllocError, Global};
+
+/// Returns the first needed unit that is not as the record names it. A record of format 1 names
+/// files: the folder of the first unit that differs is the one that was listed last.
+fn first_need(
+    alloc: Global,
+    numbers: &Table<Option<u64>>,
+    needed: &Needed,
+    listed: &Option<Text>,
+) -> Result<Option<Text>, AllocError> {
+    match (needed, listed) {
+        (Needed::Numbers(_, needs), _) => first_number(alloc, numbers, needs.as_slice()),
+        (Needed::Copies(_), Some(key)) => Ok(Some(key.copy(alloc)?)),
+        (Needed::Copies(_), None) => Ok(None),
+    }
+}
+
+/// Returns the first difference of a unit whose child is started, and how it differs. `numbers` has
+/// the number of the record of each unit that has begun, or none for a unit whose child was
+/// started.
+pub(crate) fn differs(
+    alloc: Global,
+    comparison: &mut Comparison,
+    numbers: &Table<Option<u64>>,
+    command: &Command,
+) -> Result<(Difference, Detail), AllocError> {
+    let Some(kept) = &comparison.kept else {
+        return Ok((Difference::NoRecord, Detail::Nothing));
+    };
+    if let Some(seen) = command_differs(alloc, &kept.asked, command)? {
+        return Ok(seen);
+    }
+    if let Some(seen) = comparison.found.take() {
+        return Ok(seen);
+    }
+    match first_need(alloc, numbers, &kept.needed, &comparison.listed)? {
+        Some(key) => Ok((Difference::Dependency(key), Detail::Nothing)),
+        None => Ok((Difference::NoRecord, Detail::Unseen)),
+    }
+}
