@@ -7,6 +7,8 @@ NOTES = (b"note: out of memory", b"note: out of memory for what the fault is abo
 ERRORS = (b"error: fault memory OutOfMemory", b"error: out of memory for why the build failed")
 # The second of each is said if memory for the first is refused too. So the first pair comes first.
 MEMORY = [note + b"\n" + error for note in NOTES for error in ERRORS]
+# What `--explain` says at its end, or where memory for it is refused.
+EXPLAINED = re.compile(rb"(\d+ started, \d+ kept(, \d+ not reached)?|note: out of memory for the reasons)")
 
 
 def manifest(name, more=""):
@@ -46,13 +48,13 @@ def put(path, text):
         it.write(text)
 
 
-def built(work, more=()):
-    """A build of the workspace in a folder: its status, its lines and the last line on standard error."""
-    words = [program, "build", "--manifest-path", f"{work}/Cargo.toml", "--runner", f"{compiler} --run"]
+def built(work, more=(), options=()):
+    """A build of the workspace in a folder: its status, its lines and those on standard error."""
+    words = [program, "build", "--manifest-path", f"{work}/Cargo.toml", "--runner", f"{compiler} --run", *options]
     said = {"PATH": os.environ["PATH"], "RUSTC": compiler, **dict(more)}
     ran = subprocess.run(words, env=said, stdin=subprocess.DEVNULL, capture_output=True, timeout=120)
     lines = ran.stdout.replace(work.encode(), b"/w").splitlines(keepends=True)
-    return ran.returncode, lines, ran.stderr.rstrip(b"\n").rpartition(b"\n")[2]
+    return ran.returncode, lines, ran.stderr.rstrip(b"\n").split(b"\n")
 
 
 def alike(lines):
@@ -78,16 +80,19 @@ def again(work, before):
         shutil.copytree(before, f"{work}/target")
 
 
-def wrong_in(work, before, number, on, right, clean, files):
+def wrong_in(work, before, number, on, options, right, clean, files):
     """What is wrong where this allocation is refused, or nothing; and what came."""
     again(work, before)
     more = {"LD_PRELOAD": f"{folder}/failing.so", "FAILING_ALLOCATION": str(number), **({"FROM_THEN_ON": "1"} if on else {})}
-    status, lines, said = built(work, more)
+    status, lines, said = built(work, more, options)
+    last = b"\n".join(said[-2:])
+    if options and lines and not any(EXPLAINED.fullmatch(line) for line in said):
+        return f"allocation {number}: status {status}, explains nothing: {said!r}"[:900], "wrong"
     if (status, lines) == (0, right):
         came = "right"
-    elif status == 101 and said in MEMORY[: 4 if on else 1] and not lines:
+    elif status == 101 and last in MEMORY[: 4 if on else 1] and not lines:
         came = "before"
-    elif status == 101 and said in MEMORY[: 4 if on else 1] and lines[-1] == FAILED and lines[:-1] == right[: len(lines) - 1] and len(lines) <= len(right):
+    elif status == 101 and last in MEMORY[: 4 if on else 1] and lines[-1] == FAILED and lines[:-1] == right[: len(lines) - 1] and len(lines) <= len(right):
         came = "memory"
     else:
         return f"allocation {number}: status {status}, says {said!r}, writes {lines!r}"[:900], "wrong"
@@ -100,7 +105,7 @@ def wrong_in(work, before, number, on, right, clean, files):
     return "", came
 
 
-def case(name, edited, on):
+def case(name, edited, on, options=()):
     files, edit = WORKSPACES[name]
     free = queue.Queue()
     for number in range(int(workers)):
@@ -121,7 +126,7 @@ def case(name, edited, on):
     assert status == 0, said
     clean, whole = alike(clean), made_in(work)
     again(work, before(work))
-    status, right, said = built(work, {"LD_PRELOAD": f"{folder}/failing.so", "ALLOCATIONS_FILE": f"{folder}/count"})
+    status, right, said = built(work, {"LD_PRELOAD": f"{folder}/failing.so", "ALLOCATIONS_FILE": f"{folder}/count"}, options)
     assert status == 0 and alike(right) == clean, said
     with open(f"{folder}/count") as it:
         count = int(it.read())
@@ -129,14 +134,14 @@ def case(name, edited, on):
     def tried(number):
         mine = free.get()
         try:
-            return wrong_in(mine, before(mine), number, on, right, clean, whole)
+            return wrong_in(mine, before(mine), number, on, options, right, clean, whole)
         finally:
             free.put(mine)
 
     with ThreadPoolExecutor(int(workers)) as pool:
         found = list(pool.map(tried, range(1, count + 2, int(every))))
     of = {kind: sum(it[1] == kind for it in found) for kind in ("right", "memory", "before", "wrong")}
-    how = ("after an edit" if edited else "from nothing") + (", all that follow too" if on else "")
+    how = ", ".join(["after an edit" if edited else "from nothing", *options, *(["all that follow too"] if on else [])])
     print(f"| {name}, {how} | {count} | {len(found)} | {of['memory']} | {of['before']} | {of['right']} | {of['wrong']} |", flush=True)
     for words in [it[0] for it in found if it[0]][:3]:
         print(words, flush=True)
@@ -146,6 +151,7 @@ def case(name, edited, on):
 
 
 print("| workspace | allocations | tried | memory | before | right | wrong |\n|---|---|---|---|---|---|---|")
-bad = sum(case(name, edited, on) for name in WORKSPACES if only in name for edited in (False, True) for on in (False, True))
+HOW = [(edited, on) for edited in (False, True) for on in (False, True)] + [(True, on, ["--explain"]) for on in (False, True)]
+bad = sum(case(name, *how) for name in WORKSPACES if only in name for how in HOW)
 print(f"{bad} outcomes were wrong")
 sys.exit(min(bad, 1))

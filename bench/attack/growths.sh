@@ -1,7 +1,8 @@
 #!/usr/bin/env bash
 # Refuses the builder each allocation in turn, on real files with the small compiler: that allocation alone, and it
 # with all that follow. The workspaces are those of three example sessions: `one_library`, `feature_on_two_sides`, and the
-# two members of `reuse_edits_of_members`. Each is built into an empty target folder, and after an edit.
+# two members of `reuse_edits_of_members`. Each is built into an empty target folder, and after an edit; after the edit also
+# with `--explain`.
 # `failing.sh` does the same in memory, for all example sessions.
 #
 # A build whose memory was refused must print one of these:
@@ -10,6 +11,8 @@
 # - the first whole lines, the failing finish line, `note: out of memory` and `error: fault memory OutOfMemory`, with status 101 (or the line that
 #   needs no memory, if all allocations that follow are refused too)
 # - that note and that error alone, if memory was refused before the first line
+#
+# With `--explain`, a build that prints a line must also say how many units it started, or that memory ran out for that.
 #
 # The next build, with memory, must print the lines of a clean build except for `fresh`. The folder of each unit must have
 # the files that a clean build leaves. A third build must start nothing.
