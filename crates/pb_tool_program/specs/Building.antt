@@ -83,16 +83,17 @@ units_if false (Ok plan) = None
 units_if true (Ok plan) = Some (length plan.project.plan.planned)
 units_if explain (Err fault) = None
 
--- why the children of these units were started, or that memory ran out for that
+-- why the children of these units were started, or that memory ran out for the reasons
 abbrev pub TellsStarted : ℕ → List (List ℕ) → List Difference → List Detail → ℕ → SinkState → SinkState → Type 0
 TellsStarted units keys differences details kept old new = Tells (explanation units keys differences details kept) old new ⊎ Tells reasons_lost old new
 
--- The reasons of a build of this number of units that ended without a fault. The summary has the
--- units and what differed. The place has noted how they differ, and nothing is promised about that.
+-- The reasons of a build with this number of units that ended without a fault. The summary has the
+-- started units and what differed. The place has noted how it differs, and nothing is promised about
+-- these details.
 abbrev pub TellsSummary : ℕ → Summary → SinkState → SinkState → Type 0
 TellsSummary units summary old new = (details : List Detail) × TellsStarted units summary.started summary.differences details (length summary.kept) old new
 
--- The reasons of a build of this number of units that a fault ended. The place has noted all of
+-- The reasons of a build with this number of units that a fault ended. The place has noted all of
 -- them. If memory ran out for a note, only that is written.
 abbrev pub TellsNotedUnless : Bool → ℕ → Noted → SinkState → SinkState → Type 0
 TellsNotedUnless true units noted old new = Tells reasons_lost old new
@@ -101,8 +102,8 @@ TellsNotedUnless false units noted old new = TellsStarted units noted.started no
 abbrev pub TellsNoted : ℕ → Noted → SinkState → SinkState → Type 0
 TellsNoted units noted old new = TellsNotedUnless noted.lost units noted old new
 
--- What is written about reasons. If they are requested, why children were started is written, or
--- that memory ran out for the reasons. Else nothing is written.
+-- What is written if the reasons of a build with this number of units are requested: why children
+-- were started, or that memory ran out for the reasons. In any other case nothing is written.
 abbrev pub TellsReasons : Option ℕ → Result Summary BuildFault → Noted → SinkState → SinkState → Type 0
 TellsReasons None answer noted old new = new ≡ old
 TellsReasons (Some units) (Err fault) noted old new = TellsNoted units noted old new

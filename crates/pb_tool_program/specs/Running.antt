@@ -72,8 +72,8 @@ Explains OutOfMemory status old new said_before said_after = (status ≡ 101) ×
 -- The program.
 
 -- What a build shows beside its lines was set before the build. The place knows if it names its
--- children, and then if it notes units. The sink of the lines knows if it shows them as text. Place
--- and sink know if they erase a status line. Both sinks of text know if levels have colours.
+-- children, and if it notes units. The sink of the lines knows if it shows them as text. Place and
+-- sink know if they erase a status line. Both sinks of text know if levels have colours.
 abbrev pub IsShownAs : {P O E : Type 0} → (P → Bool → Bool → P → Type 0) → (P → Bool → P → Type 0) → (O → Bool → Bool → Bool → O → Type 0) → (E → Bool → E → Type 0) → P → O → E → Shown → Type 0
 IsShownAs {P} {O} {E} Speaks Notes Shows Colors place out err shown =
     ((told : P) × Speaks place shown.verbose shown.progress told × ((noting : P) × Notes told shown.explain noting))

@@ -4,7 +4,7 @@ use Rattle.std.specs.Fmt.{decimal}
 use Rattle.std.specs.List.{list_all}
 use Rattle.pb_record.specs.declared.record.InputName.TheVariants.{Path, Variable}
 use Rattle.pb_tool_reasons.specs.declared.detail.Detail.{Detail}
-use Rattle.pb_tool_reasons.specs.declared.detail.Detail.TheVariants.{Nothing, Unseen, Word, Became}
+use Rattle.pb_tool_reasons.specs.declared.detail.Detail.TheVariants.{Nothing, Unseen, BadAnswer, Word, Became}
 use Rattle.pb_store.specs.declared.difference.CommandPart.{CommandPart}
 use Rattle.pb_store.specs.declared.difference.CommandPart.TheVariants.{Program, Words, Folder, Out, Target, Toolchain, Reads}
 use Rattle.pb_store.specs.declared.difference.Difference.{Difference}
@@ -28,7 +28,7 @@ reason (Input (Path path)) = path ++ codes " has changed"
 reason (Input (Variable name)) = name ++ codes " has changed"
 reason (Dependency key) = key ++ codes " was built again"
 
--- the same, with what has become of the thing that differs
+-- the reason of a difference, followed by how the thing differs
 abbrev pub changed_reason : Difference → List ℕ → List ℕ
 changed_reason NoRecord text = reason NoRecord
 changed_reason (Command changed) text = part changed ++ codes " " ++ text
@@ -37,19 +37,21 @@ changed_reason (Input (Path path)) text = path ++ codes " " ++ text
 changed_reason (Input (Variable name)) text = name ++ codes " " ++ text
 changed_reason (Dependency key) text = reason (Dependency key)
 
--- the same, with the word that differs
+-- the reason of a difference; for the arguments of a command it is the text about the argument
 abbrev pub word_reason : Difference → List ℕ → List ℕ
 word_reason (Command Words) text = text
 word_reason difference text = reason difference
 
--- no byte of a text is an ASCII control character below the blank, so none is a line feed
+-- the text has no ASCII control character below the space, so it has no line feed
 abbrev pub is_plain : List ℕ → Bool
 is_plain text = list_all (nat_lt 31) text
 
--- why a unit's child was started, and how the thing differs, if that is known and its text stays on one line
+-- Why a unit's child was started, and how the thing differs. The latter is left out if it is not
+-- known, or if its text has a control character.
 abbrev pub reason_with : Difference → Detail → List ℕ
 reason_with difference Nothing = reason difference
 reason_with difference Unseen = codes "something differs from its record"
+reason_with difference BadAnswer = codes "its last child gave no good answer"
 reason_with difference (Word text) = if is_plain text then word_reason difference text else reason difference
 reason_with difference (Became text) = if is_plain text then changed_reason difference text else reason difference
 

@@ -11,6 +11,8 @@ pub enum Detail {
     Nothing,
     /// Something differs from the unit's record, and it is not known what.
     Unseen,
+    /// The unit has no record, but its output folder is there.
+    BadAnswer,
     /// Which word of a command is new, gone or another one.
     Word(Text),
     /// What has become of it, instead of `has changed`.
@@ -22,6 +24,7 @@ impl TryCopy for Detail {
         match self {
             Detail::Nothing => Ok(Detail::Nothing),
             Detail::Unseen => Ok(Detail::Unseen),
+            Detail::BadAnswer => Ok(Detail::BadAnswer),
             Detail::Word(text) => Ok(Detail::Word(text.copy(alloc)?)),
             Detail::Became(text) => Ok(Detail::Became(text.copy(alloc)?)),
         }

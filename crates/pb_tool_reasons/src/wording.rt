@@ -111,6 +111,7 @@ pub fn reason_with(
     match detail {
         Detail::Nothing => reason(alloc, difference),
         Detail::Unseen => String::from_str(alloc, "something differs from its record"),
+        Detail::BadAnswer => String::from_str(alloc, "its last child gave no good answer"),
         Detail::Word(text) => {
             if is_plain(text) {
                 word_reason(alloc, difference, text)

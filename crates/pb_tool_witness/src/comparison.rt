@@ -25,6 +25,8 @@ pub(crate) struct Comparison {
     pub(crate) read: Option<usize>,
     /// The key of the needed unit whose folder was listed last, if the record is of format 1.
     pub(crate) listed: Option<Text>,
+    /// Whether its output folder was there when it was removed.
+    pub(crate) has_folder: bool,
 }
 
 /// Returns whether an input is a path.

@@ -34,7 +34,12 @@ pub(crate) fn differs(
     command: &Command,
 ) -> Result<(Difference, Detail), AllocError> {
     let Some(kept) = &comparison.kept else {
-        return Ok((Difference::NoRecord, Detail::Nothing));
+        let detail = if comparison.has_folder {
+            Detail::BadAnswer
+        } else {
+            Detail::Nothing
+        };
+        return Ok((Difference::NoRecord, detail));
     };
     if let Some(seen) = command_differs(alloc, &kept.asked, command)? {
         return Ok(seen);

@@ -73,6 +73,7 @@ fn comparison_of(alloc: Global, key: Text, text: Option<&Bytes>) -> Result<Compa
             at: 0,
             read: None,
             listed: None,
+            has_folder: false,
         }),
         Err(fault) => Err(fault),
     }
@@ -330,6 +331,15 @@ impl Notes {
         if let Some(current) = &mut self.current {
             let noted = current.variable_read(alloc, name, text);
             self.if_noted(noted);
+        }
+    }
+
+    /// Notes a call that removed what was at a path, if something was there.
+    pub(crate) fn removed(&mut self, path: &PathText, was_there: bool) {
+        if let Some(current) = &mut self.current {
+            if was_there && path.last_part() == current.key.as_str() {
+                current.has_folder = true;
+            }
         }
     }
 

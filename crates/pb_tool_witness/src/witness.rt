@@ -23,7 +23,7 @@ pub struct Witness<P> {
     notes: Notes,
 }
 
-impl<P: Place> Witness<P> {
+impl<P: Place + Reporting> Witness<P> {
     /// Returns a place that does what this one does, and notes nothing yet.
     pub fn new(alloc: Global, inside: P) -> Witness<P>
         ensures { IsUnchanged (P.at inside) (⟦<Witness<P> as Place>⟧.at result) }
@@ -35,7 +35,7 @@ impl<P: Place> Witness<P> {
     }
 }
 
-impl<P: Place> Noting for Witness<P> {
+impl<P: Place + Reporting> Noting for Witness<P> {
     ghost notes = { λ old on new. new.notes.on ≡ on };
 
     fn note_units(&mut self, alloc: Global, on: bool) {
@@ -67,9 +67,13 @@ impl<P: Reporting> Reporting for Witness<P> {
     fn has_removed(&self) -> bool {
         self.inside.has_removed()
     }
+
+    fn has_removed(&self) -> bool {
+        self.inside.has_removed()
+    }
 }
 
-impl<P: Speaking> Speaking for Witness<P> {
+impl<P: Speaking + Reporting> Speaking for Witness<P> {
     ghost speaks = { λ old on erases new. P.speaks old.inside on erases new.inside };
 
     fn speak(&mut self, on: bool, erases: bool) {
@@ -77,7 +81,7 @@ impl<P: Speaking> Speaking for Witness<P> {
     }
 }
 
-impl<P: Place> Place for Witness<P> {
+impl<P: Place + Reporting> Place for Witness<P> {
     ghost is_modelled = { P.is_modelled };
 
     ghost at = { λ p. P.at p.inside };
@@ -169,8 +173,9 @@ impl<P: Place> Place for Witness<P> {
 
     fn remove_tree(&mut self, alloc: Global, path: &PathText) -> Result<(), PlaceFault> {
         let answer = self.inside.remove_tree(alloc, path);
-        if answer.is_err() {
-            self.notes.failed();
+        match &answer {
+            Ok(()) => self.notes.removed(path, self.inside.has_removed()),
+            Err(_) => self.notes.failed(),
         }
         answer
     }
