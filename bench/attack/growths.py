@@ -3,12 +3,12 @@ from concurrent.futures import ThreadPoolExecutor
 
 program, compiler, folder, every, workers, only = sys.argv[1:]
 FAILED = b'{"reason":"build-finished","success":false}\n'
-NOTES = (b"note: out of memory", b"note: out of memory for what the fault is about")
-ERRORS = (b"error: fault memory OutOfMemory", b"error: out of memory for why the build failed")
+NOTES = (b"note: out of memory", b"note: out of memory: the sentence of the fault is not shown")
+ERRORS = (b"error: fault memory OutOfMemory", b"error: the build failed; out of memory: the reason is not shown")
 # The second of each is said if memory for the first is refused too. So the first pair comes first.
 MEMORY = [note + b"\n" + error for note in NOTES for error in ERRORS]
 # What `--explain` says at its end, or where memory for it is refused.
-EXPLAINED = re.compile(rb"(\d+ started, \d+ kept(, \d+ not reached)?|note: out of memory for the reasons)")
+EXPLAINED = re.compile(rb"(\d+ started, \d+ kept(, \d+ not reached)?|note: out of memory: the reasons are not shown)")
 
 
 def manifest(name, more=""):

@@ -170,9 +170,7 @@ fn tell_requirement(
     text: &str,
 ) -> Result<(), AllocError> {
     if is_bad_requirement(alloc, text)? {
-        let text = format!(in alloc;
-            "\"{text}\" is no requirement of a version, as \"0.1\" is one"
-        )?;
+        let text = format!(in alloc; "\"{text}\" is not a version requirement; \"0.1\" is one")?;
         tell_key(alloc, notes, page, spot.way.as_str(), key, text.as_str())?;
     }
     Ok(())

@@ -7,7 +7,7 @@ use Rattle.pb_tool_program.specs.Writing.{TellsOr}
 use Rattle.pb_tool_sentences.specs.Libraries.{notes_of}
 
 abbrev pub notes_lost : List ℕ
-notes_lost = codes "note: out of memory for notes of packages without a library\n"
+notes_lost = codes "note: out of memory: the packages without a library are not shown\n"
 
 -- what is written before a build: notes on the packages without a library in its plan, or that memory ran out for them;
 -- nothing if there are no such packages, or no plan

@@ -22,7 +22,7 @@ use Rattle.pb_workspace_types.specs.declared.options.Options.{Options}
 
 -- what is written if memory runs out for what would be started
 abbrev pub fates_lost : List ℕ
-fates_lost = codes "note: out of memory for what would be started\n"
+fates_lost = codes "note: out of memory: the units that would be started are not shown\n"
 
 -- what is written is what a build would do with these units, or that memory ran out for this
 abbrev pub TellsFates : List Planned → List Fate → SinkState → SinkState → Type 0

@@ -88,7 +88,7 @@ fn mark<E: Out>(alloc: Global, err: &mut E, moved: &[Moved])
         Ok(lines) => write_all(err, lines.as_bytes()),
         Err(_) => write_all(
             err,
-            b"note: out of memory for what was changed during the build\n",
+            b"note: out of memory: what was changed during the build is not shown\n",
         ),
     };
 }
@@ -152,7 +152,10 @@ fn tell<E: Out>(alloc: Global, err: &mut E, status: u8, answer: &Result<Summary,
     }
     match error_of(alloc, answer) {
         Ok(line) => write_all(err, line.as_bytes()),
-        Err(_) => write_all(err, b"error: out of memory for why the build failed\n"),
+        Err(_) => write_all(
+            err,
+            b"error: the build failed; out of memory: the reason is not shown\n",
+        ),
     };
 }
 
@@ -186,7 +189,10 @@ fn repeat_to<E: Out>(alloc: Global, err: &mut E, answer: &Result<Summary, BuildF
     }
     match summary_text(alloc, summary) {
         Ok(text) => write_all(err, text.as_slice()),
-        Err(_) => write_all(err, b"note: out of memory for what a child said\n"),
+        Err(_) => write_all(
+            err,
+            b"note: out of memory: the output of a child process is not shown\n",
+        ),
     };
 }
 
@@ -203,7 +209,10 @@ fn tell_detail<E: Out>(
     match detail(alloc, rendered, answer) {
         Ok(about) if about.is_empty() => true,
         Ok(about) => write_all(err, about.as_bytes()),
-        Err(_) => write_all(err, b"note: out of memory for what the fault is about\n"),
+        Err(_) => write_all(
+            err,
+            b"note: out of memory: the sentence of the fault is not shown\n",
+        ),
     };
 }
 
@@ -251,7 +260,7 @@ fn tell_notes<E: Out>(alloc: Global, err: &mut E, notes: &Notes)
     }
     match notes.lines(alloc) {
         Ok(lines) => write_all(err, lines.as_bytes()),
-        Err(_) => write_all(err, b"note: out of memory for the notes\n"),
+        Err(_) => write_all(err, b"note: out of memory: the notes are not shown\n"),
     };
 }
 

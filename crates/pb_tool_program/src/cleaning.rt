@@ -68,7 +68,10 @@ fn tell_nothing<E: Out>(alloc: Global, err: &mut E, wanted: Wanted, folder: &Pat
 {
     match nothing_told(alloc, wanted, folder) {
         Ok(text) => write_all(err, text.as_bytes()),
-        Err(_) => write_all(err, b"error: out of memory for why the build failed\n"),
+        Err(_) => write_all(
+            err,
+            b"error: the build failed; out of memory: the reason is not shown\n",
+        ),
     };
 }
 

@@ -26,7 +26,10 @@ fn tell_fates<E: Out>(alloc: Global, err: &mut E, units: &[Planned], fates: &[Fa
 {
     match preview_lines(alloc, units, fates) {
         Ok(text) => write_all(err, text.as_bytes()),
-        Err(_) => write_all(err, b"note: out of memory for what would be started\n"),
+        Err(_) => write_all(
+            err,
+            b"note: out of memory: the units that would be started are not shown\n",
+        ),
     };
 }
 

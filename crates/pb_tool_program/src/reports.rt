@@ -58,6 +58,9 @@ pub(crate) fn tell_report<E: Out>(alloc: Global, err: &mut E, texts: &[Text])
     }
     match report_lines(alloc, texts) {
         Ok(lines) => write_all(err, lines.as_bytes()),
-        Err(_) => write_all(err, b"note: out of memory for what is known of the fault\n"),
+        Err(_) => write_all(
+            err,
+            b"note: out of memory: the details of the fault are not shown\n",
+        ),
     };
 }

@@ -85,7 +85,7 @@ name = "app"
 util = { path = "util", version = "one" }
 ---
 note: `/w/Cargo.toml` is refused: a version or a version requirement cannot be read
-note: in /w/Cargo.toml, line 4, key dependencies.util.version: "one" is no requirement of a version, as "0.1" is one
+note: in /w/Cargo.toml, line 4, key dependencies.util.version: "one" is not a version requirement; "0.1" is one
 error: refused BadVersion
 === [profile.values] an optimization that is none
 @ /w/Cargo.toml
