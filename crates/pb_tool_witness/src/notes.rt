@@ -96,6 +96,7 @@ fn into_key(comparison: Comparison) -> Text {
         at: _,
         read: _,
         listed,
+        has_folder: _,
     } = comparison;
     drop((kept, found, listed));
     key

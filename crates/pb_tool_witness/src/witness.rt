@@ -67,10 +67,6 @@ impl<P: Reporting> Reporting for Witness<P> {
     fn has_removed(&self) -> bool {
         self.inside.has_removed()
     }
-
-    fn has_removed(&self) -> bool {
-        self.inside.has_removed()
-    }
 }
 
 impl<P: Speaking + Reporting> Speaking for Witness<P> {
