@@ -51,7 +51,7 @@ is_plain text = list_all (nat_lt 31) text
 abbrev pub reason_with : Difference → Detail → List ℕ
 reason_with difference Nothing = reason difference
 reason_with difference Unseen = codes "something differs from its record"
-reason_with difference BadAnswer = codes "its last child gave no good answer"
+reason_with difference BadAnswer = codes "its last child gave no answer that could be kept"
 reason_with difference (Word text) = if is_plain text then word_reason difference text else reason difference
 reason_with difference (Became text) = if is_plain text then changed_reason difference text else reason difference
 

@@ -111,7 +111,10 @@ pub fn reason_with(
     match detail {
         Detail::Nothing => reason(alloc, difference),
         Detail::Unseen => String::from_str(alloc, "something differs from its record"),
-        Detail::BadAnswer => String::from_str(alloc, "its last child gave no good answer"),
+        Detail::BadAnswer => String::from_str(
+            alloc,
+            "its last child gave no answer that could be kept",
+        ),
         Detail::Word(text) => {
             if is_plain(text) {
                 word_reason(alloc, difference, text)
