@@ -7,6 +7,8 @@ NOTES = (b"note: out of memory", b"note: out of memory: the sentence of the faul
 ERRORS = (b"error: fault memory OutOfMemory", b"error: the build failed; out of memory: the reason is not shown")
 # The second of each is said if memory for the first is refused too. So the first pair comes first.
 MEMORY = [note + b"\n" + error for note in NOTES for error in ERRORS]
+# Before the program has read its words, there is no note.
+EARLY = [*MEMORY, ERRORS[0]]
 # What `--explain` says at its end, or where memory for it is refused.
 EXPLAINED = re.compile(rb"(\d+ started, \d+ kept(, \d+ not reached)?|note: out of memory: the reasons are not shown)")
 
@@ -90,7 +92,7 @@ def wrong_in(work, before, number, on, options, right, clean, files):
         return f"allocation {number}: status {status}, explains nothing: {said!r}"[:900], "wrong"
     if (status, lines) == (0, right):
         came = "right"
-    elif status == 101 and last in MEMORY[: 4 if on else 1] and not lines:
+    elif status == 101 and last in EARLY and (on or last in (MEMORY[0], ERRORS[0])) and not lines:
         came = "before"
     elif status == 101 and last in MEMORY[: 4 if on else 1] and lines[-1] == FAILED and lines[:-1] == right[: len(lines) - 1] and len(lines) <= len(right):
         came = "memory"

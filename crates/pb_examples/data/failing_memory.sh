@@ -1,8 +1,8 @@
 # The builder under one limit of its memory after another, each two pages above the one before, until a build ends well.
 # Each piece of memory takes pages of its own, so each limit refuses the growth that first goes past it. A build that was
 # refused memory prints nothing or the failing line alone, and says that memory was refused, by a note and by its result
-# line. The build after it has no limit: it prints the lines of one from nothing, and leaves the same files. How much
-# memory that takes is not looked at.
+# line. If it was refused memory before it had read its words, there is no note. The build after it has no limit: it
+# prints the lines of one from nothing, and leaves the same files. How much memory that takes is not looked at.
 package . a
 file src/lib.rs 'print x'
 pb_tool build > wanted
@@ -42,7 +42,7 @@ while [ $status != 0 ] && [ $limit -lt 65536 ]; do
         refused=$((refused + 1))
         lines told
         case $said in
-        "$noted|$error|" | "$noted|$unsaid|" | "$unnoted|$error|" | "$unnoted|$unsaid|") ;;
+        "$error|" | "$noted|$error|" | "$noted|$unsaid|" | "$unnoted|$error|" | "$unnoted|$unsaid|") ;;
         *) echo "status 101: $said" ;;
         esac
         lines came
