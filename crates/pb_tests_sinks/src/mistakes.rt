@@ -205,7 +205,7 @@ fn long_name(alloc: Global, count: usize) -> Result<String, AllocError> {
 fn ten_thousand_bad_keys(rt: HostRuntime) -> Result<(), Fail> {
     let alloc = rt.alloc();
     let (count, longest) = lines_said(alloc, many_keys(alloc, 10_000)?.as_bytes())?;
-    assert_eq!(rt; count, 12);
+    assert_eq!(rt; count, 11);
     assert!(rt; longest < 500);
     Ok(())
 }

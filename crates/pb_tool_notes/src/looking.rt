@@ -288,7 +288,7 @@ pub fn notes_on_load<P: Place>(
     if tell_workspace(alloc, place, &mut notes, &pages, options, fault).is_ok() {
         let _ = tell_all_unused(alloc, &mut notes, &pages);
     }
-    notes.closed(alloc)
+    notes.finish(alloc)
 }
 
 /// Returns notes on features that are not resolved.
@@ -305,7 +305,7 @@ pub fn notes_on_features<P: Place>(
     if tell_features(alloc, &mut notes, &pages, options, fault).is_ok() {
         let _ = tell_all_unused(alloc, &mut notes, &pages);
     }
-    notes.closed(alloc)
+    notes.finish(alloc)
 }
 
 /// Returns notes on a workspace without a plan.
@@ -322,7 +322,7 @@ pub fn notes_on_plan<P: Place>(
     if tell_plan(alloc, place, &mut notes, &pages, options, fault).is_ok() {
         let _ = tell_all_unused(alloc, &mut notes, &pages);
     }
-    notes.closed(alloc)
+    notes.finish(alloc)
 }
 
 /// Returns notes on what a build ignores: keys of manifests that nothing reads, requested binaries
@@ -334,5 +334,5 @@ pub fn notes_on_build<P: Place>(alloc: Global, place: &mut P, options: &Options)
     let mut notes = Notes::new(alloc);
     let pages = pages_of(alloc, place, &options.manifest);
     let _ = tell_passed_over(alloc, place, &mut notes, &pages, options);
-    notes.closed(alloc)
+    notes.finish(alloc)
 }

@@ -5,9 +5,9 @@ use Rattle.std.specs.Prelude.{◌≡◌, ◌<◌, ◌≤◌, ◌++◌, ℕ, All,
 abbrev pub IsPlain : ℕ → Type 0
 IsPlain byte = 31 < byte
 
--- there are at most ten notes, and all their bytes are plain
+-- there are at most nine notes, and all their bytes are plain
 pub record AreNotes (notes : List (List ℕ)) : Type 0 where
-  pub few : length notes ≤ 10
+  pub few : length notes ≤ 9
   pub plain : All (λ text. All IsPlain text) notes
 
 -- a line `note: TEXT` for each note

@@ -8,7 +8,7 @@ use std::alloc::{AllocError, Global};
 use std::marker::Model;
 
 /// The greatest number of notes on one refusal.
-pub const MOST_NOTES: usize = 10;
+pub const MOST_NOTES: usize = 9;
 
 /// The greatest number of bytes of a note.
 const LONGEST: usize = 400;
@@ -78,11 +78,11 @@ fn is_plain(text: &str) -> bool
     text.as_bytes().iter().all(|byte| *byte > 31)
 }
 
-/// The notes on a refusal: at most ten texts without line feeds. Contracts see the texts.
+/// The notes on a refusal: at most nine texts without line feeds. Contracts see the texts.
 #[derive(Drop)]
 pub struct Notes {
     inside: Items<Text>,
-    /// How many notes came after the tenth.
+    /// How many notes came after the ninth.
     more: usize,
 }
 
@@ -115,12 +115,12 @@ impl Notes {
         self.inside.len() >= MOST_NOTES
     }
 
-    /// Counts a note that comes after the tenth.
+    /// Counts a note that comes after the ninth.
     pub fn pass_over(&mut self) {
         self.more = self.more.saturating_add(1);
     }
 
-    /// Adds a text, if it has no line feed and there are fewer than ten. If memory runs out, the
+    /// Adds a text, if it has no line feed and there are fewer than nine. If memory runs out, the
     /// text is left out.
     fn push(&mut self, text: String) {
         if self.inside.len() < MOST_NOTES && is_plain(text.as_str()) {
@@ -128,7 +128,7 @@ impl Notes {
         }
     }
 
-    /// Adds a note. After the tenth, it only counts the note.
+    /// Adds a note. After the ninth, it only counts the note.
     ///
     /// Errors: only out of memory.
     pub fn add(&mut self, alloc: Global, note: &Note) -> Result<(), AllocError> {
@@ -157,8 +157,8 @@ impl Notes {
         )
     }
 
-    /// Returns the first nine notes, and a tenth that says how many others there are.
-    fn shortened(&self, alloc: Global) -> Result<Notes, AllocError> {
+    /// Returns the first eight notes, and a ninth that says how many others there are.
+    fn with_count(&self, alloc: Global) -> Result<Notes, AllocError> {
         let mut notes = Notes::new(alloc);
         for text in self.inside.as_slice().iter().take(MOST_NOTES - 1) {
             notes.push(String::from_str(alloc, text.as_str())?);
@@ -168,13 +168,13 @@ impl Notes {
         Ok(notes)
     }
 
-    /// Returns the notes as they are printed: if some came after the tenth, the tenth is
+    /// Returns the notes as they are printed: if some came after the ninth, the ninth is
     /// `and N more`. If memory runs out for that, they stay as they are.
-    pub fn closed(self, alloc: Global) -> Notes {
+    pub fn finish(self, alloc: Global) -> Notes {
         if self.more == 0 {
             return self;
         }
-        match self.shortened(alloc) {
+        match self.with_count(alloc) {
             Ok(notes) => notes,
             Err(_) => self,
         }

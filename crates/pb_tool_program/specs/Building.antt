@@ -190,7 +190,7 @@ pub record BuildsTold (is_modelled : Bool) (child : Answers) (Guards : Option (L
   pub built : BuildState
   pub on : BuildsOnFirst is_modelled child options plan answer planned built
   pub builds : BuildsFirst is_modelled child options answer old built
-  -- a second look was made for at most ten notes
+  -- a second look was made for at most nine notes
   pub notes_again : List (List ℕ)
   pub are_notes : AreNotes notes_again
   pub looked : LooksTwice answer notes_again built new
