@@ -1,6 +1,6 @@
 # How something differs: a word, a variable, a path that is gone or new, and the file of a folder. The same after a fault
-# and after a bad unit. Values are shown of the builder's own variables only: of a long one a part, and for a control
-# character a question mark.
+# and after a bad unit. Without -v, values are shown of the builder's own variables only: of a long one a part, and for
+# a control character a question mark.
 package . a '[dependencies]' 'b = { path = "b" }' '[features]' 'more = []'
 file src/lib.rs
 file src/main.rs
@@ -43,6 +43,17 @@ GREETING=other
 run 'it has another value'
 unset GREETING
 run 'it is unset'
+show() {
+    echo "- $1"
+    build --explain -v --runner "$RUSTC --run" > all
+    grep ': started, since' all
+    rm all
+}
+GREETING='two words'
+export GREETING
+show 'with -v, all values are shown'
+unset GREETING
+show 'also of what is unset'
 cp Cargo.toml before
 sed -i 's/^edition.*/&\ndescription = "two\\nlines"/' Cargo.toml
 run 'a variable of the builder has another value'

@@ -90,7 +90,7 @@ fn build<P: Speaking + Noting, G: Guard<P, E>, O: Screen, E: Coloring, L: Out>(
         (E.heard err.old) (E.heard err.new) }
 {
     place.speak(shown.verbose, shown.progress);
-    place.note_units(alloc, shown.explain);
+    place.note_units(alloc, shown.explain, shown.verbose);
     out.show(shown.render, shown.progress, shown.colors);
     err.color(shown.colors);
     line.switch(shown.progress, shown.counts);

@@ -61,25 +61,33 @@ fn variables_differ(
     alloc: Global,
     pairs: &[(Text, Text)],
     others: &[(Text, Text)],
+    values: bool,
 ) -> Result<Option<(Difference, Detail)>, AllocError> {
     let Some(name) = first_variable(alloc, pairs, others)? else {
         return Ok(None);
     };
     let old = text_in(pairs, &name);
     let new = text_in(others, &name);
-    let detail = variable_detail(alloc, name.as_str(), old, new)?;
+    let detail = variable_detail(alloc, name.as_str(), values, old, new)?;
     Ok(Some((Difference::Pair(name), detail)))
 }
 
-/// Returns the first difference of a command from the recorded one, if there is one.
+/// Returns the first difference of a command from the recorded one, if there is one. `values` says
+/// whether the values of all variables are shown.
 pub(crate) fn command_differs(
     alloc: Global,
     asked: &RecordedCommand,
     command: &Command,
+    values: bool,
 ) -> Result<Option<(Difference, Detail)>, AllocError> {
     if let Some(part) = first_part(asked, command) {
         let detail = part_detail(alloc, asked, command, part)?;
         return Ok(Some((Difference::Command(part), detail)));
     }
-    variables_differ(alloc, asked.pairs.as_slice(), command.pairs.as_slice())
+    variables_differ(
+        alloc,
+        asked.pairs.as_slice(),
+        command.pairs.as_slice(),
+        values,
+    )
 }

@@ -2,7 +2,7 @@
 
 use crate::folders::{file_differs, paths_differ};
 use crate::values::words_only;
-use crate::variables::presence_detail;
+use crate::variables::inherited_detail;
 use pb_data::{Bytes, Text, TryCopy};
 use pb_place_types::PathText;
 use pb_record::{Input, InputName, Needed, Record};
@@ -124,6 +124,7 @@ fn value_differs(
     name: &str,
     value: &Option<Text>,
     found: Option<&Text>,
+    values: bool,
 ) -> Result<Option<(Difference, Detail)>, AllocError> {
     let old = match value {
         Some(old) => Some(old.as_str()),
@@ -136,7 +137,7 @@ fn value_differs(
     if old == new {
         return Ok(None);
     }
-    let detail = presence_detail(alloc, old, new)?;
+    let detail = inherited_detail(alloc, values, old, new)?;
     let name = InputName::Variable(Text::from_str(alloc, name)?);
     Ok(Some((Difference::Input(name), detail)))
 }
@@ -282,12 +283,13 @@ impl Comparison {
         Ok(())
     }
 
-    /// Notes that a variable was read.
+    /// Notes that a variable was read. `values` says whether its values are shown.
     pub(crate) fn variable_read(
         &mut self,
         alloc: Global,
         name: &str,
         found: Option<&Text>,
+        values: bool,
     ) -> Result<(), AllocError> {
         let Some(kept) = &self.kept else {
             return Ok(());
@@ -295,7 +297,7 @@ impl Comparison {
         let Some(value) = value_from(kept.inputs.as_slice(), self.at, name) else {
             return Ok(());
         };
-        let seen = value_differs(alloc, name, value, found)?;
+        let seen = value_differs(alloc, name, value, found, values)?;
         self.note(seen);
         Ok(())
     }

@@ -26,12 +26,13 @@ fn first_need(
 
 /// Returns the first difference of a unit whose child is started, and how it differs. `numbers` has
 /// the number of the record of each unit that has begun, or none for a unit whose child was
-/// started.
+/// started. `values` says whether the values of all variables are shown.
 pub(crate) fn differs(
     alloc: Global,
     comparison: &mut Comparison,
     numbers: &Table<Option<u64>>,
     command: &Command,
+    values: bool,
 ) -> Result<(Difference, Detail), AllocError> {
     let Some(kept) = &comparison.kept else {
         let detail = if comparison.has_folder {
@@ -41,7 +42,7 @@ pub(crate) fn differs(
         };
         return Ok((Difference::NoRecord, detail));
     };
-    if let Some(seen) = command_differs(alloc, &kept.asked, command)? {
+    if let Some(seen) = command_differs(alloc, &kept.asked, command, values)? {
         return Ok(seen);
     }
     if let Some(seen) = comparison.found.take() {

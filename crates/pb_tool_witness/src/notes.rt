@@ -27,6 +27,8 @@ const RECORD: &str = ".record";
 pub(crate) struct Notes {
     /// Whether it notes anything.
     on: bool,
+    /// Whether it notes the values of all variables.
+    values: bool,
     /// The folder whose direct files were listed last. Once a build has opened its records, it is
     /// their folder.
     folder: Option<PathText>,
@@ -119,6 +121,7 @@ impl Notes {
     pub(crate) fn new(alloc: Global) -> Notes {
         Notes {
             on: false,
+            values: false,
             folder: None,
             unread: 0,
             current: None,
@@ -127,12 +130,14 @@ impl Notes {
         }
     }
 
-    /// Drops what was noted, and sets whether anything is noted from now on.
-    pub(crate) fn switch(&mut self, alloc: Global, on: bool)
+    /// Drops what was noted, and sets whether anything is noted from now on, and whether with the
+    /// values of all variables.
+    pub(crate) fn switch(&mut self, alloc: Global, on: bool, values: bool)
         ensures { self.new.on ≡ on }
     {
         *self = Notes::new(alloc);
         self.on = on;
+        self.values = values;
     }
 
     /// Ends the comparison of the unit that began last.
@@ -150,7 +155,7 @@ impl Notes {
     }
 
     /// Notes that a call failed. A unit that was being compared has then not begun.
-    pub(crate) fn failed(&mut self) {
+    pub(crate) fn note_failure(&mut self) {
         if self.current.is_some() {
             self.end();
             self.noted.kept = self.noted.kept.saturating_sub(1);
@@ -257,7 +262,7 @@ impl Notes {
         command: &Command,
     ) -> Result<(), AllocError> {
         self.noted.kept = self.noted.kept.saturating_sub(1);
-        let seen = differs(alloc, &mut current, &self.numbers, command);
+        let seen = differs(alloc, &mut current, &self.numbers, command, self.values);
         let key = into_key(current);
         self.numbers.insert(key.copy(alloc)?, None)?;
         match seen {
@@ -281,7 +286,7 @@ impl Notes {
     }
 
     /// Notes a call that lists the files directly in a folder.
-    pub(crate) fn listed_directly(
+    pub(crate) fn open_records(
         &mut self,
         alloc: Global,
         folder: &PathText,
@@ -294,7 +299,7 @@ impl Notes {
     }
 
     /// Notes a call that reads a file.
-    pub(crate) fn read(&mut self, alloc: Global, path: &PathText, text: Option<&Bytes>) {
+    pub(crate) fn note_read(&mut self, alloc: Global, path: &PathText, text: Option<&Bytes>) {
         if self.on {
             let noted = self.note_text(alloc, path, text);
             self.if_noted(noted);
@@ -303,16 +308,16 @@ impl Notes {
 
     /// Notes a read that failed. If it is the read of a record, the unit before has begun, and this
     /// one has not.
-    pub(crate) fn read_failed(&mut self, path: &PathText) {
+    pub(crate) fn note_failed_read(&mut self, path: &PathText) {
         if self.key_at(path).is_some() {
             self.end();
         }
         self.pass(path);
-        self.failed();
+        self.note_failure();
     }
 
     /// Notes a call that lists the files below an input.
-    pub(crate) fn listed(&mut self, alloc: Global, folder: &PathText, paths: &Items<PathText>) {
+    pub(crate) fn note_list(&mut self, alloc: Global, folder: &PathText, paths: &Items<PathText>) {
         if let Some(current) = &mut self.current {
             let noted = current.folder_listed(alloc, folder, paths.as_slice());
             self.if_noted(noted);
@@ -320,7 +325,7 @@ impl Notes {
     }
 
     /// Notes a call that lists the files below a unit's folder.
-    pub(crate) fn unit_listed(&mut self, alloc: Global, path: &PathText) {
+    pub(crate) fn note_unit_folder(&mut self, alloc: Global, path: &PathText) {
         if let (Some(folder), Some(current)) = (&self.folder, &mut self.current) {
             let noted = current.unit_listed(alloc, folder, path);
             self.if_noted(noted);
@@ -328,15 +333,15 @@ impl Notes {
     }
 
     /// Notes a call that reads a variable.
-    pub(crate) fn variable(&mut self, alloc: Global, name: &str, text: Option<&Text>) {
+    pub(crate) fn note_variable(&mut self, alloc: Global, name: &str, text: Option<&Text>) {
         if let Some(current) = &mut self.current {
-            let noted = current.variable_read(alloc, name, text);
+            let noted = current.variable_read(alloc, name, text, self.values);
             self.if_noted(noted);
         }
     }
 
     /// Notes a call that removed what was at a path, if something was there.
-    pub(crate) fn removed(&mut self, path: &PathText, was_there: bool) {
+    pub(crate) fn note_removal(&mut self, path: &PathText, was_there: bool) {
         if let Some(current) = &mut self.current {
             if was_there && path.last_part() == current.key.as_str() {
                 current.has_folder = true;
@@ -345,7 +350,7 @@ impl Notes {
     }
 
     /// Notes a call that spawned a child.
-    pub(crate) fn spawned(&mut self, alloc: Global, command: &Command) {
+    pub(crate) fn note_child(&mut self, alloc: Global, command: &Command) {
         if self.on {
             let noted = self.note_spawn(alloc, command);
             self.if_noted(noted);
@@ -353,7 +358,7 @@ impl Notes {
     }
 
     /// Notes a call that no build makes while it compares a unit.
-    pub(crate) fn went_on(&mut self) {
+    pub(crate) fn go_on(&mut self) {
         self.end();
     }
 }

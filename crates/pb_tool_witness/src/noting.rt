@@ -13,9 +13,10 @@ pub trait Noting: Place {
     /// How noting is switched: the place before, whether it notes units, and the place after.
     ghost notes: { Self → Bool → Self → Type 0 };
 
-    /// Drops what was noted, and sets whether units are noted from now on. Everything else of the
-    /// place stays.
-    fn note_units(&mut self, alloc: Global, on: bool)
+    /// Drops what was noted, and sets whether units are noted from now on. `values` sets whether the
+    /// notes have the values of all variables; otherwise, of those alone that the builder itself
+    /// sets. Everything else of the place stays.
+    fn note_units(&mut self, alloc: Global, on: bool, values: bool)
         ensures notes { notes self.old on self.new }
         ensures at { IsUnchanged (Self.at self.old) (Self.at self.new) };
 

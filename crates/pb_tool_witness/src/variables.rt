@@ -1,5 +1,5 @@
-//! How a variable differs. Its values are shown only if the builder itself sets a variable of that
-//! name: any other may have a value that is a secret.
+//! How a variable differs. Unless the values of all variables are requested, its values are shown only
+//! if the builder itself sets a variable of that name: any other value may be a secret.
 
 use crate::values::{values_detail, words_only};
 use pb_tool_reasons::Detail;
@@ -33,7 +33,7 @@ fn is_own(name: &str) -> bool {
 }
 
 /// Returns how a variable differs, without its values.
-pub(crate) fn presence_detail(
+fn presence_detail(
     alloc: Global,
     old: Option<&str>,
     new: Option<&str>,
@@ -45,17 +45,28 @@ pub(crate) fn presence_detail(
     }
 }
 
-/// Returns how a variable differs that only one of two commands sets, or that they set to different
-/// texts.
-pub(crate) fn variable_detail(
+/// Returns how an inherited variable differs. `values` says whether its values are shown.
+pub(crate) fn inherited_detail(
     alloc: Global,
-    name: &str,
+    values: bool,
     old: Option<&str>,
     new: Option<&str>,
 ) -> Result<Detail, AllocError> {
-    if is_own(name) {
+    if values {
         values_detail(alloc, old, new)
     } else {
         presence_detail(alloc, old, new)
     }
+}
+
+/// Returns how a variable differs that only one of two commands sets, or that they set to different
+/// texts. `values` says whether its values are shown even if the builder does not set it itself.
+pub(crate) fn variable_detail(
+    alloc: Global,
+    name: &str,
+    values: bool,
+    old: Option<&str>,
+    new: Option<&str>,
+) -> Result<Detail, AllocError> {
+    inherited_detail(alloc, values || is_own(name), old, new)
 }

@@ -38,8 +38,8 @@ impl<P: Place + Reporting> Witness<P> {
 impl<P: Place + Reporting> Noting for Witness<P> {
     ghost notes = { λ old on new. new.notes.on ≡ on };
 
-    fn note_units(&mut self, alloc: Global, on: bool) {
-        self.notes.switch(alloc, on);
+    fn note_units(&mut self, alloc: Global, on: bool, values: bool) {
+        self.notes.switch(alloc, on, values);
     }
 
     fn noted(&self) -> &Noted {
@@ -89,8 +89,8 @@ impl<P: Place + Reporting> Place for Witness<P> {
     fn read(&mut self, alloc: Global, path: &PathText) -> Result<Option<Bytes>, PlaceFault> {
         let answer = self.inside.read(alloc, path);
         match &answer {
-            Ok(text) => self.notes.read(alloc, path, text.as_ref()),
-            Err(_) => self.notes.read_failed(path),
+            Ok(text) => self.notes.note_read(alloc, path, text.as_ref()),
+            Err(_) => self.notes.note_failed_read(path),
         }
         answer
     }
@@ -111,8 +111,8 @@ impl<P: Place + Reporting> Place for Witness<P> {
     fn list(&mut self, alloc: Global, folder: &PathText) -> Result<Items<PathText>, PlaceFault> {
         let answer = self.inside.list(alloc, folder);
         match &answer {
-            Ok(_) => self.notes.unit_listed(alloc, folder),
-            Err(_) => self.notes.failed(),
+            Ok(_) => self.notes.note_unit_folder(alloc, folder),
+            Err(_) => self.notes.note_failure(),
         }
         answer
     }
@@ -125,8 +125,8 @@ impl<P: Place + Reporting> Place for Witness<P> {
     ) -> Result<Items<PathText>, PlaceFault> {
         let answer = self.inside.list_outside(alloc, folder, left_out);
         match &answer {
-            Ok(paths) => self.notes.listed(alloc, folder, paths),
-            Err(_) => self.notes.failed(),
+            Ok(paths) => self.notes.note_list(alloc, folder, paths),
+            Err(_) => self.notes.note_failure(),
         }
         answer
     }
@@ -138,7 +138,7 @@ impl<P: Place + Reporting> Place for Witness<P> {
     ) -> Result<Items<PathText>, PlaceFault> {
         let answer = self.inside.list_directly(alloc, folder);
         if let Ok(paths) = &answer {
-            self.notes.listed_directly(alloc, folder, paths);
+            self.notes.open_records(alloc, folder, paths);
         }
         answer
     }
@@ -153,7 +153,7 @@ impl<P: Place + Reporting> Place for Witness<P> {
     }
 
     fn write(&mut self, alloc: Global, path: &PathText, bytes: &[u8]) -> Result<(), PlaceFault> {
-        self.notes.went_on();
+        self.notes.go_on();
         self.inside.write(alloc, path, bytes)
     }
 
@@ -163,15 +163,15 @@ impl<P: Place + Reporting> Place for Witness<P> {
         path: &PathText,
         pieces: &[Bytes],
     ) -> Result<(), PlaceFault> {
-        self.notes.went_on();
+        self.notes.go_on();
         self.inside.write_pieces(alloc, path, pieces)
     }
 
     fn remove_tree(&mut self, alloc: Global, path: &PathText) -> Result<(), PlaceFault> {
         let answer = self.inside.remove_tree(alloc, path);
         match &answer {
-            Ok(()) => self.notes.removed(path, self.inside.has_removed()),
-            Err(_) => self.notes.failed(),
+            Ok(()) => self.notes.note_removal(path, self.inside.has_removed()),
+            Err(_) => self.notes.note_failure(),
         }
         answer
     }
@@ -179,8 +179,8 @@ impl<P: Place + Reporting> Place for Witness<P> {
     fn variable(&mut self, alloc: Global, name: &str) -> Result<Option<Text>, PlaceFault> {
         let answer = self.inside.variable(alloc, name);
         match &answer {
-            Ok(text) => self.notes.variable(alloc, name, text.as_ref()),
-            Err(_) => self.notes.failed(),
+            Ok(text) => self.notes.note_variable(alloc, name, text.as_ref()),
+            Err(_) => self.notes.note_failure(),
         }
         answer
     }
@@ -188,14 +188,14 @@ impl<P: Place + Reporting> Place for Witness<P> {
     fn spawn(&mut self, alloc: Global, command: &Command) -> Result<u64, StartFault> {
         let answer = self.inside.spawn(alloc, command);
         match &answer {
-            Ok(_) => self.notes.spawned(alloc, command),
-            Err(_) => self.notes.failed(),
+            Ok(_) => self.notes.note_child(alloc, command),
+            Err(_) => self.notes.note_failure(),
         }
         answer
     }
 
     fn finish(&mut self, alloc: Global, ticket: u64) -> Result<Ended, StartFault> {
-        self.notes.went_on();
+        self.notes.go_on();
         self.inside.finish(alloc, ticket)
     }
 
