@@ -270,8 +270,11 @@ fn first_bad<F>(states: &[State<F>]) -> Option<usize>
     None
 }
 
-/// Returns units that have not begun.
-fn untouched<F: Drop>(alloc: Global, needs: &[Items<usize>]) -> Result<Vec<State<F>>, AllocError>
+/// Returns the states of units that have not begun.
+fn initial_states<F: Drop>(
+    alloc: Global,
+    needs: &[Items<usize>],
+) -> Result<Vec<State<F>>, AllocError>
     ensures { IfOk result (λ states. states.items ≡ map (λ _. Untouched) needs.now) }
 {
     let mut states = Vec::new(alloc);
@@ -291,7 +294,7 @@ impl<F: Drop> Flight<F> {
     {
         let needed_by = needed_by(alloc, needs.as_slice())?;
         let met = none_met(alloc, needs.as_slice())?;
-        let states = untouched(alloc, needs.as_slice())?;
+        let states = initial_states(alloc, needs.as_slice())?;
         let reach = reach_of(needs.as_slice());
         Ok(Flight {
             needs,

@@ -117,7 +117,7 @@ fn texts_in(alloc: Global, names: &[Text]) -> Result<Vec<&str>, AllocError> {
 }
 
 /// Returns the texts of a list, with commas between them.
-fn joined(alloc: Global, values: &[Value]) -> Result<String, AllocError> {
+fn join_texts(alloc: Global, values: &[Value]) -> Result<String, AllocError> {
     let mut all = String::new(alloc);
     for one in values {
         if let Some(text) = one.as_str() {
@@ -134,7 +134,7 @@ fn joined(alloc: Global, values: &[Value]) -> Result<String, AllocError> {
 /// are none.
 fn required_by(alloc: Global, binary: &Table) -> Result<String, AllocError> {
     match binary.get("required-features").and_then(Value::as_array) {
-        Some(features) => joined(alloc, features.as_slice()),
+        Some(features) => join_texts(alloc, features.as_slice()),
         None => Ok(String::new(alloc)),
     }
 }

@@ -50,7 +50,7 @@ pub fn reason(alloc: Global, difference: &Difference) -> Result<String, AllocErr
 }
 
 /// Returns the name of something, and what has become of it.
-fn named(alloc: Global, name: &str, text: &Text) -> Result<String, AllocError>
+fn with_name(alloc: Global, name: &str, text: &Text) -> Result<String, AllocError>
     ensures { IfOk result (λ said. string_bytes said ≡ name.now ++ codes " " ++ text.now) }
 {
     let mut said = String::from_str(alloc, name)?;
@@ -78,10 +78,10 @@ fn changed_reason(alloc: Global, difference: &Difference, text: &Text) -> Result
     ensures { IfOk result (λ said. string_bytes said ≡ changed_reason difference.now text.now) }
 {
     match difference {
-        Difference::Command(changed) => named(alloc, part(*changed), text),
-        Difference::Pair(name) => named(alloc, name.as_str(), text),
-        Difference::Input(InputName::Path(path)) => named(alloc, path.as_str(), text),
-        Difference::Input(InputName::Variable(name)) => named(alloc, name.as_str(), text),
+        Difference::Command(changed) => with_name(alloc, part(*changed), text),
+        Difference::Pair(name) => with_name(alloc, name.as_str(), text),
+        Difference::Input(InputName::Path(path)) => with_name(alloc, path.as_str(), text),
+        Difference::Input(InputName::Variable(name)) => with_name(alloc, name.as_str(), text),
         Difference::NoRecord => reason(alloc, difference),
         Difference::Dependency(_) => reason(alloc, difference),
     }

@@ -4,15 +4,15 @@ ghost use Rattle.std.specs.Prelude.{◌≡◌, ◌≢◌, [], ◌++◌, IfOk, If
 ghost use Rattle.pb_tool_sentences.specs.Details.{bad_detail, detail, is_by_compiler, spaced, told_of, with_names};
 ghost use Rattle.pb_tool_sentences.specs.Sentences.{build_sentence};
 
-use crate::made::{build_sentence, unit_sentence};
+use crate::formatted::{build_sentence, unit_sentence};
 use pb_build_result::{BuildFault, Refusal, Summary};
 use pb_command_types::UnitFault;
 use pb_data::Text;
 use pb_unit::PlanFault;
 use std::alloc::{AllocError, Global};
 
-/// Returns a sentence as a note.
-fn told(alloc: Global, sentence: &str) -> Result<String, AllocError>
+/// Returns the line of a note with this sentence.
+fn write_note(alloc: Global, sentence: &str) -> Result<String, AllocError>
     ensures { IfOk result (λ text. string_bytes text ≡ told_of sentence.now) }
 {
     let mut text = String::from_str(alloc, "note: ")?;
@@ -53,7 +53,7 @@ fn fault_detail(alloc: Global, fault: &BuildFault) -> Result<String, AllocError>
 {
     let mut sentence = build_sentence(alloc, fault)?;
     push_packages(&mut sentence, fault)?;
-    told(alloc, sentence.as_str())
+    write_note(alloc, sentence.as_str())
 }
 
 /// Returns whether a unit is bad by the status of its compiler.
@@ -75,7 +75,7 @@ fn bad_detail(
 ) -> Result<String, AllocError>
     ensures { IfOk result (λ text. string_bytes text ≡ bad_detail rendered unit.now fault.now) }
 {
-    let mut text = told(alloc, unit_sentence(alloc, fault)?.as_str())?;
+    let mut text = write_note(alloc, unit_sentence(alloc, fault)?.as_str())?;
     if !rendered && is_by_compiler(unit, fault) {
         text.push_str(
             "note: the compiler's messages, if it wrote any, are in the lines on standard output; --render shows them as text\n",

@@ -4,7 +4,7 @@ ghost use Rattle.std.specs.Prelude.{◌≡◌, ◌++◌, IfOk, string_bytes};
 ghost use Rattle.pb_command_types.specs.declared.fault.UnitFault.TheVariants as unit;
 ghost use Rattle.pb_tool_sentences.specs.Sentences.{build_sentence, line_sentence, load_sentence, manifest_sentence, refusal_sentence, unit_sentence};
 
-use crate::fixed::{
+use crate::constant::{
     device_sentence, feature_sentence, place_sentence, plan_sentence, start_sentence,
 };
 use pb_build_result::{BuildFault, Refusal};

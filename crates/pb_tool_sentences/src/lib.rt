@@ -2,18 +2,18 @@
 //! packages without a library.
 #![tactic(auto)]
 
+mod constant;
 mod details;
-mod fixed;
+mod formatted;
 mod libraries;
-mod made;
 
-pub use details::detail;
-pub use fixed::{
+pub use constant::{
     device_sentence, feature_sentence, place_sentence, plan_sentence, profile_sentence,
     start_sentence,
 };
-pub use libraries::notes_of;
-pub use made::{
+pub use details::detail;
+pub use formatted::{
     build_sentence, line_sentence, load_sentence, manifest_sentence, refusal_sentence,
     unit_sentence,
 };
+pub use libraries::notes_of;

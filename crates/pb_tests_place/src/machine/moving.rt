@@ -153,7 +153,7 @@ fn try_scene(rt: &HostRuntime, scene: &(&str, &str, &str)) -> Result<(), Fail> {
 
 /// Rules: `machine.moved`.
 #[test]
-fn moving(rt: HostRuntime) -> Result<(), Fail> {
+fn moved_paths_are_named(rt: HostRuntime) -> Result<(), Fail> {
     for scene in SCENES {
         try_scene(&rt, scene)?;
     }

@@ -1,7 +1,7 @@
 use Rattle.std.proofs.lemmas.List.{take_all}
 use Rattle.pb_run_flight.specs.declared.flight.State.TheVariants.{Untouched}
 use Rattle.pb_run_flight.proofs.Looking.{same_more}
-use Rattle.pb_run_flight.proofs.flight.untouched.Goals as goal
+use Rattle.pb_run_flight.proofs.flight.initial_states.Goals as goal
 
 pub loop-preserved : goal.loop-preserved
 loop-preserved g c = same_more Untouched c.args.needs.now c.loop.index c.loop-item.result c.loop.states.items c.push.new.self.items c.loop-test.true c.loop.invariant c.in_ok-push.ensures.items
