@@ -39,7 +39,7 @@ impl Bytes {
         })
     }
 
-    /// Returns the bytes themselves.
+    /// Returns the bytes as a slice.
     pub fn as_slice(&self) -> &[u8]
         ensures { result.now ≡ self.now }
     {

@@ -4,8 +4,8 @@ ghost use Rattle.std.specs.Prelude.{◌≡◌, IfOk};
 
 use std::alloc::{AllocError, Global};
 
-/// A value that can be copied. We use this trait instead of `Clone`, as our own choice. Contracts
-/// know that the copy is equal to the value, and the allocator is named when memory is used.
+/// A value that can be copied. We use this trait instead of `Clone`; this is our own choice. By the
+/// contract, the copy is equal to the value. The caller names the allocator of the copy.
 pub trait TryCopy: Drop {
     /// Returns a copy.
     ///

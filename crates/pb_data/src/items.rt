@@ -21,7 +21,7 @@ impl<T> Model for Items<T> {
 }
 
 impl<T> Items<T> {
-    /// Returns no items, without using memory.
+    /// Returns a list without items. This takes no memory.
     pub fn new(alloc: Global) -> Items<T>
         ensures { result ≡ [] }
     {
@@ -37,7 +37,7 @@ impl<T> Items<T> {
         Items { inside }
     }
 
-    /// Returns the items themselves.
+    /// Returns the items as a slice.
     pub fn as_slice(&self) -> &[T]
         ensures { result.now ≡ self.now }
     {

@@ -1,6 +1,6 @@
-//! The data that every crate of the builder is made of, as contracts
-//! see it: texts and bytes as lists of numbers, items as lists. Also
-//! the words for an answer that running out of memory may prevent.
+//! The data types that every crate of the builder uses. Contracts see texts and bytes as lists of
+//! numbers, and items as lists. The crate also has the words for an answer that running out of
+//! memory may prevent.
 #![tactic(auto)]
 
 mod bytes;

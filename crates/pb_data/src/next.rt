@@ -1,10 +1,11 @@
-//! A value, and the one that comes next.
+//! A value together with the next value.
 
 ghost use Rattle.std.specs.Prelude.{◌≡◌, Ok, Err, IfOk, IfErr, MatchResult};
 
-/// Returns a value with the next one, or the fault of the next one. If the next one is a fault, the
-/// value is dropped here, once for all types. With a `?` while the value is alive, each of its
-/// fields would be dropped there, and each of these drops would need a proof.
+/// Returns a value together with the next value, or the fault that came instead of the next value.
+/// After such a fault, this function drops the first value, for all types with one proof. A `?` in
+/// the caller would drop each field of the first value there. Each of these drops would need a
+/// proof.
 pub fn with_next<A: Drop, B: Drop, E: Drop>(value: A, next: Result<B, E>) -> Result<(A, B), E>
     ensures whole { MatchResult next (λ b. result ≡ Ok (value, b)) (λ e. result ≡ Err e) }
     ensures both { IfOk result (λ pair. (pair.0 ≡ value) × (next ≡ Ok pair.1)) }

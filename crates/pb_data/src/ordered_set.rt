@@ -1,4 +1,4 @@
-//! Texts each once, in order of first mention.
+//! Sets of texts, in order of first mention.
 
 ghost use Rattle.std.specs.Prelude.{◌≡◌, ℕ, List, [], OnOk, OnErr, IfOk};
 ghost use Rattle.pb_data.specs.OrderedSet.{is_mentioned, mentioned, mentioned_all, once, EachOnce};
@@ -9,7 +9,8 @@ use indexmap::IndexSet;
 use std::alloc::{AllocError, Global};
 use std::marker::Model;
 
-/// Texts, each once, in order of first mention. Contracts see them as a list.
+/// A set of texts. Each text occurs once, in order of first mention. Contracts see the set as a
+/// list.
 #[derive(Debug, Drop)]
 pub struct OrderedSet {
     inside: IndexSet<Text>,
@@ -28,7 +29,7 @@ impl Model for OrderedSet {
 }
 
 impl OrderedSet {
-    /// Returns no texts, without using memory.
+    /// Returns a set without texts. This takes no memory.
     pub fn new(alloc: Global) -> OrderedSet
         ensures { result ≡ [] }
     {
@@ -37,7 +38,7 @@ impl OrderedSet {
         }
     }
 
-    /// Adds a text at the end, unless it is there already.
+    /// Adds a text at the end, unless the set already has this text.
     ///
     /// Errors: out of memory; the texts stay as they were.
     pub fn insert(&mut self, text: Text) -> Result<(), AllocError>
@@ -48,14 +49,14 @@ impl OrderedSet {
         Ok(())
     }
 
-    /// Returns whether a text is among them.
+    /// Returns whether the set contains a text.
     pub fn contains(&self, text: &Text) -> bool
         ensures { result ≡ is_mentioned self.now text.now }
     {
         self.inside.contains(text)
     }
 
-    /// Returns the texts themselves, no two of which are equal.
+    /// Returns the texts as a slice. No two of the texts are equal.
     pub fn as_slice(&self) -> &[Text]
         ensures same { result.now ≡ self.now }
         ensures once { EachOnce self.now }
@@ -74,8 +75,8 @@ impl OrderedSet {
     }
 }
 
-/// A law: texts that are added to none, one after another, each
-/// occur once, in order of first mention.
+/// A law: if texts are added to an empty set, one after another, each of the texts occurs once, in
+/// order of first mention.
 pub fn mentions_are_once()
     ensures { (texts : List (List ℕ)) → mentioned_all [] texts ≡ once texts }
 {}
@@ -85,7 +86,7 @@ pub fn once_is_distinct()
     ensures { (texts : List (List ℕ)) → EachOnce (once texts) }
 {}
 
-/// A law: each of the texts occurs, and no other.
+/// A law: each of the added texts occurs, and no other text.
 pub fn once_keeps_texts()
     ensures { (texts : List (List ℕ)) (text : List ℕ)
         → is_mentioned (once texts) text ≡ is_mentioned texts text }

@@ -13,8 +13,8 @@ use indexmap::map::Iter;
 use std::alloc::{AllocError, Global};
 use std::marker::Model;
 
-/// Values by texts, each text once, in order of first mention.
-/// Contracts see the list of the entries.
+/// A table of values by texts. Each text occurs once, in order of first mention. Contracts see the
+/// list of the entries.
 #[derive(Debug, Drop)]
 pub struct Table<V> {
     inside: IndexMap<Text, V>,
@@ -34,7 +34,7 @@ impl<V> Model for Table<V> {
 }
 
 impl<V: Drop> Table<V> {
-    /// Returns no entries, without using memory.
+    /// Returns a table without entries. This takes no memory.
     pub fn new(alloc: Global) -> Table<V>
         ensures { result ≡ [] }
     {
@@ -43,8 +43,8 @@ impl<V: Drop> Table<V> {
         }
     }
 
-    /// Adds an entry. If its text is there already, that entry keeps its position and gets the new
-    /// value. A new text goes last.
+    /// Adds an entry. If the table already has this text, the old entry keeps its position and gets
+    /// the new value. Otherwise the new entry goes last.
     ///
     /// Errors: out of memory; the entries stay as they were.
     pub fn insert(&mut self, name: Text, value: V) -> Result<(), AllocError>
@@ -55,7 +55,7 @@ impl<V: Drop> Table<V> {
         Ok(())
     }
 
-    /// Returns the value of a text, if it has one.
+    /// Returns the value of a text, if the table has this text.
     pub fn get(&self, name: &Text) -> Option<&V>
         ensures { option_copied result ≡ value_at name.now self.now }
     {
@@ -102,13 +102,14 @@ pub fn table_names<V>()
         ≡ once (names_of entries) }
 {}
 
-/// A law: a table of entries contains for each text its last value in the entries.
+/// A law: a table of entries contains, for each text, the last value that the entries have for this
+/// text.
 pub fn table_values<V>()
     ensures { (entries : List (List ℕ × V)) (name : List ℕ)
         → value_at name (table_of entries) ≡ last_value name entries }
 {}
 
-/// A law: a table of entries with more entries added is the table of them all.
+/// A law: if entries are added to a table of other entries, the result is the table of all entries.
 pub fn table_joins<V>()
     ensures { (entries more : List (List ℕ × V))
         → with_entries (table_of entries) more ≡ table_of (entries ++ more) }

@@ -1,4 +1,4 @@
-//! The least set that rules yield. A list has the things that are still to be looked at.
+//! The least set that rules yield. A list contains the things that must still be looked at.
 
 ghost use Rattle.std.specs.Prelude.{◌≡◌, ℕ, ◌+◌, ◌<◌, IfOk, OnOk, All, Contains, IsTrue, length};
 ghost use Rattle.pb_graph.specs.Closure.{Least, IsYielded, IsLeast, is_on, with_mark, with_marks};
@@ -11,7 +11,7 @@ pub trait Rules {
     /// The number of things.
     ghost count: { Self → ℕ };
 
-    /// Two things yield a third together; a rule with one premise joins a thing with itself.
+    /// Two things together yield a third. A rule with one premise joins a thing with itself.
     ghost joins: { Self → ℕ → ℕ → ℕ → Type 0 };
 
     /// The rules are well formed, as `put_given` requires.
@@ -21,8 +21,8 @@ pub trait Rules {
     fn count_things(&self) -> usize
         ensures { result ≡ count self.now };
 
-    /// Replaces the contents of a buffer by what a known thing yields together with the known
-    /// things. Other things that follow from known things may be added, too.
+    /// Replaces the contents of a buffer by what a known thing yields together with other known
+    /// things. The buffer may also get other things that follow from known things.
     fn put_given(
         &self,
         known: &[bool],
@@ -56,7 +56,7 @@ fn mark_one(
     Ok(())
 }
 
-/// Marks things, and puts those that were not marked on the list.
+/// Marks things, and puts each thing that was not marked before on the list.
 fn mark(
     marks: &mut Vec<bool>,
     todo: &mut VecDeque<usize>,
@@ -73,9 +73,9 @@ fn mark(
     Ok(())
 }
 
-/// Returns for each thing whether it is in the least set that contains the seeds
-/// and is closed under the rules. Each thing is looked at once, in the order in
-/// which they are found, because things found together are mostly close in memory.
+/// Returns for each thing whether it is in the least set that contains the seeds and is closed
+/// under the rules. Each thing is looked at once, in the order in which the things are found. This
+/// is fast because things that are found together are mostly close in memory.
 ///
 /// Errors: out of memory.
 pub fn least<R: Rules>(alloc: Global, rules: &R, seeds: &[usize]) -> Result<Vec<bool>, AllocError>

@@ -6,7 +6,7 @@ use std::alloc::{AllocError, AllocFailed};
 /// A node of the graph.
 #[derive(Drop)]
 pub struct Node {
-    /// Its key; no two nodes have the same.
+    /// The key of the node. No two nodes have the same key.
     pub key: Text,
     /// The numbers of the nodes that it needs.
     pub needs: Items<usize>,
@@ -19,11 +19,12 @@ pub struct Step {
     pub node: usize,
     /// Its key.
     pub key: Text,
-    /// 0 without needs, else one more than the greatest level of the nodes that it needs.
+    /// The level: 0 if the node needs no nodes. Otherwise the level is one more than the greatest
+    /// level of the nodes that it needs.
     pub level: usize,
-    /// The indices, in the order, of the nodes that it needs, ascending.
+    /// The nodes that it needs, as ascending indices into the order.
     pub needs: Items<usize>,
-    /// The indices, in the order, of all nodes that it reaches, ascending.
+    /// All nodes that it reaches, as ascending indices into the order.
     pub reaches: Items<usize>,
 }
 
@@ -32,7 +33,7 @@ pub struct Step {
 pub enum OrderFault {
     /// Out of memory.
     OutOfMemory,
-    /// These nodes reach themselves, by the bytes of their keys.
+    /// These nodes reach themselves. They are sorted by the bytes of their keys.
     Circle(Items<usize>),
     /// There are more nodes than allowed.
     TooMany,

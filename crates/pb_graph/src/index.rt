@@ -1,5 +1,5 @@
-//! The index of rules: for each thing, what else the rules need and what they then yield. Only this
-//! crate uses it.
+//! The index of rules. For each thing it lists the rules that need this thing: what else each rule
+//! needs, and what the rule yields. Only this crate uses the index.
 
 ghost use Rattle.std.specs.Prelude.{◌≡◌, ◌<◌, IfOk, OnOk, All, length};
 ghost use Rattle.std.specs.List.{sum_by};
@@ -10,27 +10,27 @@ ghost use Rattle.pb_graph.specs.Index.{link_at, with_link, with_rule, either_way
 use crate::table::Rule;
 use std::alloc::{AllocError, Global};
 
-/// What else a rule of a thing needs, and what the two yield.
+/// A link of a thing: one rule that needs this thing.
 #[derive(Clone, Copy)]
 pub(crate) struct Link {
     /// What else the rule needs.
     pub with: usize,
-    /// What the two yield.
+    /// What the rule yields.
     pub gives: usize,
     /// The number of the thing's next link.
     pub next: usize,
 }
 
-/// The links of all things. A link's number is one more than its index; 0 means none.
+/// The links of all things. A link's number is one more than its index; 0 means no link.
 #[derive(Drop)]
 pub(crate) struct Index {
     /// For each thing, the number of its first link.
     pub heads: Vec<usize>,
-    /// The links; those of one thing go from the last one back to the first.
+    /// The links. The chain of one thing's links goes from the thing's last link back to the first.
     pub links: Vec<Link>,
 }
 
-/// Returns the link of a number, if there is one.
+/// Returns the link with a number, if there is such a link.
 fn link_at(links: &[Link], number: usize) -> Option<Link>
     ensures { result ≡ link_at links.now number }
 {
@@ -38,8 +38,8 @@ fn link_at(links: &[Link], number: usize) -> Option<Link>
     links.get(place).copied()
 }
 
-/// Replaces the contents of a buffer by what the links from a number on yield, if what they need is
-/// there.
+/// Replaces the contents of a buffer by what the links from a number on yield. A link yields a
+/// thing only if the other thing that the link needs is known.
 pub(crate) fn put_linked(
     known: &[bool],
     links: &[Link],
@@ -87,14 +87,16 @@ fn add_rule(index: &mut Index, rule: Rule) -> Result<(), AllocError>
     add_link(index, rule.second, rule.first, rule.gives)
 }
 
-/// Returns the number of links that a rule makes.
+/// Returns the number of links that the index has for a rule.
 fn links_of(rule: Rule) -> usize
     ensures { result ≡ links_of rule }
 {
     if rule.first == rule.second { 1 } else { 2 }
 }
 
-/// Returns the number of links that the rules make. A number past `usize` counts as out of memory.
+/// Returns the number of links that the index has for the rules.
+///
+/// Errors: out of memory, if the number exceeds `usize`.
 fn count_links(rules: &[Rule]) -> Result<usize, AllocError>
     ensures { IfOk result (λ count. count ≡ sum_by links_of rules.now) }
 {

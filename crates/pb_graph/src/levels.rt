@@ -12,9 +12,9 @@ use std::alloc::{AllocError, Global};
 #[derive(Clone, Copy)]
 pub struct Extent {
     pub node: usize,
-    /// The number of nodes that it reaches.
+    /// The number of nodes that the node reaches.
     pub count: usize,
-    /// Whether it reaches itself.
+    /// Whether the node reaches itself.
     pub turns: bool,
 }
 
@@ -90,8 +90,8 @@ fn level_above(levels: &[usize], needs: &[usize]) -> usize
     level
 }
 
-/// Returns the levels of nodes, which are in the order of how many nodes they reach. Therefore the
-/// nodes that a node needs come before it.
+/// Returns the levels of nodes. The nodes are sorted by how many nodes each of them reaches.
+/// Therefore the nodes that a node needs come before that node.
 pub fn levels_of(
     alloc: Global,
     nodes: &[Node],

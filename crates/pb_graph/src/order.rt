@@ -94,7 +94,7 @@ fn steps_of(
     Ok(plan)
 }
 
-/// Returns the nodes of a list by the bytes of their keys, without repeats.
+/// Returns the nodes of a list, sorted by the bytes of their keys, without repeats.
 fn by_key(alloc: Global, nodes: &[Node], list: &[usize]) -> Result<Items<usize>, AllocError>
     requires graph { IsGraph nodes.now }
     requires list { All (λ v. v < length nodes.now) list.now }
@@ -120,7 +120,8 @@ fn extent_nodes(alloc: Global, extents: &[Extent]) -> Result<Vec<usize>, AllocEr
     extents.iter().map(|e| e.node).collect(alloc)
 }
 
-/// Returns, for each node that the roots reach, how many nodes it reaches, the least first.
+/// Returns how many nodes each node reaches, for all nodes that the roots reach. The least number
+/// comes first.
 fn survey(
     alloc: Global,
     nodes: &[Node],
@@ -141,8 +142,8 @@ fn survey(
     Ok(extents)
 }
 
-/// Returns the nodes of a list by the bytes of their keys, without repeats, unless there are more
-/// than allowed.
+/// Returns the nodes of a list, sorted by the bytes of their keys, without repeats. The call fails
+/// if there are more nodes than allowed.
 fn within(
     alloc: Global,
     nodes: &[Node],
@@ -163,7 +164,7 @@ fn within(
     Ok(found)
 }
 
-/// Returns the order of some nodes. None of them reaches itself.
+/// Returns the order of some nodes. No node among them reaches itself.
 fn order_nodes(
     alloc: Global,
     nodes: &[Node],
@@ -193,11 +194,11 @@ fn order_nodes(
     Ok(plan)
 }
 
-/// Returns the order of the roots and the nodes that they reach: by level, then by the bytes of the
-/// keys.
+/// Returns the order of the roots and of the nodes that the roots reach. The nodes are sorted by
+/// level, and then by the bytes of their keys.
 ///
-/// Errors: `Circle`, if some of these nodes reach themselves; else `TooMany`, if there are more
-/// than `most` of them; `OutOfMemory`.
+/// Errors: `Circle`, if some of these nodes reach themselves; otherwise `TooMany`, if there are
+/// more than `most` nodes; `OutOfMemory`.
 pub fn order(
     alloc: Global,
     nodes: &[Node],

@@ -1,4 +1,4 @@
-//! The nodes that nodes reach.
+//! The nodes that some nodes reach.
 
 ghost use Rattle.std.specs.Prelude.{◌≡◌, ◌<◌, ℕ, List, IfOk, OnOk, All, length, false, replicate};
 ghost use Rattle.pb_graph.specs.Graph.{IsGraph, needs_at};
@@ -15,14 +15,15 @@ pub fn needs_at(nodes: &[Node], u: usize) -> &[usize]
     nodes[u].needs.as_slice()
 }
 
-/// Returns marks for this number of nodes, none of them set.
+/// Returns marks for this number of nodes. No mark is set.
 pub fn no_marks(alloc: Global, count: usize) -> Result<Vec<bool>, AllocError>
     ensures { IfOk result (λ marks. marks.items ≡ replicate count false) }
 {
     vec![in alloc; false; count]
 }
 
-/// Marks each node of a list, and appends those that were not marked to the waiting ones.
+/// Marks each node of a list, and appends each node that was not marked before to the waiting
+/// nodes.
 pub fn mark_all(
     marks: &mut Vec<bool>,
     waiting: &mut Vec<usize>,
@@ -41,7 +42,7 @@ pub fn mark_all(
     Ok(())
 }
 
-/// Returns the nodes that the roots reach, marked.
+/// Returns the nodes that the roots reach, and marks these nodes.
 fn found_from(
     alloc: Global,
     nodes: &[Node],
@@ -76,7 +77,7 @@ fn clear(marks: &mut [bool], list: &[usize])
     }
 }
 
-/// Returns the nodes that the roots reach. The borrowed marks are clear before and after.
+/// Returns the nodes that the roots reach. The borrowed marks are clear before and after the call.
 pub fn reached_from(
     alloc: Global,
     nodes: &[Node],

@@ -8,7 +8,8 @@ use crate::closure::{Rules, least};
 use crate::index::{Index, index_of, put_linked};
 use std::alloc::{AllocError, Global};
 
-/// Two things that yield a third together. A rule with one premise names it twice.
+/// A rule: two things that together yield a third. A rule with one premise names this premise
+/// twice.
 #[derive(Clone, Copy)]
 pub struct Rule {
     pub first: usize,

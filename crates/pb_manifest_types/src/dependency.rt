@@ -11,9 +11,9 @@ pub struct PathSource {
     /// The package's folder, relative to the manifest's folder, or in `[workspace.dependencies]`
     /// relative to the workspace's root.
     pub path: WrittenPath,
-    /// The package's name. None means the entry's key.
+    /// The package's name. `None` means the entry's key.
     pub package: Option<Text>,
-    /// The requirement on the package's version. None means any version.
+    /// The requirement on the package's version. `None` means any version.
     pub version: Option<Requirement>,
     /// Whether the package's feature `default` is requested. True unless `default-features =
     /// false`.

@@ -13,25 +13,25 @@ use pb_data::{Items, Text};
 /// relative to the workspace's root.
 #[derive(Drop)]
 pub struct WorkspacePackage {
-    /// `authors`. None if it is not written.
+    /// `authors`. `None` if it is not written.
     pub authors: Option<Items<Text>>,
-    /// `description`. None if it is not written.
+    /// `description`. `None` if it is not written.
     pub description: Option<Text>,
-    /// `edition`. None if it is not written.
+    /// `edition`. `None` if it is not written.
     pub edition: Option<Edition>,
-    /// `homepage`. None if it is not written.
+    /// `homepage`. `None` if it is not written.
     pub homepage: Option<Text>,
-    /// `license`. None if it is not written.
+    /// `license`. `None` if it is not written.
     pub license: Option<Text>,
-    /// `license-file`. None if it is not written.
+    /// `license-file`. `None` if it is not written.
     pub license_file: Option<Text>,
-    /// `readme`. None if it is not written.
+    /// `readme`. `None` if it is not written.
     pub readme: Option<Readme>,
-    /// `repository`. None if it is not written.
+    /// `repository`. `None` if it is not written.
     pub repository: Option<Text>,
-    /// `rust-version`. None if it is not written.
+    /// `rust-version`. `None` if it is not written.
     pub rust_version: Option<Text>,
-    /// `version`. None if it is not written.
+    /// `version`. `None` if it is not written.
     pub version: Option<Version>,
 }
 
@@ -40,11 +40,11 @@ pub struct WorkspacePackage {
 pub struct WorkspaceTable {
     /// Paths and globs, in the manifest's order.
     pub members: Items<WrittenPath>,
-    /// Paths and globs, in the manifest's order. None if it is not written.
+    /// Paths and globs, in the manifest's order. `None` if it is not written.
     pub default_members: Option<Items<WrittenPath>>,
     /// Paths, in the manifest's order.
     pub exclude: Items<WrittenPath>,
-    /// None if it is not written.
+    /// `None` if it is not written.
     pub package: Option<WorkspacePackage>,
     /// `[workspace.dependencies]`, in byte order of their keys.
     pub dependencies: Items<WorkspaceDependency>,
@@ -53,7 +53,7 @@ pub struct WorkspaceTable {
 /// A manifest. A table that is not written has no entries.
 #[derive(Drop)]
 pub struct Manifest {
-    /// None if the manifest has only `[workspace]`.
+    /// `None` if the manifest has only `[workspace]`.
     pub package: Option<Package>,
     /// `[lib]`, if it is written.
     pub library: Option<Library>,

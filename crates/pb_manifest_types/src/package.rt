@@ -77,7 +77,7 @@ pub struct Package {
     pub license: Inheritable<Text>,
     /// Any text.
     pub license_file: Inheritable<Text>,
-    /// Any text, also an empty one. None if it is not written.
+    /// Any text, also an empty one. `None` if it is not written.
     pub links: Option<Text>,
     /// ASCII letters, digits, `-` and `_`, not empty.
     pub name: Text,

@@ -24,7 +24,7 @@ pub struct Profile {
     pub inherits: Option<Text>,
     /// In byte order of their names.
     pub packages: Items<ProfileOverride>,
-    /// The keys that `build-override` sets, for build scripts and what they depend on. None if it
+    /// The keys that `build-override` sets, for build scripts and what they depend on. `None` if it
     /// is not written.
     pub build_override: Option<ProfileKeys>,
 }

@@ -19,10 +19,10 @@ pub enum CrateType {
 pub struct Library {
     /// In the manifest's order. Empty if none is written, which means `lib`.
     pub crate_types: Items<CrateType>,
-    /// The crate's name: ASCII letters, digits and `_`, not empty. None means the package's name
+    /// The crate's name: ASCII letters, digits and `_`, not empty. `None` means the package's name
     /// with `_` for each `-`.
     pub name: Option<Text>,
-    /// Relative to the package's folder. None means `src/lib.rs`.
+    /// Relative to the package's folder. `None` means `src/lib.rs`.
     pub path: Option<WrittenPath>,
 }
 
@@ -31,7 +31,7 @@ pub struct Library {
 pub struct Binary {
     /// ASCII letters, digits, `-` and `_`, not empty.
     pub name: Text,
-    /// Relative to the package's folder. None means that the file is looked for.
+    /// Relative to the package's folder. `None` means that the file is looked for.
     pub path: Option<WrittenPath>,
     /// The features that the binary requires.
     pub required_features: Items<Text>,

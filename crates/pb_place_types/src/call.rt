@@ -15,7 +15,7 @@ use std::alloc::{AllocError, Global};
 pub enum Call {
     /// A file is read.
     Read(PathText),
-    /// The place is asked whether a file is at a path.
+    /// The place checks whether a file is at a path.
     IsFile(PathText),
     /// All files below a folder are listed.
     List(PathText),
@@ -44,7 +44,7 @@ impl Call {
         Ok(Call::Read(path.copy(alloc)?))
     }
 
-    /// Returns the call to ask whether a file is at a path.
+    /// Returns the call to check whether a file is at a path.
     ///
     /// Errors: out of memory only.
     pub fn is_file(alloc: Global, path: &PathText) -> Result<Call, AllocError>
@@ -129,7 +129,7 @@ impl Call {
         Ok(Call::Variable(Text::from_str(alloc, name)?))
     }
 
-    /// Returns the fault with which this call fails, other than by running out of memory.
+    /// Returns the fault with which this call fails if memory does not run out.
     pub fn own_fault(&self) -> PlaceFault
         ensures { result ≡ own_fault self.now }
     {

@@ -64,10 +64,10 @@ pub trait View {
     /// The world that is shown, if the view reports it.
     ghost shown: { Self → World };
 
-    /// Whether a call may fail for another reason than out of memory.
+    /// Whether a call may fail for a reason other than running out of memory.
     ghost fails: { Self → Type 0 };
 
-    /// Returns the bytes of a file, or none if no file is shown there.
+    /// Returns the bytes of a file, or `None` if no file is shown there.
     ///
     /// Errors: `Failed`, if the file cannot be read; `OutOfMemory`.
     fn file(&self, alloc: Global, path: &PathText) -> Result<Option<Bytes>, ViewFault>
@@ -75,7 +75,7 @@ pub trait View {
             → IfOk result (λ found. found ≡ map.get (shown self.now).files path.now) }
         ensures failed { IfErr result (λ e. e ≡ ViewFault.Failed → fails self.now) };
 
-    /// Returns the value of an inherited variable, or none if it is not set.
+    /// Returns the value of an inherited variable, or `None` if it is not set.
     ///
     /// Errors: `Failed`, if the variable cannot be read; `OutOfMemory`.
     fn variable(&self, alloc: Global, name: &str) -> Result<Option<Text>, ViewFault>
@@ -90,8 +90,8 @@ pub trait Child {
     /// The function.
     ghost answers: { Answers };
 
-    /// Returns the reply to a command. Only for a view that reports what it shows, we promise what
-    /// the reply is.
+    /// Returns the reply to a command. The contract determines the reply only if the view reports
+    /// what it shows.
     ///
     /// Errors: `Failed`, only if the view fails; `OutOfMemory`.
     fn reply<V: View>(&self, alloc: Global, command: &Command, view: &V) -> Result<Reply, ViewFault>

@@ -51,7 +51,7 @@ impl Model for FileMap {
 }
 
 impl FileMap {
-    /// Returns a map without files. It takes no memory.
+    /// Returns a map without files. The call takes no memory.
     pub fn new(alloc: Global) -> FileMap
         ensures { result ≡ map.empty }
     {
@@ -60,7 +60,7 @@ impl FileMap {
         }
     }
 
-    /// Returns the bytes of a file, if it is there.
+    /// Returns the bytes of a file, if the map has this file.
     #[tactic(auto, using(crate::proofs::MapLemmas::map_laws))]
     pub fn get(&self, path: &PathText) -> Option<&Bytes>
         ensures { option_copied result ≡ map.get self.now path.now }
@@ -133,7 +133,7 @@ impl FileMap {
         Ok(paths_of(alloc, names)?)
     }
 
-    /// Does nothing; its contract states that each file has a normalised absolute path. It takes no
+    /// Does nothing; its contract states that each file has a normalised absolute path. The call takes no
     /// memory.
     pub fn have_paths(&self)
         ensures { (path bytes : List ℕ) → map.get self.now path ≡ Some bytes
@@ -142,7 +142,7 @@ impl FileMap {
         let _inside = &self.inside;
     }
 
-    /// Returns whether a file is at a path. It takes no memory.
+    /// Returns whether a file is at a path. The call takes no memory.
     pub fn has(&self, path: &PathText) -> bool
         ensures { result ≡ is_some (map.get self.now path.now) }
     {
@@ -197,8 +197,8 @@ impl FileMap {
         Ok(())
     }
 
-    /// Removes the first half, rounded down and in byte order, of the file at a path and the files
-    /// below it.
+    /// Removes half of the files at or below a path: the first files in byte order, as many as half
+    /// of their number, rounded down.
     ///
     /// Errors: out of memory only. Nothing changes then.
     pub fn remove_half(&mut self, alloc: Global, path: &PathText) -> Result<(), AllocError>
@@ -212,7 +212,7 @@ impl FileMap {
         Ok(())
     }
 
-    /// Copies the file at a path from another map, if there is one.
+    /// Copies the file at a path from another map, if that map has such a file.
     ///
     /// Errors: out of memory only. Nothing changes then.
     fn take_over(
@@ -233,8 +233,8 @@ impl FileMap {
 
     /// Copies the files at these paths from another map, in turn.
     ///
-    /// Errors: out of memory only. The files at the first n of the paths have been copied then, for
-    /// some n, and no others.
+    /// Errors: out of memory only. Then the files at the first n of the paths have been copied, for
+    /// some n, and no other files.
     pub fn put_from(
         &mut self,
         alloc: Global,
@@ -392,7 +392,7 @@ fn names_without_slash(
 
 /// Returns these texts as paths.
 ///
-/// Requires: all of them are paths.
+/// Requires: each text is a path.
 fn paths_of(alloc: Global, names: Vec<Text>) -> Result<Items<PathText>, AllocError>
     requires { list_all is_path names.items ≡ true }
     ensures { IfOk result (λ paths. paths ≡ names.items) }
@@ -414,7 +414,8 @@ fn first_folder<'a>(parts: &[&'a str]) -> Option<&'a str>
     }
 }
 
-/// Returns the folder directly in a folder through which a path leads, if it leads through one.
+/// Returns the folder directly in a given folder through which a path leads, if there is such a
+/// folder.
 fn folder_towards(
     alloc: Global,
     folder: &PathText,
@@ -446,7 +447,7 @@ fn is_last(path: &PathText, paths: &[PathText]) -> bool
     }
 }
 
-/// Appends a folder, if there is one and it is not the last already.
+/// Appends a folder to a list, if there is a folder and the list does not already end with it.
 fn put_new(folders: &mut Items<PathText>, folder: Option<PathText>) -> Result<(), AllocError>
     ensures { OnOk result (folders.new ≡ with_new folders.old folder) }
 {

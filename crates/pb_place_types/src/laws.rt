@@ -15,10 +15,10 @@ pub fn parsing_keeps_paths()
     ensures { (path : List ℕ) → is_path path ≡ true → parsed path ≡ Ok path }
 {}
 
-/// The paths below a folder are those that continue the folder's path. A path is at or below a
-/// folder if it is the folder itself or is below it. What is below a folder is also below each
-/// folder above that one. Two folders share no path if neither is at or below the other. Two names
-/// in one folder lead to paths that lie apart.
+/// The paths below a folder are the paths that continue the folder's path. A path is at or below a
+/// folder if it is the folder itself or is below it. A path below a folder is also below each
+/// folder that contains this folder. Two folders share no path if neither is at or below the other.
+/// Two different names in one folder lead to paths that lie apart.
 pub fn folders_nest()
     ensures goes_on { BelowGoesOn }
     ensures at { AtOrBelow }
@@ -56,8 +56,8 @@ pub fn changes_stay_in_folders()
     ensures alone { StandAlone }
 {}
 
-/// The content of a path in one map over another, in a folder's files, in the sources, and in what
-/// a child sees.
+/// The content of a path in each of these: one map laid over another, a folder's files, the
+/// sources, and what a child sees.
 pub fn maps_look_up()
     ensures over { LooksOver }
     ensures folder { LooksIn }
@@ -74,10 +74,10 @@ pub fn children_see_sources_and_folders()
     ensures alike { SeesAlike }
 {}
 
-/// What a failing call leaves as it was.
+/// What a failing call leaves unchanged.
 ///
-/// - After a failed write, every other path has its old content. The path has its old bytes, none,
-/// or a first part of the new bytes.
+/// - After a failed write, every other path has its old content. The written path has its old
+/// bytes, no bytes, or the first n of the new bytes.
 /// - After a failed removal, every path outside the tree has its old content, and no path has new
 /// bytes.
 /// - After a start, even a failed one, every path outside the child's folder has its old content.
@@ -93,16 +93,16 @@ pub fn failing_calls_spare()
     ensures started_variables { StartSparesVariables }
 {}
 
-/// After writes and removals in turn, the last of them that touches a path decides what is there:
-/// the written bytes, or nothing. No write and no removal changes a variable.
+/// After a sequence of writes and removals, the last call that touches a path decides what is at
+/// the path: the written bytes, or nothing. No write and no removal changes a variable.
 pub fn last_word_stands()
     ensures files { LastWordStands }
     ensures variables { VariablesStand }
 {}
 
-/// A call that failed, other than by running out of memory, is counted, and its fault is recorded
-/// as the last one. A failed call on files or variables is itself recorded, too. For a sequence of
-/// calls, the counters therefore determine which one failed and at which position.
+/// A call that failed for a reason other than running out of memory is counted. Its fault is
+/// recorded as the last fault. A failed call on files or variables is itself recorded, too. For a
+/// sequence of calls, the counters therefore determine which call failed and at which position.
 pub fn failing_calls_are_told()
     ensures calls { CallTellsFault }
     ensures starts { StartTellsFault }

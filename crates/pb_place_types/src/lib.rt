@@ -1,4 +1,4 @@
-//! The outside world: paths, places of files, variables and children, and sinks.
+//! The outside world: paths, sinks, and places. A place has files, variables and child processes.
 #![tactic(auto)]
 
 pub mod call;

@@ -14,7 +14,7 @@ use std::cmp::Ordering;
 use std::marker::Model;
 use thiserror::Error;
 
-/// Why a text is no path.
+/// Why a text is not a path.
 #[derive(Clone, Copy, Debug, PartialEq, Eq, Error)]
 pub enum PathFault {
     /// The text does not begin with `/`.
@@ -44,8 +44,9 @@ impl<T: Drop> From<AllocFailed<T>> for PathFault {
     }
 }
 
-/// A normalised absolute path: `/`, or names each after a slash, none of them empty, `.` or `..`,
-/// and none with byte 0. Contracts see its UTF-8 bytes. Links are not followed (our own choice).
+/// A normalised absolute path: `/`, or names with a slash before each name. No name is empty, `.`
+/// or `..`, and no name contains byte 0. Contracts see the UTF-8 bytes of the path. Links are not
+/// followed (our own choice).
 #[derive(Debug, Drop)]
 pub struct PathText {
     inside: Text,
@@ -94,7 +95,7 @@ pub(crate) fn stays(part: &str) -> bool
     part == "" || part == "."
 }
 
-/// Walks one part further.
+/// Follows one more part of a path.
 fn walk<'a>(names: &mut Vec<&'a str>, part: &'a str) -> Result<(), AllocError>
     ensures { OnOk result
         (map (λ name. name.now) names.new.items
@@ -123,7 +124,7 @@ fn names_of(alloc: Global, text: &str) -> Result<Vec<&str>, AllocError>
     Ok(names)
 }
 
-/// Returns the names, each after a slash.
+/// Returns the names, joined, with a slash before each name.
 fn with_slashes(alloc: Global, names: &[&str]) -> Result<String, AllocError>
     ensures { IfOk result (λ text. string_bytes text ≡ slashed (map (λ name. name.now) names.now)) }
 {
@@ -145,7 +146,7 @@ fn path_of(alloc: Global, names: &[&str]) -> Result<String, AllocError>
     with_slashes(alloc, names)
 }
 
-/// Returns the text before the slash in each path below a folder.
+/// Returns the stem of a folder. Each path below the folder is the stem, a slash and more text.
 pub(crate) fn stem(folder: &str) -> &str
     ensures { result.now ≡ stem folder.now }
 {
@@ -210,7 +211,7 @@ impl PathText {
         })
     }
 
-    /// Returns the folder that contains this path. For the root it is the root.
+    /// Returns the folder that contains this path. For the root, this is the root itself.
     ///
     /// Errors: out of memory only.
     #[tactic(auto, using(crate::proofs::PathLemmas::folder_laws))]
@@ -226,14 +227,14 @@ impl PathText {
     }
 
     /// Returns whether this path is the folder or is below it, by whole parts: `/a/b` is below
-    /// `/a`, and `/ab` is not. It takes no memory.
+    /// `/a`, and `/ab` is not. The call takes no memory.
     pub fn starts_with(&self, folder: &PathText) -> bool
         ensures { result ≡ is_at_or_below folder.now self.now }
     {
         is_at_or_below(folder.as_str(), self.as_str())
     }
 
-    /// Returns whether this path is strictly below the folder. It takes no memory.
+    /// Returns whether this path is strictly below the folder. The call takes no memory.
     pub fn is_below(&self, folder: &PathText) -> bool
         ensures { result ≡ is_below folder.now self.now }
     {
@@ -250,7 +251,7 @@ impl PathText {
 }
 
 impl PathText {
-    /// Returns the path as an owned text. It takes no memory.
+    /// Returns the path as an owned text. The call takes no memory.
     pub fn into_text(self) -> Text
         ensures text { result ≡ self }
         ensures normal { is_path self ≡ true }

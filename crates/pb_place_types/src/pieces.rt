@@ -6,7 +6,7 @@ ghost use Rattle.std.specs.List.{concat};
 use pb_data::Bytes;
 use std::alloc::{AllocError, Global};
 
-/// Returns how many bytes some pieces have together, at most `u64::MAX`. It takes no memory.
+/// Returns how many bytes some pieces have together, at most `u64::MAX`. The call takes no memory.
 pub fn length_of(pieces: &[Bytes]) -> u64
     ensures { result ≡ min (length (concat pieces.now)) 0xffff_ffff_ffff_ffff }
 {

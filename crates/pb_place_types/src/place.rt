@@ -44,7 +44,7 @@ pub enum PlaceFault {
     OutOfMemory,
 }
 
-/// Why a child gave no reply.
+/// Why a child did not reply.
 #[derive(Clone, Copy, Debug, PartialEq, Eq, Error)]
 pub enum StartFault {
     /// The program could not be started.
@@ -61,12 +61,12 @@ pub enum StartFault {
     OutOfMemory,
 }
 
-/// How the outside world failed a call. Running out of memory is no failure of the outside.
+/// How a call failed in the outside world. Running out of memory is not such a failure.
 #[derive(Clone, Copy, Debug, PartialEq, Eq)]
 pub enum Failure {
     /// A call on files or variables failed.
     Called(PlaceFault),
-    /// A child could not be started, or gave no reply.
+    /// A child could not be started, or did not reply.
     Started(StartFault),
 }
 
@@ -120,7 +120,7 @@ fn cut(bytes: Bytes, most: usize) -> Bytes
 /// Which calls there are is our own choice.
 pub trait Place {
     /// Whether the place is modelled: whether `at` has the files and variables as they are. A real
-    /// machine is not, so clauses with this premise do not apply to it.
+    /// machine is not modelled, so clauses with this premise do not apply to a real machine.
     ghost is_modelled: { Bool };
 
     /// All that clauses can see of the place at one moment. The maps of a place that is not
@@ -130,10 +130,10 @@ pub trait Place {
     /// The child: a member of the type, so no call can change it.
     ghost child: { Answers };
 
-    /// Whether a call may fail for another reason than out of memory.
+    /// Whether a call may fail for a reason other than running out of memory.
     ghost fails: { Self → Type 0 };
 
-    /// Returns the bytes of a file, or none if no file is there.
+    /// Returns the bytes of a file, or `None` if no file is there.
     ///
     /// Errors: `Read`; `OutOfMemory`.
     fn read(&mut self, alloc: Global, path: &PathText) -> Result<Option<Bytes>, PlaceFault>
@@ -142,8 +142,8 @@ pub trait Place {
         ensures looks { LooksOnce (call.Read path.now) result (at self.old) (at self.new) }
         ensures fails { IfErr result (λ e. e ≢ PlaceFault.OutOfMemory → fails self.old) };
 
-    /// Returns the first bytes of a file, at most `most`, or none if no file is there. The call is
-    /// counted as `read` is.
+    /// Returns the first bytes of a file, at most `most`, or `None` if no file is there. The call
+    /// is counted as a call of `read`.
     ///
     /// Errors: `Read`; `OutOfMemory`.
     fn read_first(
@@ -183,8 +183,8 @@ pub trait Place {
         ensures looks { LooksOnce (call.List folder.now) result (at self.old) (at self.new) }
         ensures fails { IfErr result (λ e. e ≢ PlaceFault.OutOfMemory → fails self.old) };
 
-    /// Returns the paths of all files below a folder, except those at or below another path, in
-    /// byte order. Nothing at or below that other path is looked at.
+    /// Returns the paths of all files below a folder, except the files at or below another path, in
+    /// byte order. The call does not look at anything at or below that other path.
     ///
     /// Errors: `List`; `OutOfMemory`.
     fn list_outside(
@@ -199,8 +199,8 @@ pub trait Place {
             (at self.old) (at self.new) }
         ensures fails { IfErr result (λ e. e ≢ PlaceFault.OutOfMemory → fails self.old) };
 
-    /// Returns the paths of the files directly in a folder, in byte order. The folders there are
-    /// not looked into.
+    /// Returns the paths of the files directly in a folder, in byte order. The call does not look
+    /// into the folders there.
     ///
     /// Errors: `List`; `OutOfMemory`.
     fn list_directly(
@@ -214,12 +214,12 @@ pub trait Place {
             (at self.old) (at self.new) }
         ensures fails { IfErr result (λ e. e ≢ PlaceFault.OutOfMemory → fails self.old) };
 
-    /// Returns the paths of the folders directly in a folder, without repeats. These folders are
-    /// not looked into.
+    /// Returns the paths of the folders directly in a folder, without repeats. The call does not
+    /// look into these folders.
     ///
-    /// In the maps these are the folders with a file below them, not counting files at or below
-    /// another path. A machine also has folders without files: it may return them too, but not that
-    /// other path.
+    /// In the maps, these are the folders with a file below them. Files at or below the path
+    /// `left_out` do not count. A real machine also has folders without files. The machine may
+    /// return such folders too, but not `left_out` itself.
     ///
     /// Errors: `List`; `OutOfMemory`.
     fn list_folders(
@@ -248,8 +248,8 @@ pub trait Place {
             (at self.old) (at self.new) }
         ensures fails { IfErr result (λ e. e ≢ PlaceFault.OutOfMemory → fails self.old) };
 
-    /// Writes a file whose bytes come in pieces: those of the first piece, then those of the next.
-    /// Apart from that it is `write`, and is counted as `write` is.
+    /// Writes a file whose bytes come in pieces: the bytes of the first piece, then those of the
+    /// next. Otherwise the call does the same as `write`, and is counted as a call of `write`.
     ///
     /// Errors: `Write`; `OutOfMemory`.
     fn write_pieces(
@@ -266,8 +266,8 @@ pub trait Place {
             (at self.old) (at self.new) }
         ensures fails { IfErr result (λ e. e ≢ PlaceFault.OutOfMemory → fails self.old) };
 
-    /// Removes the file at a path and all files below it. If there are none, nothing changes. After
-    /// an error each of them may still exist.
+    /// Removes the file at a path and all files below the path. If there are no such files, nothing
+    /// changes. After an error each of these files may still exist.
     ///
     /// Errors: `Remove`; `OutOfMemory`.
     fn remove_tree(&mut self, alloc: Global, path: &PathText) -> Result<(), PlaceFault>
@@ -279,7 +279,7 @@ pub trait Place {
             (at self.old) (at self.new) }
         ensures fails { IfErr result (λ e. e ≢ PlaceFault.OutOfMemory → fails self.old) };
 
-    /// Returns the value of a variable, or none if it is not set.
+    /// Returns the value of a variable, or `None` if it is not set.
     ///
     /// Errors: `Variable`; `OutOfMemory`.
     fn variable(&mut self, alloc: Global, name: &str) -> Result<Option<Text>, PlaceFault>
@@ -312,7 +312,7 @@ pub trait Place {
         ensures fails { IfErr result (λ e. e ≢ StartFault.OutOfMemory → fails self.old) };
 
     /// Starts a child process and waits for its end: `spawn`, then `finish`. The folder
-    /// `command.out` is created first, which no clause shows, since the maps contain only files.
+    /// `command.out` is created first. No clause shows this, because the maps contain only files.
     /// Only files inside `out` change; after an error `out` may contain anything.
     ///
     /// Errors: those of `spawn` and of `finish`.
@@ -326,9 +326,9 @@ pub trait Place {
         self.finish(alloc, ticket)
     }
 
-    /// Returns the path that a text spells relative to a folder: that of `PathText::join`. On a
-    /// machine, a `..` after a link leads to the folder that contains the link's target. The call
-    /// is not counted.
+    /// Returns the path that a text spells relative to a folder, as `PathText::join` returns it. On
+    /// a real machine, a `..` after a link leads to the folder that contains the link's target. The
+    /// call is not counted.
     ///
     /// Errors: those of `PathText::join`.
     fn path_from(&self, alloc: Global, folder: &PathText, text: &str) -> Result<PathText, PathFault>
@@ -339,9 +339,10 @@ pub trait Place {
     }
 
     /// Checks whether anything at or below a path, outside the target folder, has changed since the
-    /// child of this command was spawned. This child must be the last that has ended. From then on
-    /// `moved` contains a path that has changed. A machine that cannot decide reports a change.
-    /// Nothing else writes in the maps, so nothing moves there. The call is not counted.
+    /// child of this command was spawned. This child must be the last child that ended. If
+    /// something has changed, `moved` contains a changed path from then on. A machine that cannot
+    /// decide reports a change. In the maps nothing changes, because nothing else writes there. The
+    /// call is not counted.
     ///
     /// Errors: out of memory only.
     fn watch(
@@ -355,17 +356,17 @@ pub trait Place {
         Ok(())
     }
 
-    /// Returns true if nothing that the child of this command read has moved, as far as `watch` has
-    /// looked. The same must be true of the children in whose output folders this child reads. The
-    /// call takes no memory, and is not counted.
+    /// Returns whether everything that the child of this command read is unchanged, as far as
+    /// `watch` has checked. The same must be true of each child whose output folder this child
+    /// reads. The call takes no memory, and is not counted.
     fn stood_still(&self, _command: &Command) -> bool
         ensures { IsTrue is_modelled → result ≡ true }
     {
         true
     }
 
-    /// Returns what has moved, at most one path per child, in the order in which it was found. It
-    /// takes no memory.
+    /// Returns the paths that have changed, at most one path per child, in the order in which they
+    /// were found. The call takes no memory.
     fn moved_paths(&self) -> &[Moved]
         ensures all { result.now ≡ (at self.now).moved }
         ensures none { IsTrue is_modelled → result.now ≡ [] };
@@ -375,21 +376,21 @@ pub trait Place {
     fn files_have_paths(&self)
         ensures { IsTrue is_modelled → FilesHavePaths (at self.now).world };
 
-    /// Returns how many calls failed, at most `u64::MAX`. It takes no memory.
+    /// Returns how many calls failed, at most `u64::MAX`. The call takes no memory.
     fn failures(&self) -> u64
         ensures { result ≡ (at self.now).counts.failures };
 
-    /// Returns how many times `spawn` was called, at most `u64::MAX`. It takes no memory.
+    /// Returns how many times `spawn` was called, at most `u64::MAX`. The call takes no memory.
     fn starts(&self) -> u64
         ensures { result ≡ (at self.now).counts.starts.count };
 
     /// Returns the number of counted calls other than `finish` since the last failure, at most
-    /// `u64::MAX`; 0 if none failed. Calls on `&self`, and `watch`, are not counted. It takes no
-    /// memory.
+    /// `u64::MAX`. If no call failed, the number is 0. Calls on `&self`, and `watch`, are not
+    /// counted. The call takes no memory.
     fn late(&self) -> u64
         ensures { result ≡ (at self.now).counts.late };
 
-    /// Returns the most children that were ever in flight at one moment. It takes no memory.
+    /// Returns the most children that were ever in flight at one moment. The call takes no memory.
     fn most(&self) -> u64
         ensures { result ≡ (at self.now).most };
 }

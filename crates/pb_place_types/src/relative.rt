@@ -8,9 +8,9 @@ use pb_data::{Text, TryCopy};
 use std::alloc::{AllocError, Global};
 use std::marker::Model;
 
-/// A path inside some folder: names with a slash between them, none of them empty, `.` or `..`, and
-/// none with byte 0. Therefore it cannot name anything outside that folder. Contracts see its UTF-8
-/// bytes.
+/// A path inside some folder: names with a slash between them. No name is empty, `.` or `..`, and
+/// no name contains byte 0. Therefore the path cannot name anything outside that folder. Contracts
+/// see the UTF-8 bytes of the path.
 #[derive(Debug, Drop)]
 pub struct RelativePath {
     inside: Text,
@@ -35,7 +35,7 @@ fn is_name(part: &str) -> bool
     !(stays(part) || part == ".." || has_byte_0(part))
 }
 
-/// Returns whether the parts of a text are all names. It takes no memory.
+/// Returns whether the parts of a text are all names. The call takes no memory.
 pub(crate) fn is_relative(text: &str) -> bool
     ensures { result ≡ is_relative text.now }
 {
@@ -62,7 +62,8 @@ impl RelativePath {
         })
     }
 
-    /// Returns a text as a relative path, or none if the text is no relative path. No memory is used.
+    /// Returns a text as a relative path, or `None` if the text is not a relative path. No memory
+    /// is used.
     pub fn of(text: Text) -> Option<RelativePath>
         ensures { result ≡ (if is_relative text then Some text else None) }
     {

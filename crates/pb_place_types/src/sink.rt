@@ -8,11 +8,11 @@ use std::io::Write;
 
 /// A sink of bytes.
 pub trait Out {
-    /// The bytes that it took, if it reports them, and how many writes failed.
+    /// The bytes that the sink took, if the sink reports them, and how many writes failed.
     ghost heard: { Self → SinkState };
 
-    /// Takes the first n of some bytes, and returns n, or none if it fails. If there are bytes and
-    /// a write takes none of them, it has failed too.
+    /// Takes the first n of some bytes, and returns n, or `None` if the write fails. If there are
+    /// bytes and a write takes no byte, the write has failed too.
     fn write(&mut self, bytes: &[u8]) -> Option<usize>
         ensures bound { MatchOption result
             (Keeps (heard self.old).taken (heard self.new).taken)
@@ -20,7 +20,7 @@ pub trait Out {
             × Appends (heard self.old).taken (heard self.new).taken (take n bytes.now)) }
         ensures faults { (heard self.new).faults ≡ sunk result bytes.now (heard self.old).faults };
 
-    /// Returns how many writes failed, at most `u64::MAX`. It takes no memory.
+    /// Returns how many writes failed, at most `u64::MAX`. The call takes no memory.
     fn failures(&self) -> u64
         ensures { result ≡ (heard self.now).faults };
 }

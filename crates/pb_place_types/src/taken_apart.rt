@@ -11,7 +11,8 @@ use pb_data::Text;
 use std::alloc::{AllocError, Global};
 
 impl PathText {
-    /// Returns a text as a path, or none if it is no normalised absolute path. It takes no memory.
+    /// Returns a text as a path, or `None` if the text is not a normalised absolute path. The call
+    /// takes no memory.
     pub fn of(text: Text) -> Option<PathText>
         ensures { result ≡ (if is_path text then Some text else None) }
     {
@@ -21,8 +22,8 @@ impl PathText {
         Some(PathText::of_text(text))
     }
 
-    /// Returns the path of this path inside a folder, or none if it is not strictly below the
-    /// folder. Joined to the folder, it is this path again.
+    /// Returns the part of this path after a folder, or `None` if this path is not strictly below
+    /// the folder. If this part is joined to the folder, the result is this path again.
     ///
     /// Errors: out of memory only.
     #[tactic(auto, using(crate::proofs::TakenApart::inside_laws), unfolding(crate::specs::Paths::is_below))]
@@ -41,8 +42,8 @@ impl PathText {
         Ok(Some(relative))
     }
 
-    /// Returns the last part of this path: the name of its file or folder. For the root it is
-    /// empty. It takes no memory.
+    /// Returns the last part of this path: the name of its file or folder. For the root, the last
+    /// part is empty. The call takes no memory.
     pub fn last_part(&self) -> &str
         ensures { result.now ≡ last_part self.now }
     {
@@ -50,7 +51,7 @@ impl PathText {
     }
 }
 
-/// Returns the rest of a text after a slash at the front, if there is one.
+/// Returns the rest of a text after a slash at the front, if the text begins with a slash.
 fn after_slash(text: &str) -> Option<&str>
     ensures { option_copied result ≡ after_slash text.now }
 {
@@ -79,7 +80,7 @@ fn rest_below<'a>(stem: &str, path: &'a str) -> &'a str
     &path[start..]
 }
 
-/// Returns the texts before and after the last slash, if there is one.
+/// Returns the texts before and after the last slash, if there is a slash.
 fn split_at_last_slash(text: &str) -> Option<(&str, &str)>
     ensures { MatchOption result (last_part text.now ≡ text.now)
         (λ split. last_part text.now ≡ split.1.now) }
@@ -87,7 +88,7 @@ fn split_at_last_slash(text: &str) -> Option<(&str, &str)>
     text.rsplit_once('/')
 }
 
-/// Returns the text after the last slash, or all of it if there is none.
+/// Returns the text after the last slash, or the whole text if there is no slash.
 fn last_part(text: &str) -> &str
     ensures { result.now ≡ last_part text.now }
 {

@@ -11,8 +11,8 @@ use std::alloc::{AllocError, Global};
 use std::collections::BTreeMap;
 use std::marker::Model;
 
-/// Texts by their names, in byte order, such as variables. A look-up takes time logarithmic in
-/// their number.
+/// Texts by their names, such as the values of variables, in byte order of the names. A look-up
+/// takes time logarithmic in the number of names.
 #[derive(Drop)]
 pub struct TextMap {
     inside: BTreeMap<Text, Text>,
@@ -31,7 +31,7 @@ impl Model for TextMap {
 }
 
 impl TextMap {
-    /// Returns a map without names. It takes no memory.
+    /// Returns a map without names. The call takes no memory.
     pub fn new(alloc: Global) -> TextMap
         ensures { result ≡ map.empty }
     {
@@ -40,7 +40,7 @@ impl TextMap {
         }
     }
 
-    /// Returns the text of a name, if it has one.
+    /// Returns the text of a name, if the name has a text.
     ///
     /// Errors: out of memory only.
     #[tactic(auto, using(crate::proofs::MapLemmas::map_laws))]

@@ -3,7 +3,7 @@
 ghost use Rattle.std.specs.Prelude.{◌≡◌, ◌<◌, Some, length, slice_get};
 ghost use Rattle.pb_profile_keys.specs.Table.{keys, index};
 
-/// A key of a profile, in byte order of their names.
+/// A key of a profile. The cases are in byte order of the keys' names.
 #[derive(Clone, Copy, Debug, PartialEq, Eq)]
 pub enum ProfileKey {
     /// `codegen-units`.
@@ -30,7 +30,7 @@ pub enum ProfileKey {
 pub const COUNT: usize = ProfileKey::ALL.len();
 
 impl ProfileKey {
-    /// Each key, in byte order of their names.
+    /// All keys, in byte order of their names.
     pub const ALL: [ProfileKey; 9] = [
         ProfileKey::CodegenUnits,
         ProfileKey::Debug,
@@ -51,7 +51,7 @@ impl ProfileKey {
         ProfileKey::ALL[i]
     }
 
-    /// Returns its index among all keys.
+    /// Returns the index of the key among all keys.
     pub fn index(self) -> usize
         ensures is { result ≡ index self }
         ensures within { index self < length keys }

@@ -1,4 +1,4 @@
-//! What a profile or an override sets: a value, or none, along the keys.
+//! What a profile or an override sets: for each key a value or no value.
 
 ghost use Rattle.std.specs.Prelude.{◌≡◌, ◌<◌, length, set};
 ghost use Rattle.pb_profile_keys.specs.Table.{keys};
@@ -9,7 +9,7 @@ use crate::setting::Setting;
 use std::marker::Model;
 
 /// The keys that a profile or an override sets. A key that is not written has no value. Contracts
-/// see it as the list of values along the keys.
+/// see a list with an optional value for each key.
 #[derive(Clone, Copy)]
 pub struct ProfileKeys {
     values: [Option<Setting>; COUNT],
@@ -24,7 +24,7 @@ impl Model for ProfileKeys {
 }
 
 impl ProfileKeys {
-    /// Returns no keys.
+    /// Returns keys without values.
     pub fn none() -> ProfileKeys
         ensures { result ≡ no_keys }
     {

@@ -1,5 +1,5 @@
-//! The keys of a profile as data (The Cargo Book, Profiles): one table, and what profiles and
-//! compiles say along its keys.
+//! The keys of a profile as data (The Cargo Book, Profiles). One table has a row for each key.
+//! Profiles and compiles have a value for each key of the table.
 #![tactic(auto)]
 
 mod key;

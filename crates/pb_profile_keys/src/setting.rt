@@ -46,7 +46,7 @@ pub enum Word {
     Zero,
 }
 
-/// Each word.
+/// All words.
 const WORDS: [Word; 18] = [
     Word::Abort,
     Word::DebugInfo,
@@ -95,7 +95,7 @@ impl Word {
         }
     }
 
-    /// Returns the word that is spelled so, if there is one.
+    /// Returns the word with this spelling, if there is such a word.
     #[tactic(auto, unfolding(crate::specs::Setting::word_of))]
     pub fn of(text: &str) -> Option<Word>
         ensures { result ≡ word_of text.now }
@@ -104,7 +104,7 @@ impl Word {
     }
 }
 
-/// Returns the word if it is spelled so.
+/// Returns the word if it has this spelling.
 fn if_spelled(text: &str, word: Word) -> Option<Word>
     ensures { result ≡ if_spelled text.now word }
 {
@@ -115,7 +115,7 @@ fn if_spelled(text: &str, word: Word) -> Option<Word>
     }
 }
 
-/// Returns the first of these words that is spelled so.
+/// Returns the first of these words that has this spelling.
 fn spelled_so(words: &[Word], text: &str) -> Option<Word>
     ensures { result ≡ first_some (if_spelled text.now) words.now }
 {
@@ -153,7 +153,7 @@ impl Setting {
         }
     }
 
-    /// Returns the word; `0` for a value that is none.
+    /// Returns the word, or the word `0` if the value is not a word.
     pub fn word(self) -> Word
         ensures { result ≡ word_in self }
     {
@@ -164,7 +164,7 @@ impl Setting {
     }
 }
 
-/// Returns what a written value means by the first of these choices that has it.
+/// Returns what a written value means by the first of these choices that allows the value.
 pub fn meaning(choices: &[Choice], written: Setting) -> Option<Setting>
     ensures { result ≡ meaning choices.now written }
 {
@@ -178,7 +178,7 @@ pub fn meaning(choices: &[Choice], written: Setting) -> Option<Setting>
     None
 }
 
-/// A value that a key may have, or several, and what it means.
+/// A choice of a key: one value or several that the key may have, and what each value means.
 #[derive(Clone, Copy, Debug)]
 pub enum Choice {
     /// A value that means itself.
@@ -190,7 +190,7 @@ pub enum Choice {
 }
 
 impl Choice {
-    /// Returns what a written value means by the choice, if it is one of its values.
+    /// Returns what a written value means by the choice, if the choice allows the value.
     pub fn value_for(self, written: Setting) -> Option<Setting>
         ensures { result ≡ accepted written self }
     {

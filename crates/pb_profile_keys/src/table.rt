@@ -1,4 +1,4 @@
-//! The table of the keys: what is known of each.
+//! The table of the keys, with a row for each key.
 
 ghost use Rattle.std.specs.Prelude.{◌≡◌};
 ghost use Rattle.pb_profile_keys.specs.Table.{row, choices, defaults, told};
@@ -6,7 +6,7 @@ ghost use Rattle.pb_profile_keys.specs.Table.{row, choices, defaults, told};
 use crate::key::ProfileKey;
 use crate::setting::{Choice, Setting, Word};
 
-/// What is known of a key.
+/// The row of a key.
 #[derive(Clone, Copy)]
 pub struct Row {
     /// Its name in a manifest.
@@ -17,19 +17,19 @@ pub struct Row {
     pub dev: Setting,
     /// Its value in `release`.
     pub release: Setting,
-    /// Its value in the host's role beside `build-override`, if there is one.
+    /// The value in the host's role if no override sets the key, if there is such a value.
     pub beside_override: Option<Setting>,
-    /// Its value in the host's role whatever is written, if there is one.
+    /// The value in the host's role whatever the manifest sets, if there is such a value.
     pub in_hosts: Option<Setting>,
-    /// Whether an override may set it.
+    /// Whether an override may set the key.
     pub in_override: bool,
-    /// The beginning of the compiler's option for it.
+    /// The beginning of the compiler's option for the key.
     pub option: &'static str,
     /// The option's value for `true`.
     pub yes: &'static str,
-    /// The value without an option, if there is one.
+    /// The value for which the compiler gets no option, if there is such a value.
     pub untold: Option<Setting>,
-    /// Whether only the compile of a binary has the option.
+    /// Whether only the compile of a binary gets the option.
     pub of_binaries: bool,
 }
 
@@ -83,7 +83,7 @@ const STRIP: &[Choice] = &[
     Choice::Is(Setting::Word(Word::Symbols)),
 ];
 
-/// The row of a truth value with nothing special, which is false in `dev` and `release`.
+/// The plain row: a truth value that is false in `dev` and `release`, with nothing special.
 const PLAIN: Row = Row {
     name: "",
     choices: TRUTH,
@@ -119,7 +119,7 @@ pub fn told_keys() -> &'static [ProfileKey]
 }
 
 impl ProfileKey {
-    /// Returns what is known of the key.
+    /// Returns the row of the key.
     #[tactic(auto, unfolding(crate::specs::Table::row, crate::specs::Table::choices, crate::specs::Table::defaults))]
     pub fn row(self) -> Row
         ensures name { result.name.now ≡ (row self).name }
