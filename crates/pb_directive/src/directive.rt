@@ -28,7 +28,7 @@ pub enum Directive {
     LinkLib(Text),
     /// `rustc-link-search`: a folder in which libraries are looked for.
     LinkSearch(Text),
-    /// `rustc-cfg`: a condition that is on.
+    /// `rustc-cfg`: a condition that is set.
     Cfg(Text),
     /// `rustc-check-cfg`: conditions that are expected.
     CheckCfg(Text),
@@ -38,7 +38,7 @@ pub enum Directive {
     Metadata(Text, Text),
     /// `warning`: a text for the user.
     Warning(Text),
-    /// `error`: a text for the user; the script is bad, whatever its status.
+    /// `error`: a text for the user. The script then counts as failed, whatever its exit status.
     Error(Text),
 }
 

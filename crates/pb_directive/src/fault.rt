@@ -6,7 +6,7 @@ ghost use Rattle.pb_directive.specs.Faults.{fault_at};
 use std::alloc::{AllocError, AllocFailed};
 use thiserror::Error;
 
-/// The first fault of a text, with the number of its line, from 1.
+/// The first fault of a text, with the number of the faulty line. Lines are counted from 1.
 #[derive(Clone, Copy, Debug, PartialEq, Eq, Error)]
 pub enum LineFault {
     /// A line of dep-info is not UTF-8.
@@ -15,14 +15,14 @@ pub enum LineFault {
     /// The key after `cargo::` is unknown.
     #[error("line {0} has an unknown key")]
     UnknownKey(u64),
-    /// A value that its key may not have; a line after `cargo::` without `=`; an empty name,
-    /// a name or a word with byte 0; a rule of dep-info in which no colon ends the outputs.
+    /// A key has a value that is not allowed, or `=` is missing after `cargo::`. Or a name is
+    /// empty, a name or a word has byte 0, or no colon ends the outputs of a rule of dep-info.
     #[error("line {0} has a bad value")]
     BadValue(u64),
     /// A word of `rustc-flags` is neither a library nor a folder of libraries.
     #[error("line {0} has a bad flag")]
     BadFlag(u64),
-    /// Memory ran out.
+    /// Out of memory.
     #[error("out of memory")]
     OutOfMemory,
 }
@@ -36,20 +36,20 @@ pub enum Problem {
     /// The key after `cargo::` is unknown.
     #[error("an unknown key")]
     UnknownKey,
-    /// A value that its key may not have; a line after `cargo::` without `=`; an empty name,
-    /// a name or a word with byte 0; a rule of dep-info in which no colon ends the outputs.
+    /// A key has a value that is not allowed, or `=` is missing after `cargo::`. Or a name is
+    /// empty, a name or a word has byte 0, or no colon ends the outputs of a rule of dep-info.
     #[error("a bad value")]
     BadValue,
     /// A word of `rustc-flags` is neither a library nor a folder of libraries.
     #[error("a bad flag")]
     BadFlag,
-    /// Memory ran out.
+    /// Out of memory.
     #[error("out of memory")]
     OutOfMemory,
 }
 
 impl Problem {
-    /// Returns the fault of a text whose line of this number has the problem.
+    /// Returns the fault of a text in which the line with this number has the problem.
     pub fn at(self, line: u64) -> LineFault
         ensures { result ≡ fault_at line self }
     {

@@ -24,7 +24,7 @@ fn flag_name<'a>(letter: &str, word: &'a str) -> Option<&'a str>
     Some(name)
 }
 
-/// Returns the flag of one word.
+/// Returns the flag that a single word spells.
 fn flag_of(alloc: Global, word: &str) -> Result<Directive, Problem>
     ensures { LineGives result (flag_of word.now) }
 {
@@ -37,7 +37,7 @@ fn flag_of(alloc: Global, word: &str) -> Result<Directive, Problem>
     Err(Problem::BadFlag)
 }
 
-/// Returns the next word, as the name of a flag whose letter is a word of its own.
+/// Returns the next word, as the name of a flag whose letter is a separate word.
 fn next_name(alloc: Global, words: &mut Words) -> Result<Text, Problem>
     ensures name { NextName result words.old words.new }
     ensures shorter { length words.new ≤ length words.old }
@@ -48,8 +48,8 @@ fn next_name(alloc: Global, words: &mut Words) -> Result<Text, Problem>
     Ok(Text::from_str(alloc, word)?)
 }
 
-/// Returns the flag that begins with a word. If the word is
-/// only the letter, its name is the next word.
+/// Returns the flag that begins with a word. If the word is only the flag's letter, the flag's name
+/// is the next word.
 #[tactic(auto, using(crate::proofs::FlagLemmas::flag_laws))]
 fn flag_from(alloc: Global, word: &str, words: &mut Words) -> Result<Directive, Problem>
     ensures flag { TakesFlag result word.now words.old words.new }

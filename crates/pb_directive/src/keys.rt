@@ -5,7 +5,7 @@ ghost use Rattle.pb_directive.specs.Directives.{key_of, new_key_of};
 
 use crate::directive::Key;
 
-/// Returns the key of this name, after `cargo::` and after `cargo:`.
+/// Returns the key with this name. The key has the same name after `cargo::` and after `cargo:`.
 pub fn key_of(name: &str) -> Option<Key>
     ensures { result ≡ key_of name.now }
 {
@@ -30,7 +30,7 @@ pub fn key_of(name: &str) -> Option<Key>
     }
 }
 
-/// Returns the key of this name, after `cargo::`.
+/// Returns the key that has this name after `cargo::`.
 pub fn new_key_of(name: &str) -> Option<Key>
     ensures { result ≡ new_key_of name.now }
 {

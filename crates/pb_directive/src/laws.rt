@@ -1,4 +1,4 @@
-//! Laws of what is read, above the definitions. Nothing runs here.
+//! Laws of what is read. Each function does nothing; its contract is the law.
 
 ghost use Rattle.std.specs.Prelude.{◌≡◌, ℕ, List, ◌∷◌, ◌++◌, [], codes, None, Ok};
 ghost use Rattle.pb_data.specs.OrderedSet.{once, EachOnce};
@@ -13,15 +13,15 @@ ghost use Rattle.pb_directive.specs.Metadata.{passed, dep_pairs};
 ghost use Rattle.pb_directive.specs.declared.directive.Directive.{Directive};
 ghost use Rattle.pb_directive.specs.declared.dep_info.DepInfo.{DepInfo};
 
-/// Two texts with a line feed between them mean what the first means and then what the second
-/// means. The first fault counts. If only the second text has a fault, its line number also counts
-/// the lines of the first text.
+/// Suppose that two texts are joined with a line feed between them. The result means what the first
+/// text means, followed by what the second text means. The first fault counts. If only the second
+/// text has a fault, the fault's line number also counts the lines of the first text.
 pub fn directives_concatenate()
     ensures { (text more : List ℕ) → directives_of (followed_by text more)
         ≡ then_said (line_count text) (directives_of text) (directives_of more) }
 {}
 
-/// The same is true of all names of dep-info, before each name is kept once.
+/// The same is true of the names of dep-info, before repeated names are removed.
 pub fn names_concatenate()
     ensures { (text more : List ℕ) → all_names_of (followed_by text more)
         ≡ then_named (line_count text) (all_names_of text) (all_names_of more) }
@@ -54,20 +54,20 @@ pub fn last_metadata_counts()
         → value_at name (dep_pairs links directives) ≡ last_value name (passed links directives) }
 {}
 
-/// Each variable that metadata names occurs once, in order of first mention.
+/// Each variable that metadata names occurs once, and the variables are in order of first mention.
 pub fn passed_names_stand_once()
     ensures { (links : List ℕ) (directives : List Directive)
         → names_of (dep_pairs links directives) ≡ once (names_of (passed links directives)) }
 {}
 
-/// A line of a build script's output means what its key means with its value, key by key. Each
-/// refusal is the right one (The Cargo Book, Build Scripts, Outputs of the Build Script).
+/// A line of a build script's output means what its key means with its value, for each key. Each
+/// refused line gets the right error (The Cargo Book, Build Scripts, Outputs of the Build Script).
 pub fn lines_say()
     ensures { LinesSay }
 {}
 
-/// A line of dep-info names what its kind of line names (The Cargo Book,
-/// Build Cache, Dep-Info Files), and each refusal is the right one.
+/// A line of dep-info names what its kind of line names (The Cargo Book, Build Cache, Dep-Info
+/// Files). Each refused line gets the right error.
 pub fn infos_say()
     ensures { InfosSay }
 {}

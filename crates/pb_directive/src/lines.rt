@@ -55,7 +55,7 @@ fn line_end(bytes: &[u8]) -> Option<usize>
     bytes.iter().position(|byte| *byte == b'\n')
 }
 
-/// Returns the first line, and what follows its line feed, if there is one.
+/// Returns the first line, and the text that follows the line feed, if there is a line feed.
 #[tactic(auto, using(crate::proofs::TextLemmas::line_laws))]
 fn first_line(bytes: &[u8]) -> (&[u8], Option<&[u8]>)
     ensures { lines_of bytes.now

@@ -10,7 +10,7 @@ use crate::directive::{Directive, Directives};
 use pb_data::{Table, Text, TryCopy};
 use std::alloc::{AllocError, Global};
 
-/// Returns what comes before and after the first `-`, if there is one.
+/// Returns the texts before and after the first `-`, if there is a `-`.
 fn split_at_dash(text: &str) -> Option<(&str, &str)>
     ensures { option_map (λ p. (p.0.now, p.1.now)) result ≡ split_first 45 text.now }
 {
@@ -55,9 +55,9 @@ fn dep_name(alloc: Global, links: &str, key: &str) -> Result<Text, AllocError>
 }
 
 /// Adds the variables that the metadata of one more build script sets, in printed order. A later
-/// value replaces an earlier one, and a new name goes last. The variables' names are those of
-/// `dep_pairs`. The function takes the table and returns it, so that nobody sees a table with only
-/// a part added.
+/// value replaces an earlier value, and a new name goes last. The variables' names are those of
+/// `dep_pairs`. The function takes the table and returns it, so that no caller sees a table to
+/// which only some variables were added.
 ///
 /// Errors: out of memory.
 pub fn add_dep_pairs(
@@ -78,13 +78,13 @@ pub fn add_dep_pairs(
     Ok(after)
 }
 
-/// Returns the variables by which the metadata of one build script reaches the
-/// build scripts of the packages that need its package directly, with their
-/// values (The Cargo Book, "Build Scripts", "The `links` Manifest Key").
+/// Returns the variables, with their values, that pass on the metadata of a build script. They
+/// reach the build scripts of the packages that directly need the package of this build script (The
+/// Cargo Book, "Build Scripts", "The `links` Manifest Key").
 ///
-/// `links` is the value of `links` in the package's manifest. A variable's name is
-/// `DEP_LINKS_KEY`; in it `links` and the metadata's key are in upper case, with `_`
-/// for each `-`. Each name occurs once, in order of first mention, with its last value.
+/// `links` is the value of `links` in the package's manifest. A variable's name is `DEP_LINKS_KEY`,
+/// in which the value of `links` and the metadata's key are in upper case, with `_` for each `-`.
+/// Each name occurs once, in order of first mention, with its last value.
 ///
 /// Errors: out of memory.
 pub fn dep_pairs(

@@ -94,12 +94,12 @@ fn add_line(alloc: Global, line: &[u8], info: &mut DepInfo) -> Result<(), Proble
 /// carriage return at the end of a line is ignored. An empty line names nothing. A line
 /// `# env-dep:NAME` or `# env-dep:NAME=VALUE` names a variable, whatever the value;
 /// other lines that begin with `#` name nothing. Any other line is a rule: its outputs
-/// end at the first `:` that a space follows or that ends the line. After it come its
-/// words, separated by spaces; `\ ` is a space of a word, and any other `\` is itself.
+/// end at the first `:` that a space follows or that ends the line. After this `:` come the rule's
+/// words, separated by spaces. In a word, `\ ` means a space, and any other `\` means itself.
 ///
-/// Errors: that of the first faulty line, with its number from 1: `NotText`,
-/// if it is not UTF-8; `BadValue`, for a rule without such a `:`, a word or
-/// a variable's name with byte 0, or an empty name. `OutOfMemory`.
+/// Errors: the error of the first faulty line, with the line's number, counted from 1. `NotText`,
+/// if the line is not UTF-8. `BadValue`, for a rule without such a `:`, a word or a variable's name
+/// with byte 0, or an empty name. `OutOfMemory`.
 pub fn read_dep_info(alloc: Global, bytes: &[u8]) -> Result<DepInfo, LineFault>
     ensures { TextGives result (dep_info_of bytes.now) }
 {

@@ -70,7 +70,7 @@ fn add_new(alloc: Global, setting: &str, found: &mut Directives) -> Result<(), P
     add_at(alloc, key, value, found)
 }
 
-/// Returns metadata, whose key is not empty.
+/// Returns metadata. The key must not be empty.
 fn metadata(alloc: Global, name: &str, value: &str) -> Result<Directive, Problem>
     ensures { LineGives result (metadata name.now value.now) }
 {
@@ -117,9 +117,9 @@ fn add_line(alloc: Global, line: &[u8], found: &mut Directives) -> Result<(), Pr
 /// the prefix comes the key, up to the first `=`. After `cargo:`, a line without `=`
 /// means nothing, and any other key, including `metadata` and `error`, is metadata.
 ///
-/// Errors: that of the first faulty line, with its number from 1. After `cargo::`:
-/// `UnknownKey`, if the key is unknown (our own choice), and `BadValue`, if there is no `=`.
-/// After either prefix: `BadValue`, for a value that the key does not accept, and `BadFlag`,
+/// Errors: the error of the first faulty line, with the line's number, counted from 1. After
+/// `cargo::`: `UnknownKey`, if the key is unknown (our own choice), and `BadValue`, if there is no
+/// `=`. After either prefix: `BadValue`, for a value that the key does not accept, and `BadFlag`,
 /// for a word of `rustc-flags` that is neither `-l` nor `-L` with a name. `OutOfMemory`.
 pub fn read_directives(alloc: Global, bytes: &[u8]) -> Result<Directives, LineFault>
     ensures { TextGives result (directives_of bytes.now) }

@@ -21,14 +21,15 @@ fn ends_outputs(text: &str) -> bool
     }
 }
 
-/// Returns what comes before and after the first colon, if there is one.
+/// Returns the texts before and after the first colon, if there is a colon.
 fn split_at_colon(text: &str) -> Option<(&str, &str)>
     ensures { option_map (λ p. (p.0.now, p.1.now)) result ≡ split_first 58 text.now }
 {
     text.split_once(':')
 }
 
-/// Returns what follows the first colon that ends the outputs of a rule, if there is one.
+/// Returns the text after the first colon that ends the outputs of a rule, if there is such a
+/// colon.
 #[tactic(auto, using(crate::proofs::RuleLemmas::output_laws))]
 pub fn after_outputs(text: &str) -> Option<&str>
     ensures { option_copied result ≡ after_outputs text.now }
@@ -43,7 +44,7 @@ pub fn after_outputs(text: &str) -> Option<&str>
     None
 }
 
-/// Returns a part without the `\` at its end, if there is one.
+/// Returns a part without the `\` at the part's end, if the part ends with `\`.
 fn before_backslash(part: &str) -> Option<&str>
     ensures { MatchOption result ((front : List ℕ) → part.now ≢ front ++ 92 ∷ [])
         (λ front. part.now ≡ front.now ++ 92 ∷ []) }
@@ -51,7 +52,8 @@ fn before_backslash(part: &str) -> Option<&str>
     part.strip_suffix('\\')
 }
 
-/// Returns the first part of a text, and what follows the space that ends it, if there is one.
+/// Returns the first part of a text and the text after the space that ends this part. There is a
+/// second text only if there is such a space.
 fn first_part(alloc: Global, text: &str) -> Result<(String, Option<&str>), AllocError>
     ensures parts { IfOk result (λ p.
         parts_of text.now ≡ string_bytes p.0 ∷ option_map_or (λ rest. parts_of rest.now) p.1 []) }
@@ -87,7 +89,7 @@ fn add_part(part: String, words: &mut OrderedSet) -> Result<(), AllocError>
     Ok(())
 }
 
-/// Adds the words of a rule to the mentioned texts. They follow its outputs.
+/// Adds the words of a rule to the mentioned texts. The words follow the outputs of the rule.
 pub fn add_words(alloc: Global, text: &str, words: &mut OrderedSet) -> Result<(), AllocError>
     ensures { OnOk result (words.new ≡ mentioned_all words.old (rule_words text.now)) }
 {

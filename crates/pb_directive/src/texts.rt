@@ -4,7 +4,7 @@ ghost use Rattle.std.specs.Prelude.{◌≡◌, codes};
 ghost use Rattle.std.specs.Option.{option_copied, option_map};
 ghost use Rattle.pb_directive.specs.Lines.{text_of, has_byte, after_prefix, split_first};
 
-/// Returns bytes as a text, if they are UTF-8.
+/// Returns bytes as a text, if the bytes are UTF-8.
 #[tactic(auto, using(crate::proofs::TextLemmas::text_laws))]
 pub fn text_of(bytes: &[u8]) -> Option<&str>
     ensures { option_copied result ≡ text_of bytes.now }
@@ -29,7 +29,7 @@ pub fn after_prefix<'a>(prefix: &str, text: &'a str) -> Option<&'a str>
     text.strip_prefix(prefix)
 }
 
-/// Returns what comes before and after the first `=`, if there is one.
+/// Returns the texts before and after the first `=`, if there is a `=`.
 pub fn split_at_equals(text: &str) -> Option<(&str, &str)>
     ensures { option_map (λ p. (p.0.now, p.1.now)) result ≡ split_first 61 text.now }
 {

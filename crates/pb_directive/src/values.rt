@@ -29,7 +29,7 @@ pub fn unless_empty(alloc: Global, value: &str) -> Result<Text, Problem>
     Ok(text)
 }
 
-/// Returns the name of a variable: not empty, without `=` and byte 0.
+/// Returns the name of a variable, which is not empty and contains neither `=` nor byte 0.
 pub fn variable(alloc: Global, value: &str) -> Result<Text, Problem>
     ensures { LineGives result (variable value.now) }
 {
@@ -40,7 +40,7 @@ pub fn variable(alloc: Global, value: &str) -> Result<Text, Problem>
     Ok(name)
 }
 
-/// Returns what comes before and after the first `=` of a value without byte 0.
+/// Returns the texts before and after the first `=` of a value without byte 0.
 pub fn halves(alloc: Global, value: &str) -> Result<(Text, Text), Problem>
     ensures { LineGives result (halves value.now) }
 {

@@ -22,7 +22,7 @@ impl<'a> Model for Words<'a> {
     ghost view = { λ a. words_of a.rest.now };
 }
 
-/// Returns the parts of a text between spaces that are not empty.
+/// Returns the parts of a text between spaces, except empty parts.
 pub fn words_of(text: &str) -> Words<'_>
     ensures { result ≡ words_of text.now }
 {
@@ -45,14 +45,14 @@ impl<'a> Iterator for Words<'a> {
     }
 }
 
-/// Returns what comes before and after the first space, if there is one.
+/// Returns the texts before and after the first space, if there is a space.
 pub fn split_at_space(text: &str) -> Option<(&str, &str)>
     ensures { option_map (λ p. (p.0.now, p.1.now)) result ≡ split_first 32 text.now }
 {
     text.split_once(' ')
 }
 
-/// Returns the first word and what follows it, if there is one.
+/// Returns the first word and the text after this word, if there is a word.
 #[tactic(auto, using(crate::proofs::WordLemmas::word_laws))]
 fn first_word(text: &str) -> Option<(&str, &str)>
     ensures { MatchOption result (words_of text.now ≡ [])

@@ -9,7 +9,7 @@ use crate::target::Library;
 use pb_data::{Text, TryCopy};
 use std::alloc::{AllocError, Global};
 
-/// Returns the texts before and after the first `-`, if there is one.
+/// Returns the texts before and after the first `-`, if there is a `-`.
 #[tactic(auto, unfolding(crate::specs::Features::parted))]
 fn parted_at_dash(text: &str) -> Option<(&str, &str)>
     ensures { option_map (λ x. (x.0.now, x.1.now)) result ≡ parted 45 text.now }

@@ -39,12 +39,12 @@ impl TryCopy for PathSource {
 pub enum Source {
     /// A folder.
     Path(PathSource),
-    /// `workspace = true`: the entry with this key in `[workspace.dependencies]`. The entry's
-    /// `path`, `package` and `version` have no effect next to it.
+    /// `workspace = true`: the entry with the same key in `[workspace.dependencies]`. Next to
+    /// `workspace = true`, the keys `path`, `package` and `version` have no effect.
     Workspace {
-        /// Whether `default-features = true` is written next to it, which requests the package's
-        /// feature `default` even if that entry does not. `default-features = false` has no effect:
-        /// our own choice.
+        /// Whether `default-features = true` is written next to `workspace = true`. Then the
+        /// package's feature `default` is requested even if the workspace's entry does not request
+        /// it. `default-features = false` has no effect here: our own choice.
         default_features: bool,
     },
 }
@@ -52,14 +52,14 @@ pub enum Source {
 /// An entry of `[dependencies]` or `[build-dependencies]`.
 #[derive(Drop)]
 pub struct Dependency {
-    /// The name that the manifest uses for it, with the letters of package names.
+    /// The name that the manifest uses for the dependency, with the letters of package names.
     pub key: Text,
     /// The source of the dependency.
     pub source: Source,
-    /// False if it is not written.
+    /// Whether the dependency is optional. False if `optional` is not written.
     pub optional: bool,
-    /// The features that it requests, in the manifest's order. With `workspace = true` they are
-    /// added to those of the workspace's entry.
+    /// The features that the entry requests, in the manifest's order. With `workspace = true` these
+    /// features are added to the features of the workspace's entry.
     pub features: Items<Text>,
 }
 
@@ -79,6 +79,6 @@ pub struct WorkspaceDependency {
     pub key: Text,
     /// The source of the dependency.
     pub source: WorkspaceSource,
-    /// The features that it requests, in the manifest's order.
+    /// The features that the entry requests, in the manifest's order.
     pub features: Items<Text>,
 }

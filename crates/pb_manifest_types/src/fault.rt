@@ -19,15 +19,15 @@ pub enum ManifestFault {
     #[error("the manifest is not TOML")]
     NotToml,
     /// A value outside `[profile]` has the wrong type, is not an allowed value, or is a path with
-    /// byte 0. The key is the rule's; for an entry of a table of dependencies or features, it is
-    /// that table's.
+    /// byte 0. The reported key is the key that the rule names. For an entry of a table of
+    /// dependencies or features, it is the key of that table.
     #[error("`{}` has a value that is not allowed", .0.name())]
     BadKind(Key),
-    /// The name of a package, a binary or a dependency is missing, or such a name or a library's
-    /// has invalid letters.
+    /// The name of a package, a binary or a dependency is missing. Or the name of a package, a
+    /// binary, a dependency or a library has invalid letters.
     #[error("a name is missing or has letters that are not allowed")]
     BadName,
-    /// A version or a version requirement is not one of Semantic Versioning.
+    /// A version or a version requirement is not valid by Semantic Versioning.
     #[error("a version or a version requirement cannot be read")]
     BadVersion,
     /// The manifest has a table `target`, `patch` or `replace`. Our own choice.
@@ -43,7 +43,7 @@ pub enum ManifestFault {
     /// has invalid letters in its name, or is called `debug`.
     #[error("a profile has a name or a value that is not allowed, or has no `inherits`")]
     BadProfile,
-    /// A feature's name has invalid letters, or an item has none of the forms.
+    /// A feature's name has invalid letters, or an item of a feature has no valid form.
     #[error("a feature has a name or an item that is not allowed")]
     BadFeature,
     /// The manifest has more than 1,048,576 bytes. Our own choice.

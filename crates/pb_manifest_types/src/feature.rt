@@ -18,7 +18,8 @@ pub enum FeatureItem {
 /// A feature and the items that it enables, in the manifest's order.
 #[derive(Drop)]
 pub struct Feature {
-    /// Its name: ASCII letters, digits and `_`, after the first also `-`, `+` and `.`; not empty.
+    /// The name, which is not empty: ASCII letters, digits and `_`, and after the first byte also
+    /// `-`, `+` and `.`.
     pub name: Text,
     /// The items that it enables, in the manifest's order.
     pub items: Items<FeatureItem>,

@@ -46,8 +46,7 @@ fn are_feature_bytes(bytes: &[u8]) -> bool
     bytes.iter().all(|byte| is_feature_byte(*byte))
 }
 
-/// Returns whether a text is a non-empty name of ASCII letters, digits, `-` and `_`, as packages
-/// have.
+/// Returns whether a text may be a package's name: ASCII letters, digits, `-` and `_`, not empty.
 #[tactic(auto, unfolding(crate::specs::Letters::is_name))]
 pub fn is_name(text: &str) -> bool
     ensures { result ≡ is_name text.now }
@@ -55,7 +54,7 @@ pub fn is_name(text: &str) -> bool
     !text.is_empty() && are_name_bytes(text.as_bytes())
 }
 
-/// Returns whether a text is a non-empty name of ASCII letters, digits and `_`, as crates have.
+/// Returns whether a text may be a crate's name: ASCII letters, digits and `_`, not empty.
 #[tactic(auto, unfolding(crate::specs::Letters::is_crate_name))]
 pub fn is_crate_name(text: &str) -> bool
     ensures { result ≡ is_crate_name text.now }

@@ -40,13 +40,13 @@ pub struct WorkspacePackage {
 pub struct WorkspaceTable {
     /// Paths and globs, in the manifest's order.
     pub members: Items<WrittenPath>,
-    /// Paths and globs, in the manifest's order. `None` if it is not written.
+    /// Paths and globs, in the manifest's order. `None` if the key is not written.
     pub default_members: Option<Items<WrittenPath>>,
     /// Paths, in the manifest's order.
     pub exclude: Items<WrittenPath>,
-    /// `None` if it is not written.
+    /// `[workspace.package]`. `None` if it is not written.
     pub package: Option<WorkspacePackage>,
-    /// `[workspace.dependencies]`, in byte order of their keys.
+    /// `[workspace.dependencies]`, in byte order of the keys.
     pub dependencies: Items<WorkspaceDependency>,
 }
 
@@ -59,16 +59,17 @@ pub struct Manifest {
     pub library: Option<Library>,
     /// `[[bin]]`, in the manifest's order.
     pub binaries: Items<Binary>,
-    /// In byte order of their keys.
+    /// `[dependencies]`, in byte order of the keys.
     pub dependencies: Items<Dependency>,
-    /// In byte order of their keys.
+    /// `[build-dependencies]`, in byte order of the keys.
     pub build_dependencies: Items<Dependency>,
-    /// The keys of `[dev-dependencies]` in byte order, with any letters. A feature may name one of
-    /// them, without effect. Nothing else of this table is read; if it is no table, there are none.
+    /// The keys of `[dev-dependencies]` in byte order, with any letters. A feature may name such a
+    /// key, without effect. Nothing else of this table is read. If the value is not a table, there
+    /// are no keys.
     pub dev_dependencies: Items<Text>,
-    /// In byte order of their names.
+    /// `[features]`, in byte order of the names.
     pub features: Items<Feature>,
-    /// In byte order of their names.
+    /// `[profile]`, in byte order of the names.
     pub profiles: Items<Profile>,
     /// `[workspace]`, if it is written.
     pub workspace: Option<WorkspaceTable>,

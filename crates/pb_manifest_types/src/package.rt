@@ -37,7 +37,7 @@ pub enum Build {
 pub enum Readme {
     /// `readme = true`, which means `README.md`.
     Standard,
-    /// `readme = false`: there is none.
+    /// `readme = false`: there is no README.
     Never,
     /// The file's path.
     At(Text),
@@ -62,7 +62,7 @@ impl TryCopy for Readme {
 pub struct Package {
     /// In the manifest's order.
     pub authors: Inheritable<Items<Text>>,
-    /// Whether binaries are discovered. True if it is not written: our own choice, in every
+    /// Whether binaries are discovered. True if the key is not written: our own choice, in every
     /// edition.
     pub autobins: bool,
     /// The value at `build`.
@@ -77,11 +77,11 @@ pub struct Package {
     pub license: Inheritable<Text>,
     /// Any text.
     pub license_file: Inheritable<Text>,
-    /// Any text, also an empty one. `None` if it is not written.
+    /// Any text, even an empty text. `None` if the key is not written.
     pub links: Option<Text>,
     /// ASCII letters, digits, `-` and `_`, not empty.
     pub name: Text,
-    /// If it is not written, the README is discovered.
+    /// If the key is not written, the README is discovered.
     pub readme: Inheritable<Readme>,
     /// `repository`.
     pub repository: Inheritable<Text>,

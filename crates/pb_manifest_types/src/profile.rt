@@ -6,7 +6,7 @@ use pb_profile_keys::ProfileKeys;
 /// A table of `[profile.NAME.package]`.
 #[derive(Drop)]
 pub struct ProfileOverride {
-    /// A package's name, or `*` for every package that is no member.
+    /// A package's name, or `*` for every package that is not a member.
     pub name: Text,
     /// The keys that it sets.
     pub keys: ProfileKeys,
@@ -20,9 +20,10 @@ pub struct Profile {
     pub name: Text,
     /// The keys that it sets.
     pub keys: ProfileKeys,
-    /// Present in each custom profile. In a built-in profile it has no effect: our own choice.
+    /// Each custom profile has this key. In a built-in profile the key has no effect: our own
+    /// choice.
     pub inherits: Option<Text>,
-    /// In byte order of their names.
+    /// The overrides for packages, in byte order of their names.
     pub packages: Items<ProfileOverride>,
     /// The keys that `build-override` sets, for build scripts and what they depend on. `None` if it
     /// is not written.

@@ -47,8 +47,8 @@ fn texts_of(alloc: Global, crate_types: &[CrateType]) -> Result<Vec<&'static str
     Ok(texts)
 }
 
-/// Returns the spellings of a library's crate types, in the manifest's order; only `lib` if none is
-/// written (The Cargo Book, Cargo Targets).
+/// Returns the spellings of a library's crate types, in the manifest's order. If no crate type is
+/// written, returns only `lib` (The Cargo Book, Cargo Targets).
 ///
 /// Errors: out of memory only.
 pub fn crate_type_texts(

@@ -17,7 +17,8 @@ pub enum CrateType {
 /// The table `[lib]`.
 #[derive(Drop)]
 pub struct Library {
-    /// In the manifest's order. Empty if none is written, which means `lib`.
+    /// The crate types, in the manifest's order. If no crate type is written, the list is empty,
+    /// which means `lib`.
     pub crate_types: Items<CrateType>,
     /// The crate's name: ASCII letters, digits and `_`, not empty. `None` means the package's name
     /// with `_` for each `-`.
@@ -31,7 +32,7 @@ pub struct Library {
 pub struct Binary {
     /// ASCII letters, digits, `-` and `_`, not empty.
     pub name: Text,
-    /// Relative to the package's folder. `None` means that the file is looked for.
+    /// Relative to the package's folder. `None` means that the file is discovered.
     pub path: Option<WrittenPath>,
     /// The features that the binary requires.
     pub required_features: Items<Text>,
