@@ -11,7 +11,7 @@ use pb_data::Text;
 use pb_place_types::{ChildInFlight, PathText, StartFault};
 
 /// A child in flight, and what a place stores with it. A place in memory stores the fault that the
-/// child's end will return, if there is one. A real place stores the running child.
+/// child's end will return, if it will return a fault. A real place stores the running child.
 #[derive(Drop)]
 pub struct Flying<K> {
     /// The child.
@@ -20,16 +20,16 @@ pub struct Flying<K> {
     pub kept: K,
 }
 
-/// A start that will fail: the next one whose folder has this name.
+/// A start that will fail: the next start whose folder has this name.
 #[derive(Debug, Drop)]
 pub struct Death {
     /// The name of the folder.
     pub key: Text,
-    /// The fault with which it fails.
+    /// The fault with which the start fails.
     pub kind: StartFault,
 }
 
-/// Returns whether one of the entries has this ticket.
+/// Returns whether an entry has this ticket.
 fn has_ticket<K>(flying: &[Flying<K>], ticket: u64) -> bool
     ensures { result ≡ list_any (λ f. f.child.ticket == ticket) flying.now }
 {
@@ -44,9 +44,9 @@ pub fn flies<K>(flying: &[Flying<K>], ticket: u64) -> bool
     has_ticket(flying, ticket)
 }
 
-/// Returns the lowest number that no child in flight has. That number is at most the number of
-/// children, so the result is never none. The contract promises only that it is none if all numbers
-/// up to there are taken.
+/// Returns the lowest number that no child in flight has. This number is at most the number of
+/// children, so the result is never `None`. The contract promises less: if the result is `None`,
+/// all numbers up to the number of children are taken.
 #[tactic(auto, using(crate::proofs::InFlight::flying_laws))]
 pub fn free_ticket<K>(flying: &[Flying<K>]) -> Option<u64>
     ensures free { IfSome result (λ ticket. is_flying ticket (children_in flying.now) ≡ false) }
@@ -78,7 +78,8 @@ fn place_of_ticket<K>(flying: &[Flying<K>], ticket: u64) -> Option<usize>
     None
 }
 
-/// Removes and returns the first child with this ticket. If there is none, all stay.
+/// Removes and returns the first child with this ticket. If there is no such child, all children
+/// stay.
 pub fn take_out<K: Drop>(flying: &mut Vec<Flying<K>>, ticket: u64) -> Option<Flying<K>>
     ensures entry { IfSome result (λ f. (entry_at ticket flying.old.items ≡ Some f)
         × (flying.new.items ≡ other_entries ticket flying.old.items)) }
@@ -94,7 +95,7 @@ pub fn take_out<K: Drop>(flying: &mut Vec<Flying<K>>, ticket: u64) -> Option<Fly
     }
 }
 
-/// Returns whether a death waits for a child with this folder.
+/// Returns whether a planned fault (a death) waits for a child with this folder.
 fn is_for(out: &Option<PathText>, death: &Death) -> bool
     ensures { result ≡ is_for out.now death.now }
 {
@@ -119,7 +120,8 @@ fn place_of(deaths: &[Death], out: &Option<PathText>) -> Option<usize>
     None
 }
 
-/// Returns the fault with which the next start with this folder will fail, if a death waits for it.
+/// Returns the fault with which the next start with this folder will fail, if a death waits for
+/// this folder.
 pub(crate) fn fate(deaths: &[Death], out: &Option<PathText>) -> Option<StartFault>
     ensures { result ≡ fate_of out.now deaths.now }
 {

@@ -44,7 +44,7 @@ fn made_in(
     Ok(files)
 }
 
-/// Puts the first half of a reply's files, in byte order, in the command's folder, if it has one.
+/// Puts the first half of a reply's files, in byte order, in the command's folder.
 pub(crate) fn leave_half(
     alloc: Global,
     files: &mut FileMap,

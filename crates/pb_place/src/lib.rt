@@ -1,7 +1,7 @@
 //! The outside world: a place in memory, and the trait, paths and sinks that every place shares.
 //!
 //! `Memory` is a place. Contracts see all its files, variables and child processes. `Seen` counts
-//! the calls that a caller makes after one that failed. `Unfailing` is a place at which no call
+//! the calls that a caller makes after a failing call. `Unfailing` is a place at which no call
 //! fails.
 #![tactic(auto)]
 

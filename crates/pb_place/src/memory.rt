@@ -23,10 +23,10 @@ use std::mem;
 /// A place of maps over a child. Contracts see its state: its world and its counters.
 ///
 /// A call fails only if memory runs out, or if `fuse` or `die` was called to make it fail. Both
-/// serve tests. The contract of each call describes when it fails, and what it leaves then. The
-/// functions below are no calls of a place. They are not counted. Only the calls of `fuse` and
-/// `die` that set something have a counter of their own. A read or a write takes time logarithmic
-/// in the number of files.
+/// functions serve tests. The contract of each call describes when the call fails, and what the
+/// call then leaves. The functions below are not calls of a place, so they are not counted. Only
+/// the calls of `fuse` and `die` that set something have a separate counter. A read or a write
+/// takes time logarithmic in the number of files.
 #[derive(Drop)]
 pub struct Memory<C> {
     files: FileMap,
@@ -57,7 +57,7 @@ impl<C> Model for Memory<C> {
 }
 
 impl<C> Memory<C> {
-    /// Returns a place over a child, with no file and no variable. It takes no memory.
+    /// Returns a place over a child, with no file and no variable. The call takes no memory.
     pub fn new(alloc: Global, child: C) -> Memory<C>
         ensures { result ≡ no_held }
     {
@@ -117,7 +117,7 @@ impl<C> Memory<C> {
         self.variables.remove(alloc, name)
     }
 
-    /// Returns the bytes of a file, or none if no file is there.
+    /// Returns the bytes of a file, or `None` if no file is there.
     ///
     /// Errors: out of memory only.
     pub fn file(&self, alloc: Global, path: &PathText) -> Result<Option<Bytes>, AllocError>
@@ -126,7 +126,7 @@ impl<C> Memory<C> {
         file_in(alloc, &self.files, path)
     }
 
-    /// Returns whether a child with this ticket is in flight. This is no call of the place and
+    /// Returns whether a child with this ticket is in flight. This is not a call of the place, and
     /// takes no memory.
     pub fn flies(&self, ticket: u64) -> bool
         ensures { result ≡ is_flying ticket (children_in self.now.flying) }
@@ -134,9 +134,9 @@ impl<C> Memory<C> {
         flies(self.flying.as_slice(), ticket)
     }
 
-    /// Returns whether no call has failed, and none can fail unless memory runs out. This is so if
-    /// the fuse is 0, no death waits, and no child is in flight. The question is no call of the
-    /// place and takes no memory.
+    /// Returns whether no call has failed, and no call can fail unless memory runs out. No call can
+    /// fail if the fuse is 0, no death waits, and no child is in flight. This is not a call of the
+    /// place, and takes no memory.
     pub fn is_unfailing(&self) -> bool
         ensures quiet { IsTrue result → (may_fail self.now ≡ false)
             × ((counts_in self.now).failures ≡ 0) }
@@ -149,7 +149,7 @@ impl<C> Memory<C> {
             && self.tally.failures() == 0
     }
 
-    /// Sets which call is to fail, counted from 1; with 0 none does. It replaces the earlier
+    /// Sets which call is to fail, counted from 1. With 0 no call fails. This replaces the earlier
     /// setting. `spawn` and `finish` count as one call each, and `start` as two. `failures`,
     /// `starts`, `late` and `most` do not count.
     ///
@@ -158,7 +158,7 @@ impl<C> Memory<C> {
     /// - A removal removes the first half of the files in byte order, rounded down.
     /// - A spawn returns `CannotStart` and changes nothing.
     /// - A finish returns `Died` and changes no file.
-    /// - If the call runs out of memory, the next call is to fail.
+    /// - If the call runs out of memory, the next call is to fail instead.
     pub fn fuse(&mut self, number: u64)
         ensures { self.new ≡ record self.old { tally = one_setting self.old.tally; fuse = number } }
     {
@@ -174,7 +174,7 @@ impl<C> Memory<C> {
     /// Then only the first half of the reply's files remains, in byte order; the half's length is
     /// rounded down.
     ///
-    /// Requires: the fault is one of the outside, and not `OutOfMemory`.
+    /// Requires: the fault is a fault of the outside world, and not `OutOfMemory`.
     ///
     /// Errors: out of memory only. Nothing changes then.
     pub fn die(&mut self, alloc: Global, key: &str, kind: StartFault) -> Result<(), AllocError>
@@ -193,7 +193,7 @@ impl<C> Memory<C> {
 }
 
 impl<C: Copy> Memory<C> {
-    /// Takes the place out, and leaves an empty one over the same child.
+    /// Takes the place out, and leaves an empty place over the same child.
     pub fn take(&mut self, alloc: Global) -> Memory<C>
         ensures taken { result ≡ self.old }
         ensures left { self.new ≡ no_held }

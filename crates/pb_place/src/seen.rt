@@ -1,4 +1,4 @@
-//! A place that counts the calls after the first failing one.
+//! A place that counts the calls after the first failing call.
 
 ghost use Rattle.std.specs.Prelude.{◌≡◌, ◌≢◌, ℕ, Bool, true, false, IfOk, IfErr, OnOk, OnErr, IsTrue, IfSome, take};
 ghost use Rattle.std.specs.FinMap as map;
@@ -15,16 +15,16 @@ use pb_data::{Bytes, Items, Text};
 use pb_place_types::{Command, Ended, Moved, PathFault, PathText, Place, PlaceFault, StartFault};
 use std::alloc::{AllocError, Global};
 
-/// A place that passes every call on to another, and counts the calls after the first one that
-/// failed. `finish` is not counted, because children in flight must be waited for after a failure.
-/// Out of memory is no failure.
+/// A place that passes every call on to another place, and counts the calls after the first failing
+/// call. `finish` is not counted, because children in flight must be waited for after a failure.
+/// Running out of memory is not a failure.
 #[derive(Drop)]
 pub struct Seen<P> {
     /// The place to which the calls are passed.
     pub place: P,
     /// Whether a call has failed.
     pub faulted: bool,
-    /// The number of calls other than `finish` after the first that failed, at most `u64::MAX`.
+    /// The number of calls other than `finish` after the first failing call, at most `u64::MAX`.
     pub after: u64,
 }
 
@@ -38,7 +38,7 @@ fn call_failed<T>(answer: &Result<T, PlaceFault>) -> bool
     }
 }
 
-/// Returns whether a child could not be started, or gave no reply.
+/// Returns whether a child could not be started, or did not reply.
 fn start_failed<T>(answer: &Result<T, StartFault>) -> bool
     ensures { result ≡ start_failed answer.now }
 {
@@ -49,7 +49,7 @@ fn start_failed<T>(answer: &Result<T, StartFault>) -> bool
 }
 
 impl<P> Seen<P> {
-    /// Returns a place over another one, before any call has failed.
+    /// Returns a place over another place, before any call has failed.
     pub fn new(place: P) -> Seen<P>
         ensures { result ≡ record { place = place; faulted = false; after = 0 } }
     {

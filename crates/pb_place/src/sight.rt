@@ -10,7 +10,7 @@ use pb_data::{Bytes, Text, TryCopy};
 use pb_place_types::{Command, FileMap, PathText, TextMap, View, ViewFault};
 use std::alloc::{AllocError, Global};
 
-/// Returns whether one of some folders is above a path.
+/// Returns whether any of some folders is above a path.
 fn is_below_any(folders: &[PathText], path: &PathText) -> bool
     ensures { result ≡ list_any (λ folder. is_below folder path.now) folders.now }
 {
@@ -56,7 +56,7 @@ impl<'a> View for Sight<'a> {
     }
 }
 
-/// Returns a copy of a file, if there is one.
+/// Returns a copy of a file, if the file exists.
 pub(crate) fn file_in(
     alloc: Global,
     files: &FileMap,

@@ -11,7 +11,7 @@ use std::marker::Model;
 
 /// The counters of a place, the fault of the last call that failed, and the last failing call on
 /// files or variables. Contracts see the counters without children in flight, since the place
-/// itself reports those.
+/// itself reports these children.
 #[derive(Debug, Drop)]
 pub struct Tally {
     calls: u64,
@@ -43,7 +43,7 @@ impl Model for Tally {
 }
 
 impl Tally {
-    /// Returns the counters before any call. It takes no memory.
+    /// Returns the counters before any call. The call takes no memory.
     pub fn new() -> Tally
         ensures { result ≡ no_calls }
     {
@@ -79,7 +79,7 @@ impl Tally {
         self.late
     }
 
-    /// Counts a setting of which calls are to fail.
+    /// Counts a call of `fuse` or `die` that sets which call fails.
     #[tactic(auto, unfolding(crate::specs::Tallies::next_setting))]
     pub fn set(&mut self)
         ensures { self.new ≡ one_setting self.old }
@@ -108,8 +108,8 @@ impl Tally {
         self.last = Some(failure);
     }
 
-    /// Returns a call that is made next, as a value. If memory ran out for it, counts a call that
-    /// did not fail.
+    /// Returns the call that is made next, as a value. If memory ran out for this value, counts a
+    /// call that did not fail.
     pub fn note_call(&mut self, call: Result<Call, AllocError>) -> Result<Call, PlaceFault>
         ensures same { IfOk result (λ it. call ≡ Ok it) }
         ensures keeps { IfOk call (λ it. result ≡ Ok it) }
@@ -126,7 +126,7 @@ impl Tally {
         }
     }
 
-    /// Counts a call on files or variables by its result, and returns the result.
+    /// Counts a call on files or variables, as its result requires, and returns the result.
     pub fn count<T>(&mut self, call: Call, answer: Result<T, PlaceFault>) -> Result<T, PlaceFault>
         ensures same { result ≡ answer }
         ensures counts { self.new ≡ counted call answer self.old }
@@ -149,7 +149,7 @@ impl Tally {
         }
     }
 
-    /// Counts a call that requests a child by its result, and returns the result.
+    /// Counts a call that requests a child, as its result requires, and returns the result.
     pub fn count_start<T>(&mut self, answer: Result<T, StartFault>) -> Result<T, StartFault>
         ensures same { result ≡ answer }
         ensures counts { self.new ≡ counted_start answer self.old }
@@ -172,8 +172,8 @@ impl Tally {
         }
     }
 
-    /// Counts a call of `finish` by its result, and returns the result. A call that did not fail is
-    /// not counted.
+    /// Counts a call of `finish` if it failed, and returns its result. Running out of memory is not
+    /// counted.
     pub fn count_finish<T>(&mut self, answer: Result<T, StartFault>) -> Result<T, StartFault>
         ensures same { result ≡ answer }
         ensures counts { self.new ≡ past_finish answer self.old }

@@ -6,8 +6,8 @@ use pb_place_types::{Child, Command, Ended, Moved, PathText, Place, PlaceFault, 
 use std::alloc::Global;
 use std::marker::Model;
 
-/// A place in memory. None of its calls has failed, and none fails unless memory runs out.
-/// Therefore a build over it ends without a failing call. Contracts see the place in memory.
+/// A place in memory. No call of the place has failed, and no call fails unless memory runs out.
+/// Therefore a build over the place ends without a failing call. Contracts see the place in memory.
 #[derive(Drop)]
 pub struct Unfailing<C> {
     inside: Memory<C>,
@@ -30,9 +30,9 @@ impl<C> Unfailing<C> {
     ghost use Rattle.std.specs.Prelude.{◌≡◌, false};
     ghost use Rattle.pb_place.specs.Memory.{counts_in, may_fail};
 
-    /// Returns the place in memory as one whose calls do not fail.
+    /// Returns the place in memory as a place whose calls do not fail.
     ///
-    /// Requires: nothing is set to fail, and nothing has failed.
+    /// Requires: no call is set to fail, and no call has failed.
     pub fn new(inside: Memory<C>) -> Unfailing<C>
         requires quiet { may_fail inside ≡ false }
         requires none { (counts_in inside).failures ≡ 0 }

@@ -20,7 +20,7 @@ use std::rt::{Env, Files};
 pub(crate) struct Spawned {
     /// The output folder.
     pub(crate) out: PathText,
-    /// `None` if that is unknown.
+    /// The time of the spawn. `None` if the time is unknown.
     pub(crate) since: Option<Moment>,
 }
 
@@ -62,7 +62,7 @@ fn command_of(child: ChildInFlight) -> Command {
     command
 }
 
-/// Returns the command of a child in flight, and what a place keeps of it.
+/// Returns the command of a child in flight, and what a place keeps of the child.
 pub(crate) fn parts_of<K: Drop>(flying: Flying<K>) -> (Command, K) {
     let Flying { child, kept } = flying;
     (command_of(child), kept)
@@ -91,8 +91,8 @@ pub(crate) fn child_in_flight(
     })
 }
 
-/// Adds a child in flight, for which space is reserved, and
-/// returns the greatest number that ever were in flight.
+/// Adds a child in flight, for which space is reserved, and returns the most children that were
+/// ever in flight.
 #[tactic(auto, using(pb_place::proofs::InFlight::fly_laws))]
 pub(crate) fn add_child<K: Drop>(flying: &mut Vec<Flying<K>>, most: u64, one: Flying<K>) -> u64
     requires room { vec_len flying.old < vec_capacity flying.old }

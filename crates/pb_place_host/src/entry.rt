@@ -7,9 +7,9 @@ use std::alloc::Global;
 use std::rt::Files;
 use std::{fs, io};
 
-/// Returns what is at an entry whose links lead further than the system follows them. There is
-/// nothing if the entry's own link leads in a circle. Otherwise the entry is too deep, by a link to
-/// a folder above it that is followed again and again.
+/// Returns what is at an entry whose links lead further than the system follows links. Nothing is
+/// there if the entry's own link leads in a circle. Otherwise the entry is too deep: a link to a
+/// folder above this link is followed again and again.
 fn standing_in_circle<R: Files + AllocGlobal>(
     runtime: &R,
     alloc: Global,
@@ -25,8 +25,8 @@ fn standing_in_circle<R: Files + AllocGlobal>(
     }
 }
 
-/// Returns the metadata of an entry of a folder, links
-/// followed, or `None` if it is a link into a target folder.
+/// Returns the metadata of an entry of a folder, after following links. Returns `None` if the entry
+/// is a link into a target folder.
 fn metadata_of<R: Files + AllocGlobal>(
     runtime: &R,
     alloc: Global,
@@ -44,8 +44,8 @@ fn metadata_of<R: Files + AllocGlobal>(
     }
 }
 
-/// Returns what is at an entry of a folder, links followed. A link that
-/// leads nowhere, in a circle, or into a target folder is nothing.
+/// Returns what is at an entry of a folder, after following links. A link that leads nowhere, in a
+/// circle, or into a target folder counts as nothing.
 pub(crate) fn standing_in<R: Files + AllocGlobal>(
     runtime: &R,
     alloc: Global,

@@ -7,18 +7,18 @@ use std::alloc::{AllocError, AllocFailed, Global};
 use std::io;
 use std::io::ErrorKind;
 
-/// The error of a call on real files, and where it came from.
+/// The error of a call on real files, and the path at which the error occurred.
 #[derive(Drop)]
 pub(crate) struct Failed {
     /// The system's error, or one of our own.
     pub(crate) error: io::Error,
-    /// The path at which the call failed, if that is not the path that the call was given.
+    /// The path at which the call failed, if this is not the path that was passed to the call.
     pub(crate) path: Option<String>,
 }
 
 impl Failed {
-    /// Returns this failure with the path at which it came, or without one if memory runs out for
-    /// it.
+    /// Returns this failure with the path at which it occurred, or without a path if memory runs
+    /// out for the path.
     pub(crate) fn at(self, alloc: Global, path: &str) -> Failed {
         Failed {
             error: self.error,
@@ -52,7 +52,7 @@ impl<T: Drop> From<AllocFailed<T>> for Failed {
     }
 }
 
-/// Returns what the system says of an error, without its number.
+/// Returns the system's text for an error, without the number of the error.
 ///
 /// Errors: out of memory.
 pub(crate) fn reason_of(alloc: Global, error: &io::Error) -> Result<String, AllocError> {

@@ -28,20 +28,20 @@ use std::alloc::{AllocError, Global};
 use std::process::{Child, Processes};
 use std::rt::{Env, Files};
 
-/// A place of real files, variables and children, over a runtime. Contracts do not see its maps,
-/// since no contract can say what a disk contains. Calls are counted as at every place.
+/// A place of real files, variables and children, over a runtime. Contracts do not see the maps of
+/// this place, since no contract can say what a disk contains. Calls are counted as at every place.
 ///
-/// It follows links. The rest is our own choice, as are the limits of the other formats:
-/// - A path is absent if nothing is there, if its link leads
-///   nowhere, or if it is neither a file nor a folder.
-/// - It is a failure to read a file of more than 4,294,967,296
-///   bytes, or a variable whose value is not UTF-8.
-/// - It is a failure to list a folder that contains a name that is
-///   not UTF-8. `list_directly` and `list_folders` skip such a name.
+/// The place follows links. The rest is our own choice, as are the limits of the other formats:
+/// - A path is absent if nothing is there, if its link leads nowhere, or if something other than a
+///   file or a folder is there.
+/// - Reading fails for a file of more than 4,294,967,296 bytes, and for a variable whose value is
+///   not UTF-8.
+/// - Listing fails for a folder that contains a name that is not UTF-8. `list_directly` and
+///   `list_folders` skip such a name.
 /// - `list_folders` also returns folders without files.
-/// - It is a failure to list a folder with folders more than 128 levels below it.
-/// - A folder below a listed one counts as absent if it has the
-///   tag that this builder writes in target folders.
+/// - Listing fails for a folder with folders more than 128 levels below it.
+/// - A folder below a listed folder counts as absent if it has the tag that this builder writes in
+///   target folders.
 /// - A removal that is refused is tried once more, after the folders there were made writable.
 /// - A removal removes a link itself, and not the file or folder to which the link leads.
 ///
@@ -52,9 +52,9 @@ use std::rt::{Env, Files};
 /// pipe holds waits for its `finish`. All children stay in the process group of this program. A
 /// child whose place is dropped before its `finish` is neither waited for nor ended.
 ///
-/// A path that a child read has moved if it has changed since the child's output folder was made,
-/// just before the spawn. The change times of files and folders (`ctime`) decide that; no program
-/// can set them.
+/// A path that a child read has moved if the path has changed since the child's output folder was
+/// made, just before the spawn. The change times of files and folders (`ctime`) decide whether a
+/// path has changed. No program can set these times.
 #[derive(Drop)]
 pub struct HostPlace<'a, R: Processes> {
     runtime: &'a R,
@@ -64,14 +64,14 @@ pub struct HostPlace<'a, R: Processes> {
     /// The child that ended last.
     ended: Option<Spawned>,
     moved: Vec<Moved>,
-    /// Whether the last tree that was to be removed was there.
+    /// Whether the last tree that was to be removed existed.
     has_removed: bool,
     /// What is known of the calls and the children that failed.
     known: Known,
 }
 
 impl<'a, R: Files + Env + Processes + AllocGlobal> HostPlace<'a, R> {
-    /// Returns the place over a runtime, with no calls made yet. It uses no memory.
+    /// Returns the place over a runtime, before any call. This uses no memory.
     pub fn new(alloc: Global, runtime: &'a R) -> HostPlace<'a, R>
         ensures counts { (⟦<HostPlace<'a, R> as Place>⟧.at result).counts ≡ no_calls }
         ensures most { (⟦<HostPlace<'a, R> as Place>⟧.at result).most ≡ 0 }
@@ -88,8 +88,8 @@ impl<'a, R: Files + Env + Processes + AllocGlobal> HostPlace<'a, R> {
         }
     }
 
-    /// Returns whether a child of this ticket is in flight. This is no call of the place and uses
-    /// no memory.
+    /// Returns whether a child with this ticket is in flight. This is not a call of the place, and
+    /// uses no memory.
     pub fn flies(&self, ticket: u64) -> bool
         ensures { result ≡ is_flying ticket
             (⟦<HostPlace<'a, R> as Place>⟧.at self.now).counts.starts.flying }
@@ -97,8 +97,8 @@ impl<'a, R: Files + Env + Processes + AllocGlobal> HostPlace<'a, R> {
         flies(self.flying.as_slice(), ticket)
     }
 
-    /// Begins the child of a command, and returns its ticket. Space among the children in flight is
-    /// reserved first, so no child that was begun is lost if memory runs out.
+    /// Starts the child of a command, and returns the child's ticket. Space among the children in
+    /// flight is reserved first, so no started child is lost if memory runs out.
     fn begin(&mut self, alloc: Global, command: &Command) -> Result<u64, StartFault>
         ensures fresh { IfOk result
             (λ ticket. is_flying ticket (children_in self.old.flying.items) ≡ false) }
@@ -123,7 +123,7 @@ impl<'a, R: Files + Env + Processes + AllocGlobal> HostPlace<'a, R> {
         Ok(ticket)
     }
 
-    /// Waits for the end of a child, and removes it from those in flight.
+    /// Waits for the end of a child, and removes the child from the children in flight.
     fn end(&mut self, alloc: Global, ticket: u64) -> Result<Ended, StartFault>
         requires flies { is_flying ticket (children_in self.old.flying.items) ≡ true }
         ensures fault { IfErr result (λ e. e ≢ StartFault.OutOfMemory
@@ -148,8 +148,8 @@ impl<'a, R: Files + Env + Processes + AllocGlobal> HostPlace<'a, R> {
         answer
     }
 
-    /// Returns when the child of this output folder was spawned, if this child was the last to end
-    /// and the time is known.
+    /// Returns when the child with this output folder was spawned. Returns a time only if this
+    /// child was the last to end and the time is known.
     fn since(&self, out: &PathText) -> Option<Moment> {
         match &self.ended {
             Some(spawned) if &spawned.out == out => spawned.since,
@@ -157,13 +157,13 @@ impl<'a, R: Files + Env + Processes + AllocGlobal> HostPlace<'a, R> {
         }
     }
 
-    /// Returns whether something has moved for the child of an output folder.
+    /// Returns whether a path that the child with an output folder read has moved.
     fn has_moved(&self, out: &PathText) -> bool {
         self.moved.iter().any(|moved| &moved.out == out)
     }
 
-    /// Remembers what has moved at or below a path, if something has, for the child of an output
-    /// folder. If that cannot be found out, the path counts as moved.
+    /// Remembers a path at or below this path that has moved, if there is such a path, for the
+    /// child with an output folder. If the place cannot find out, the given path counts as moved.
     fn look_for(
         &mut self,
         alloc: Global,

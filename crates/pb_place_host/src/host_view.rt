@@ -6,14 +6,14 @@ use pb_place_types::{PathText, View, ViewFault};
 use std::alloc::Global;
 use std::rt::{Env, Files};
 
-/// A view of real files and variables, by a runtime. What the view shows is not promised, since no
-/// contract can say what a disk contains. Its user assumes that nothing changes while the child
-/// answers.
+/// A view of real files and variables, by a runtime. No contract says what the view shows, since no
+/// contract can say what a disk contains. The user of the view assumes that nothing changes while
+/// the child answers.
 ///
 /// Links are followed. A path has no file if nothing is there, if its link leads nowhere, or if
-/// something else is there, as a folder. A file of more than 4,294,967,296 bytes, a file that
-/// cannot be read, and a variable whose value is not UTF-8 are failures. What fails is our own
-/// choice, as are the limits of the other formats.
+/// something else is there, such as a folder. A look fails for a file of more than 4,294,967,296
+/// bytes, a file that cannot be read, and a variable whose value is not UTF-8. What fails is our
+/// own choice, as are the limits of the other formats.
 #[derive(Drop)]
 pub struct HostView<'a, R> {
     runtime: &'a R,

@@ -18,15 +18,15 @@ use std::process::Output;
 /// The key of a child without an output folder.
 const QUERY: &str = "-vV";
 
-/// How many bytes of a child's standard error are read at most for a report.
+/// The most bytes of a child's standard error that are read for a report.
 const MOST_BYTES: usize = 4096;
 
 /// A child that did not answer.
 #[derive(Drop)]
 struct FailedChild {
-    /// The name of its output folder, or `-vV` if it has none.
+    /// The name of the child's output folder, or `-vV` if the child has no output folder.
     key: Text,
-    /// What is known of it.
+    /// What is known of the child.
     report: Report,
 }
 
@@ -117,7 +117,7 @@ fn key_of(command: &Command) -> &str {
     }
 }
 
-/// Returns the verb for the call that has this fault of its own.
+/// Returns the verb for the kind of call that fails with this fault.
 fn verb_of(own: PlaceFault) -> &'static str {
     match own {
         PlaceFault::Read => "read",
@@ -147,8 +147,8 @@ fn call_text(
     format!(in alloc; "cannot {verb} {path}: {}", reason.as_str())
 }
 
-/// Returns what a call on a path answered, and remembers its failure. A failure becomes the call's
-/// own fault; out of memory stays out of memory.
+/// Returns what a call on a path answered, and remembers the failure of the call. A failure becomes
+/// the call's own fault, except that out of memory is not changed.
 pub(crate) fn note_answer<T>(
     alloc: Global,
     known: &mut Known,
@@ -177,7 +177,7 @@ fn variable_text(alloc: Global, name: &str) -> Result<String, AllocError> {
     format!(in alloc; "cannot read the variable {name}: its value is not UTF-8")
 }
 
-/// Returns what a call on a variable answered, and remembers its failure.
+/// Returns what a call on a variable answered, and remembers the failure of the call.
 pub(crate) fn answered_variable(
     alloc: Global,
     known: &mut Known,
@@ -215,7 +215,8 @@ fn start_text(alloc: Global, command: &Command, failed: &Failed) -> Result<Strin
     format!(in alloc; "cannot start {program} in {folder}: {}", reason.as_str())
 }
 
-/// Adds the output folder of a child that could not be started, if it has one and that was made.
+/// Adds the output folder of a child that could not be started, if the child has an output folder
+/// and the folder was made.
 fn add_out(alloc: Global, report: &mut Report, command: &Command, failed: &Failed) {
     if failed.path.is_some() {
         return;
@@ -234,7 +235,7 @@ fn remember_start(alloc: Global, known: &mut Known, command: &Command, failed: &
     known.add_child(alloc, key_of(command), report);
 }
 
-/// Returns what the start of a child answered, and remembers its failure.
+/// Returns what the start of a child answered, and remembers the failure of the start.
 pub(crate) fn note_start<T>(
     alloc: Global,
     known: &mut Known,
@@ -255,7 +256,7 @@ pub(crate) fn note_start<T>(
     }
 }
 
-/// Returns the first bytes of what a child wrote, up to the first that is not UTF-8.
+/// Returns the first bytes that a child wrote, up to the first byte that is not UTF-8.
 fn first_text(bytes: &[u8]) -> &str {
     let first = bytes.get(..MOST_BYTES).unwrap_or(bytes);
     match str::from_utf8(first) {

@@ -11,11 +11,11 @@ use std::rt::Files;
 /// The end of the name of the output folder of a script's run.
 const RUN: &str = ".run";
 
-/// How many links and folders are looked at. Notes on further links are left out.
+/// The most links and folders that are looked at. Notes on further links are left out.
 const MOST_LOOKS: usize = 100_000;
 
-/// What a script may have left: its target folder as the system leads to it, what it printed, and
-/// the folders that are still to be looked at.
+/// A search for the links that a script left: the target folder, what the script printed, and the
+/// folders that are still to be looked at.
 #[derive(Drop)]
 struct Left<'a> {
     /// The target folder, without links.
@@ -52,7 +52,7 @@ fn weigh_link<R: Files + AllocGlobal>(
     Ok(())
 }
 
-/// Looks at an entry of a folder: a link is weighed, and a folder waits.
+/// Looks at an entry of a folder. A link is checked, and a folder is added to the waiting folders.
 ///
 /// Errors: out of memory.
 fn look_at<R: Files + AllocGlobal>(
@@ -76,7 +76,7 @@ fn look_at<R: Files + AllocGlobal>(
     }
 }
 
-/// Looks at the entries of a folder. What cannot be read is left out.
+/// Looks at the entries of a folder. An entry that cannot be read is left out.
 ///
 /// Errors: out of memory.
 fn look_into<R: Files + AllocGlobal>(
@@ -97,7 +97,7 @@ fn look_into<R: Files + AllocGlobal>(
     Ok(())
 }
 
-/// Looks at the folders that wait, and at what is in them.
+/// Looks at the waiting folders, and at everything in them.
 ///
 /// Errors: out of memory.
 fn look_around<R: Files + AllocGlobal>(

@@ -15,10 +15,10 @@ use std::alloc::{AllocError, Global};
 use std::rt::Files;
 use std::{fs, io};
 
-/// How many levels a folder may be below the one that is listed.
+/// The most levels that a folder may be below the listed folder.
 const DEEPEST: u8 = 128;
 
-/// Returns whether a path is at or below the one that is left out.
+/// Returns whether a path is at or below the path that is left out.
 fn is_left_out(left_out: Option<&PathText>, path: &PathText) -> bool
     ensures { result ≡ is_left_out (option_copied left_out.entry) path.now }
 {
@@ -31,9 +31,9 @@ fn is_left_out(left_out: Option<&PathText>, path: &PathText) -> bool
 /// A folder that has not been listed yet.
 #[derive(Drop)]
 pub(crate) struct Waiting {
-    /// Its path.
+    /// The path of the folder.
     pub(crate) folder: PathText,
-    /// How many levels it is below the one that is listed.
+    /// How many levels the folder is below the listed folder.
     depth: u8,
 }
 
@@ -48,7 +48,7 @@ pub(crate) struct Found {
 
 /// Returns the path of an entry of a folder.
 ///
-/// Errors: an entry's name that is not a name of a path; out of memory.
+/// Errors: the entry's name is not a name of a path; out of memory.
 fn path_of(alloc: Global, folder: &PathText, name: &str) -> Result<PathText, Failed>
     ensures below { IfOk result (λ path. is_below folder.now path ≡ true) }
 {
@@ -58,7 +58,7 @@ fn path_of(alloc: Global, folder: &PathText, name: &str) -> Result<PathText, Fai
     }
 }
 
-/// Adds a file to those found.
+/// Adds a file to the found files.
 fn add_file(found: &mut Found, path: PathText) -> Result<(), Failed>
     ensures files { OnOk result (found.new.files.items ≡ found.old.files.items ++ path ∷ []) }
     ensures waiting { found.new.waiting ≡ found.old.waiting }
@@ -67,9 +67,9 @@ fn add_file(found: &mut Found, path: PathText) -> Result<(), Failed>
     Ok(())
 }
 
-/// Adds a folder to those that wait.
+/// Adds a folder to the waiting folders.
 ///
-/// Errors: a folder that is too deep; out of memory.
+/// Errors: the folder is too deep; out of memory.
 fn add_folder(found: &mut Found, path: PathText, above: u8) -> Result<(), Failed>
     ensures waiting { OnOk result (found.new.waiting.items ≡ found.old.waiting.items
         ++ record { folder = path; depth = above + 1 } ∷ []) }
@@ -85,10 +85,10 @@ fn add_folder(found: &mut Found, path: PathText, above: u8) -> Result<(), Failed
     Ok(())
 }
 
-/// Adds an entry of a folder: a file to those found, a folder to those that wait.
+/// Adds an entry of a folder: a file to the found files, a folder to the waiting folders.
 ///
-/// Errors: `List`, if its name is not a name of a path, if it cannot be found
-/// out what it is, or if it is a folder that is too deep; `OutOfMemory`.
+/// Errors: `List`, if the entry's name is not a name of a path, if the kind of the entry is
+/// unknown, or if the entry is a folder that is too deep; `OutOfMemory`.
 fn take_entry<R: Files + AllocGlobal>(
     runtime: &R,
     alloc: Global,
@@ -119,14 +119,14 @@ fn take_entry<R: Files + AllocGlobal>(
     }
 }
 
-/// Returns whether an error says that there is no such folder, and the folder is the one that is
-/// listed. That folder need not exist.
+/// Returns whether an error means that there is no such folder, and this folder is the listed
+/// folder. The listed folder need not exist.
 fn may_be_absent(here: &Waiting, error: &io::Error) -> bool {
     here.depth == 0 && says_absent(error)
 }
 
-/// Returns whether a folder is skipped: a target folder, by its
-/// tag, below the folder that is listed.
+/// Returns whether a folder is skipped. A folder is skipped if it is below the listed folder and
+/// has the tag of a target folder.
 fn is_passed_over<R: Files + AllocGlobal>(
     runtime: &R,
     alloc: Global,
@@ -138,8 +138,8 @@ fn is_passed_over<R: Files + AllocGlobal>(
     is_tagged(runtime, alloc, &here.folder)
 }
 
-/// Returns the entries of a folder. There are none if it is
-/// skipped, or if it is the one that is listed and does not exist.
+/// Returns the entries of a folder. There are no entries if the folder is skipped, or if the folder
+/// is the listed folder and does not exist.
 fn entries_of<'a, R: Files + AllocGlobal>(
     runtime: &'a R,
     alloc: Global,
@@ -166,7 +166,7 @@ fn untold(error: io::Error) -> Failed {
 
 /// Adds an entry that a folder reports.
 ///
-/// Errors: a failure that the folder reports; those of `take_entry`.
+/// Errors: a failure that the folder reports; the errors of `take_entry`.
 fn take_told<R: Files + AllocGlobal>(
     runtime: &R,
     alloc: Global,
@@ -185,7 +185,7 @@ fn take_told<R: Files + AllocGlobal>(
     }
 }
 
-/// Adds the entries of a folder. If the listed folder itself does not exist, there are none.
+/// Adds the entries of a folder. If the listed folder itself does not exist, there are no entries.
 fn take_entries<R: Files + AllocGlobal>(
     runtime: &R,
     alloc: Global,
@@ -224,8 +224,8 @@ fn take_folder<R: Files + AllocGlobal>(
     }
 }
 
-/// Returns all files below a folder that are not left out, as they come. Folders are listed one
-/// after another, the one found last first.
+/// Returns all files below a folder that are not left out, in the order in which they are found.
+/// Folders are listed one after another. The folder that was found last is listed first.
 fn files_found<R: Files + AllocGlobal>(
     runtime: &R,
     alloc: Global,
@@ -261,7 +261,7 @@ fn has_no_text<R: Files + AllocGlobal>(entry: &io::Result<fs::DirEntry<&R>>) -> 
 }
 
 /// Adds those entries of a folder that are not left out and have names in UTF-8. If the folder is
-/// the listed one and does not exist, it has no entries.
+/// the listed folder and does not exist, there are no entries.
 fn take_named<R: Files + AllocGlobal>(
     runtime: &R,
     alloc: Global,
@@ -282,8 +282,8 @@ fn take_named<R: Files + AllocGlobal>(
     Ok(())
 }
 
-/// Returns what is directly in a folder and is not left out, as it comes. The folders there are not
-/// looked into.
+/// Returns what is directly in a folder and is not left out, in the order of the system. The call
+/// does not look into the folders there.
 pub(crate) fn found_here<R: Files + AllocGlobal>(
     runtime: &R,
     alloc: Global,
@@ -304,8 +304,8 @@ pub(crate) fn found_here<R: Files + AllocGlobal>(
     Ok(found)
 }
 
-/// Returns the paths of all files below a folder that are not
-/// left out, in byte order; none if no folder is at the path.
+/// Returns the paths of all files below a folder that are not left out, in byte order. Returns no
+/// paths if no folder is at the path.
 fn files_listed<R: Files + AllocGlobal>(
     runtime: &R,
     alloc: Global,
@@ -321,13 +321,13 @@ fn files_listed<R: Files + AllocGlobal>(
     Ok(Items::from_vec(files))
 }
 
-/// Returns the paths of all files below a folder, in byte order; none
-/// if no folder is at the path. Links are followed. A link that leads
-/// nowhere is skipped, and so is what is neither a file nor a folder.
+/// Returns the paths of all files below a folder, in byte order. Returns no paths if no folder is
+/// at the path. Links are followed. A link that leads nowhere is skipped. Anything other than a
+/// file or a folder is skipped, too.
 ///
 /// Errors: `List`, if a folder cannot be read, if a name is not UTF-8, or if a folder is more than
-/// 128 levels below the one that is listed. A link to a folder above it is followed again and
-/// again, until it is too deep.
+/// 128 levels below the listed folder. A link to a folder above the link is followed again and
+/// again, until the path is too deep.
 pub(crate) fn files_below<R: Files + AllocGlobal>(
     runtime: &R,
     alloc: Global,
@@ -339,8 +339,8 @@ pub(crate) fn files_below<R: Files + AllocGlobal>(
     files_listed(runtime, alloc, None, folder)
 }
 
-/// Returns the same, without what is at or below another path:
-/// it looks at nothing there, so nothing there is a failure.
+/// Returns the same as `list_files`, without the files at or below another path. The call does not
+/// look at anything there, so nothing there can make the call fail.
 pub(crate) fn files_outside<R: Files + AllocGlobal>(
     runtime: &R,
     alloc: Global,
@@ -357,9 +357,9 @@ pub(crate) fn files_outside<R: Files + AllocGlobal>(
     files_listed(runtime, alloc, Some(left_out), folder)
 }
 
-/// Returns the paths of the files directly in a folder, in byte order; none if no folder is at the
-/// path. The folders there are not looked into, so nothing in them is a failure. A name that is not
-/// UTF-8 is skipped, since nothing requests such a name.
+/// Returns the paths of the files directly in a folder, in byte order. Returns no paths if no
+/// folder is at the path. The call does not look into the folders there, so nothing in them can
+/// make the call fail. A name that is not UTF-8 is skipped, since nothing requests such a name.
 pub(crate) fn files_directly<R: Files + AllocGlobal>(
     runtime: &R,
     alloc: Global,
@@ -373,7 +373,7 @@ pub(crate) fn files_directly<R: Files + AllocGlobal>(
     Ok(Items::from_vec(found.files))
 }
 
-/// Returns the paths of some folders that wait.
+/// Returns the paths of some waiting folders.
 fn folders_of(alloc: Global, waiting: Vec<Waiting>) -> Result<Vec<PathText>, Failed>
     ensures folders { IfOk result
         (λ folders. folders.items ≡ map (λ here. here.folder) waiting.items) }
@@ -385,9 +385,9 @@ fn folders_of(alloc: Global, waiting: Vec<Waiting>) -> Result<Vec<PathText>, Fai
     Ok(folders)
 }
 
-/// Returns the paths of the folders directly in a folder that are not left out, in byte order. If
-/// no folder is at the path, there are none. These folders are not looked into, so nothing in them
-/// is a failure. A name that is not UTF-8 is skipped.
+/// Returns the paths of the folders directly in a folder that are not left out, in byte order.
+/// Returns no paths if no folder is at the path. The call does not look into these folders, so
+/// nothing in them can make the call fail. A name that is not UTF-8 is skipped.
 pub(crate) fn folders_directly<R: Files + AllocGlobal>(
     runtime: &R,
     alloc: Global,

@@ -13,8 +13,8 @@ fn is_link<R: Files>(runtime: &R, path: &PathText) -> bool {
     }
 }
 
-/// Returns the path to which the system leads, or `None` if it
-/// leads nowhere, or to no path of ours.
+/// Returns the path to which the system leads. Returns `None` if the system leads nowhere, or to a
+/// path that `PathText` does not allow.
 pub(crate) fn led_to<R: Files + AllocGlobal>(
     runtime: &R,
     alloc: Global,
@@ -31,8 +31,8 @@ pub(crate) fn led_to<R: Files + AllocGlobal>(
     }
 }
 
-/// Returns the folder to which `..` leads from a path. From a
-/// link it is the folder that contains the link's goal.
+/// Returns the folder to which `..` leads from a path. From a link, this is the folder that
+/// contains the link's goal.
 fn above<R: Files + AllocGlobal>(
     runtime: &R,
     alloc: Global,
@@ -46,7 +46,7 @@ fn above<R: Files + AllocGlobal>(
     path.folder(alloc)
 }
 
-/// Goes one part further from a path.
+/// Follows one more part from a path.
 fn step<R: Files + AllocGlobal>(
     runtime: &R,
     alloc: Global,
@@ -59,12 +59,12 @@ fn step<R: Files + AllocGlobal>(
     path.join(alloc, part)
 }
 
-/// Returns whether a text leads up: whether one of its parts is `..`.
+/// Returns whether a text leads up: whether a part of the text is `..`.
 fn leads_up(text: &str) -> bool {
     text.split('/').any(|part| part == "..")
 }
 
-/// Returns the path that a text means from a folder. The path is the normalised one
+/// Returns the path that a text means from a folder. This is the normalised path
 /// (`PathText::join`), unless a `..` comes after a link. Such a `..` leads to the folder that
 /// contains the link's goal, as in the system. A link that leads nowhere is treated as a folder.
 ///

@@ -1,4 +1,4 @@
-//! Whether a path moved while a child was at work.
+//! Whether a path moved while a child was running. A path has moved if it has changed.
 
 use crate::listing::found_here;
 use crate::reading::says_absent;
@@ -10,7 +10,7 @@ use std::fs;
 use std::os::unix::fs::MetadataExt;
 use std::rt::Files;
 
-/// A moment, by the clock of a file system. Moments of two file systems may be of two clocks.
+/// A moment, by the clock of a file system. Two file systems may have different clocks.
 #[derive(Clone, Copy, Debug, PartialEq, Eq, PartialOrd, Ord)]
 pub(crate) struct Moment {
     seconds: i64,
@@ -20,7 +20,7 @@ pub(crate) struct Moment {
 /// What a look at a path shows.
 #[derive(Clone, Copy, Debug, PartialEq, Eq)]
 enum Sight {
-    /// It has changed since.
+    /// Something that has changed since.
     Moved,
     /// A folder, which has not changed itself.
     Folder,
@@ -30,8 +30,9 @@ enum Sight {
     Absent,
 }
 
-/// Returns when a file or folder was last changed: its bytes, its name or its attributes
-/// (`ctime`, which no program sets). For a folder this includes when a name in it came or went.
+/// Returns when the bytes, the name or the attributes of a file or folder were last changed
+/// (`ctime`, which no program can set). A folder also changes when a name in the folder appears or
+/// disappears.
 fn changed_at(metadata: &fs::Metadata) -> Moment {
     Moment {
         seconds: metadata.ctime(),
@@ -39,7 +40,7 @@ fn changed_at(metadata: &fs::Metadata) -> Moment {
     }
 }
 
-/// Returns when a folder was last changed, or `None` if that cannot be found out.
+/// Returns when a folder was last changed, or `None` if the time is unknown.
 pub(crate) fn moment_of<R: Files>(runtime: &R, folder: &PathText) -> Option<Moment> {
     match fs::metadata(runtime, folder.as_str()) {
         Ok(metadata) => Some(changed_at(&metadata)),
@@ -47,8 +48,8 @@ pub(crate) fn moment_of<R: Files>(runtime: &R, folder: &PathText) -> Option<Mome
     }
 }
 
-/// Looks at what a link leads to, if the link has not changed
-/// itself. A link that leads nowhere has not moved.
+/// Looks at the file or folder to which a link leads, if the link itself has not changed. A link
+/// that leads nowhere has not moved.
 fn look_behind<R: Files>(runtime: &R, since: Moment, path: &str) -> Sight {
     match fs::metadata(runtime, path) {
         Ok(metadata) => look_of(&metadata, since),
@@ -68,8 +69,8 @@ fn look_of(metadata: &fs::Metadata, since: Moment) -> Sight {
     Sight::Still
 }
 
-/// Looks at a path. A link has moved if the link itself was changed, or the file or folder to which
-/// it leads. If that cannot be found out, the path counts as moved.
+/// Looks at a path. A link has moved if the link itself has changed, or if the file or folder to
+/// which the link leads has changed. If this cannot be found out, the path counts as moved.
 fn look<R: Files>(runtime: &R, since: Moment, path: &str) -> Sight {
     let metadata = match fs::symlink_metadata(runtime, path) {
         Ok(metadata) => metadata,
@@ -101,8 +102,8 @@ fn is_gone<R: Files>(
     Ok(true)
 }
 
-/// Adds the files and folders of a folder to those that wait, without
-/// what is left out. Returns whether the folder could be listed.
+/// Adds the files and folders of a folder to the waiting paths, except the path that is left out.
+/// Returns whether the folder could be listed.
 fn add_entries<R: Files + AllocGlobal>(
     runtime: &R,
     alloc: Global,
@@ -124,7 +125,8 @@ fn add_entries<R: Files + AllocGlobal>(
     Ok(true)
 }
 
-/// Returns whether a path itself has moved. The contents of a folder are added to what waits.
+/// Returns whether a path itself has moved. The contents of a folder are added to the waiting
+/// paths.
 fn has_moved<R: Files + AllocGlobal>(
     runtime: &R,
     alloc: Global,
@@ -154,9 +156,10 @@ fn is_passed_over<R: Files + AllocGlobal>(
     is_tagged(runtime, alloc, path)
 }
 
-/// Returns the first path found at or below a path that has changed after a moment, or `None` if
-/// nothing moved. Paths at or below the one that is left out are not looked at, nor those below
-/// other target folders. A path counts as moved if its change cannot be found out.
+/// Looks at the paths at or below a path, and returns the first found path that has changed after a
+/// moment. Returns `None` if nothing moved. Paths at or below the path that is left out are
+/// skipped, and so are paths below other target folders. A path counts as moved if its change is
+/// unknown.
 ///
 /// Errors: out of memory.
 pub(crate) fn first_moved<R: Files + AllocGlobal>(

@@ -8,13 +8,13 @@ use std::os::unix::fs::MetadataExt;
 use std::rt::{Env, Files};
 use std::{env, fs, io};
 
-/// Where programs are looked for if `PATH` is not set, as in the system.
+/// The folders in which programs are looked for if `PATH` is not set, as in the system.
 const WITHOUT_PATH: &str = "/bin:/usr/bin";
 
 /// The bits of a file's mode that let somebody run it.
 const MAY_RUN: u32 = 0o111;
 
-/// Returns whether a file that may be run is at a path, links followed.
+/// Returns whether a file that may be run is at a path, after following links.
 fn is_program<R: Files>(runtime: &R, path: &str) -> bool {
     match fs::metadata(runtime, path) {
         Ok(metadata) => metadata.is_file() && metadata.mode() & MAY_RUN != 0,
@@ -22,7 +22,8 @@ fn is_program<R: Files>(runtime: &R, path: &str) -> bool {
     }
 }
 
-/// Returns the path of a name in a folder. A folder that is not absolute starts at the current one.
+/// Returns the path of a name in a folder. The path of a folder that is not absolute starts at the
+/// current folder.
 fn path_in<R: Files + Env + AllocGlobal>(
     runtime: &R,
     alloc: Global,
@@ -38,7 +39,7 @@ fn path_in<R: Files + Env + AllocGlobal>(
     }
 }
 
-/// Returns the first program of a name in some folders, which are separated by colons.
+/// Returns the first program with a name in some folders, which are separated by colons.
 fn first_program<R: Files + Env + AllocGlobal>(
     runtime: &R,
     alloc: Global,
@@ -76,7 +77,7 @@ fn found_in<R: Files + Env + AllocGlobal>(
 /// the folders of this program's own `PATH`. So a `PATH` that a command sets for its child does not
 /// choose which program the child is.
 ///
-/// Errors: `CannotStart`, if no folder has it; `OutOfMemory`.
+/// Errors: `CannotStart`, if no folder has the program; `OutOfMemory`.
 pub(crate) fn program_of<R: Files + Env + AllocGlobal>(
     runtime: &R,
     alloc: Global,
@@ -89,7 +90,7 @@ pub(crate) fn program_of<R: Files + Env + AllocGlobal>(
         Ok(folders) => found_in(runtime, alloc, folders.as_str(), name),
         Err(VarError::NotPresent) => found_in(runtime, alloc, WITHOUT_PATH, name),
         Err(VarError::OutOfMemory) => Err(io::Error::from(ErrorKind::OutOfMemory)),
-        // This error contains no path of ours.
+        // This error does not contain a path from this builder.
         Err(VarError::NotUnicode) => Err(not_found()),
     }
 }

@@ -12,17 +12,17 @@ use std::io::{ErrorKind, Read};
 use std::rt::{Env, Files};
 use std::{env, fs, io};
 
-/// How many bytes a file may have.
+/// The most bytes that a file may have.
 pub(crate) const MOST_BYTES: u64 = 4_294_967_296;
 
-/// What is at a path, links followed.
+/// What is at a path, after following links.
 #[derive(Clone, Copy, Debug, PartialEq, Eq)]
 pub(crate) enum Standing {
     /// A file, with its number of bytes.
     File(u64),
     /// A folder.
     Folder,
-    /// Nothing, or what is neither a file nor a folder.
+    /// Nothing, or something other than a file or a folder.
     Nothing,
 }
 
@@ -38,8 +38,8 @@ pub(crate) fn fault_of(failed: Failed) -> ViewFault
     ViewFault::Failed
 }
 
-/// Returns whether an error says that nothing is at a path. There is no such name, or a file is in
-/// the position of a folder, or the links lead in a circle.
+/// Returns whether an error means that nothing is at a path. Then there is no such name, or a file
+/// is in the position of a folder, or the links lead in a circle.
 pub(crate) fn says_absent(error: &io::Error) -> bool
     ensures { IsTrue result
         ↔ ((error_kind error.now ≡ ErrorKind.NotFound)
@@ -52,7 +52,7 @@ pub(crate) fn says_absent(error: &io::Error) -> bool
     )
 }
 
-/// Returns what is at a path, by its metadata.
+/// Returns what is at a path, according to the metadata of the path.
 pub(crate) fn standing_of(metadata: &fs::Metadata) -> Standing {
     if metadata.is_file() {
         return Standing::File(metadata.len());
@@ -63,10 +63,10 @@ pub(crate) fn standing_of(metadata: &fs::Metadata) -> Standing {
     Standing::Nothing
 }
 
-/// Returns what is at a path, links followed. A link that leads
-/// nowhere, or in a circle, is nothing.
+/// Returns what is at a path, after following links. A link that leads nowhere, or in a circle,
+/// counts as nothing.
 ///
-/// Errors: the system's error, if it cannot be found out.
+/// Errors: the system's error, if the system cannot find out.
 fn standing_at<R: Files>(runtime: &R, path: &str) -> io::Result<Standing> {
     match fs::metadata(runtime, path) {
         Ok(metadata) => Ok(standing_of(&metadata)),
@@ -75,9 +75,9 @@ fn standing_at<R: Files>(runtime: &R, path: &str) -> io::Result<Standing> {
     }
 }
 
-/// Returns whether a file is at a path, links followed.
+/// Returns whether a file is at a path, after following links.
 ///
-/// Errors: the system's error, if it cannot be found out.
+/// Errors: the system's error, if the system cannot find out.
 pub(crate) fn is_file<R: Files>(runtime: &R, path: &str) -> Result<bool, Failed> {
     match standing_at(runtime, path)? {
         Standing::File(_) => Ok(true),
@@ -85,7 +85,8 @@ pub(crate) fn is_file<R: Files>(runtime: &R, path: &str) -> Result<bool, Failed>
     }
 }
 
-/// Reads the first bytes of a file, and returns how many; none if the call was interrupted.
+/// Reads the first bytes of a file, and returns how many. If the call was interrupted, no bytes are
+/// read.
 fn read_first<F: Read>(file: &mut F, bytes: &mut [u8]) -> io::Result<usize> {
     match file.read(bytes) {
         Err(error) if error.kind() == ErrorKind::Interrupted => Ok(0),
@@ -93,9 +94,9 @@ fn read_first<F: Read>(file: &mut F, bytes: &mut [u8]) -> io::Result<usize> {
     }
 }
 
-/// Returns the bytes of a file that had this length a moment ago. One call requests that many bytes
-/// and one more. If the call returns exactly that many, the file ends there. Otherwise the rest is
-/// read until a call returns nothing.
+/// Returns the bytes of a file that had n bytes a moment ago. One call requests n + 1 bytes. If the
+/// call returns exactly n bytes, the file ends there. Otherwise the rest is read until a call
+/// returns nothing.
 pub(crate) fn bytes_at<R: Files + AllocGlobal>(
     runtime: &R,
     path: &str,
@@ -114,7 +115,7 @@ pub(crate) fn bytes_at<R: Files + AllocGlobal>(
 
 /// Returns the bytes of a file, or `None` if no file is at the path.
 ///
-/// Errors: `Failed`, if it cannot be read, or is too long.
+/// Errors: `Failed`, if the file cannot be read, or is too long.
 pub(crate) fn file_at<R: Files + AllocGlobal>(
     runtime: &R,
     path: &str,
@@ -142,7 +143,7 @@ fn first_bytes_at<R: Files + AllocGlobal>(
 
 /// Returns the first bytes of a file, at most `most`, or `None` if no file is at the path.
 ///
-/// Errors: `Failed`, if it cannot be read.
+/// Errors: `Failed`, if the file cannot be read.
 pub(crate) fn first_of<R: Files + AllocGlobal>(
     runtime: &R,
     path: &str,
@@ -155,7 +156,8 @@ pub(crate) fn first_of<R: Files + AllocGlobal>(
     }
 }
 
-/// Returns the answer for a variable without a value: `None` if it is not set, otherwise the fault.
+/// Returns the answer for a variable without a value: `None` if the variable is not set, otherwise
+/// the fault.
 fn unread(error: VarError) -> Result<Option<Text>, ViewFault>
     ensures absent { error ≡ VarError.NotPresent → result ≡ Ok None }
     ensures failed { error ≡ VarError.NotUnicode → result ≡ Err view_fault.Failed }

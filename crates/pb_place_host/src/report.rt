@@ -28,7 +28,7 @@ fn plain_text(alloc: Global, text: &str) -> Result<String, AllocError> {
     Ok(out)
 }
 
-/// Returns whether a text has no byte below 32, so no line feed.
+/// Returns whether a text has no byte below 32, and therefore no line feed.
 fn is_plain(text: &str) -> bool
     ensures { IsTrue result ↔ All IsPrintable text.now }
 {
@@ -55,7 +55,7 @@ impl Model for Report {
 impl Report {
     ghost use Rattle.pb_place_host.specs.Reports.{AreReported};
 
-    /// Returns a report without a text. It uses no memory.
+    /// Returns a report without a text. This uses no memory.
     pub(crate) fn new(alloc: Global) -> Report
         ensures { result ≡ [] }
     {
@@ -64,7 +64,8 @@ impl Report {
         }
     }
 
-    /// Adds a text, if it is plain, there are fewer than ten, and memory does not run out.
+    /// Adds a text, if the text is plain, the report has fewer than ten texts, and memory does not
+    /// run out.
     fn push(&mut self, text: String) {
         if self.inside.len() < MOST_TEXTS && is_plain(text.as_str()) {
             let _ = self.inside.push(Text::new(text));

@@ -7,7 +7,7 @@ use pb_place::Memory;
 use pb_place_types::Child;
 
 /// What a place knows of a failure besides its fault, as texts for people: at most ten, without
-/// line feeds. A place may know nothing. These calls use no memory, and none of them is counted.
+/// line feeds. A place may know nothing. These calls use no memory, and are not counted.
 pub trait Reporting {
     /// Returns what is known of the last call on files or variables that failed.
     fn failed_call(&self) -> &[Text]
@@ -24,7 +24,7 @@ pub trait Reporting {
         &[]
     }
 
-    /// Returns how the last child without an output folder answered, if one did.
+    /// Returns how the last child without an output folder answered, if there was such an answer.
     fn answered_query(&self) -> &[Text]
         ensures { AreReported result.now }
     {
@@ -37,8 +37,8 @@ pub trait Reporting {
         false
     }
 
-    /// Returns links that lead out of the target folder: those that the last child left in its
-    /// output folder, if it was a script.
+    /// Returns links that lead out of the target folder. The last child left these links in its
+    /// output folder, if this child was a script.
     fn links_out(&self) -> &[Text]
         ensures { AreReported result.now }
     {

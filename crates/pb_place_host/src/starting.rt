@@ -57,7 +57,7 @@ fn add_pairs(made: &mut process::Command, pairs: &[(Text, Text)]) -> Result<(), 
     Ok(())
 }
 
-/// Gives a process all that a command says besides its program.
+/// Sets everything in a process that a command contains besides its program.
 fn fill(made: &mut process::Command, command: &Command) -> Result<(), AllocError>
     ensures program { OnOk result (command_program made.new ≡ command_program made.old) }
     ensures words { OnOk result
@@ -73,8 +73,8 @@ fn fill(made: &mut process::Command, command: &Command) -> Result<(), AllocError
     Ok(())
 }
 
-/// Returns the process of a command: this program with the command's
-/// arguments, in its folder, with its environment over the inherited one.
+/// Returns the process of a command: this program with the command's arguments, in the command's
+/// folder. The variables of the command override the inherited variables.
 fn process_of(
     alloc: Global,
     program: &str,
@@ -98,9 +98,8 @@ fn begin<R: Processes>(runtime: &R, mut made: process::Command) -> io::Result<Ch
     spawned
 }
 
-/// Makes the output folder of a command, and returns when that was, by the clock of its file
-/// system. The result is `None` if the command has no output folder, or the time cannot be found
-/// out.
+/// Makes the output folder of a command, and returns when the folder was made, by the clock of its
+/// file system. The result is `None` if the command has no output folder, or the time is unknown.
 ///
 /// Errors: the system's error with the folder's path, if the folder cannot be made.
 fn make_out<R: Files>(
@@ -117,8 +116,8 @@ fn make_out<R: Files>(
     }
 }
 
-/// Starts the child of a command, after making its output folder. Returns the child with the
-/// moment at which the folder was made: what changes later changes while the child is at work.
+/// Starts the child of a command, after making the output folder. Returns the child with the moment
+/// at which the folder was made. Every later change counts as a change while the child runs.
 ///
 /// Errors: `CannotStart`, if the output folder cannot be made, or
 /// the program is not found or cannot be started; `OutOfMemory`.
@@ -135,9 +134,9 @@ pub(crate) fn spawn<R: Files + Env + Processes + AllocGlobal>(
     Ok((child, since))
 }
 
-/// Returns how a child ended: its status code and both its streams, as they were written.
+/// Returns how a child ended: its status code and both output streams, as the child wrote them.
 ///
-/// Errors: `Died`, if it has no status code.
+/// Errors: `Died`, if the child has no status code.
 pub(crate) fn end_of(output: Output) -> Result<Ended, StartFault>
     ensures ended { IfOk result (λ e. (exit_code output.status ≡ Some e.status)
         × (e.stdout ≡ output.stdout.items) × (e.stderr ≡ output.stderr.items)) }

@@ -7,14 +7,14 @@ use std::alloc::{AllocError, Global};
 use std::fs;
 use std::rt::Files;
 
-/// The name of the file that marks a folder as one that can be
-/// made again (Cache Directory Tagging Specification).
+/// The name of the file that marks a folder whose contents can be made again (Cache Directory
+/// Tagging Specification).
 pub const TAG_NAME: &str = "CACHEDIR.TAG";
 
 /// The line by which that file marks a target folder of this builder.
 pub const TAG_LINE: &str = "# This is a target folder of pb_tool.";
 
-/// The content of the file that this builder writes. The first line is that of the specification.
+/// The content of the file that this builder writes. The specification requires the first line.
 pub const TAG_TEXT: &str = "Signature: 8a477f597d28d172789f06886806bc55
 # This is a target folder of pb_tool.
 # For information about cache directory tags see https://bford.info/cachedir/
@@ -23,14 +23,14 @@ pub const TAG_TEXT: &str = "Signature: 8a477f597d28d172789f06886806bc55
 /// The greatest number of bytes that a tag may have. A longer file does not count as a tag.
 const MOST_BYTES: u64 = 4096;
 
-/// Returns whether one of the lines of a text is that of this builder.
+/// Returns whether a line of a text is the line of this builder.
 pub fn has_tag_line(text: &[u8]) -> bool {
     text.split(|byte| *byte == b'\n')
         .any(|line| line == TAG_LINE.as_bytes())
 }
 
-/// Returns whether the file at a path marks a target folder of
-/// this builder. A file that cannot be read does not.
+/// Returns whether the file at a path marks a target folder of this builder. A file that cannot be
+/// read does not mark a target folder.
 fn is_tag<R: Files + AllocGlobal>(runtime: &R, path: &str) -> bool {
     let length = match fs::metadata(runtime, path) {
         Ok(metadata) if metadata.is_file() => metadata.len(),

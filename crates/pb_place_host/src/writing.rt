@@ -11,11 +11,11 @@ use std::os::unix::fs::PermissionsExt;
 use std::rt::Files;
 use std::{fs, io};
 
-/// The mode of a folder that its owner may read, write and go through.
+/// The mode of a folder that its owner may read, write and enter.
 const OWNED: u32 = 0o700;
 
-/// Returns an empty file for n bytes, and makes the folders above it. If n is more than a file may
-/// have, nothing is done.
+/// Returns an empty file for n bytes, and makes the folders above the file. If n is more than a
+/// file may have, nothing is done.
 fn create_file<R: Files>(
     runtime: &R,
     alloc: Global,
@@ -30,8 +30,8 @@ fn create_file<R: Files>(
     Ok(fs::create(runtime, path.as_str())?)
 }
 
-/// Writes a file, and makes the folders above it. If there are more bytes than a file may have,
-/// nothing is done.
+/// Writes a file, and makes the folders above the file. If there are more bytes than a file may
+/// have, nothing is done.
 pub(crate) fn write_file<R: Files>(
     runtime: &R,
     alloc: Global,
@@ -57,8 +57,8 @@ pub(crate) fn write_file_pieces<R: Files>(
     Ok(())
 }
 
-/// Removes what is at a path itself. A folder is removed with its contents. Anything else is
-/// removed alone: of a link, only the link.
+/// Removes what is at a path. A folder is removed with its contents. If the path is a link, only
+/// the link is removed.
 fn remove_standing<R: Files + AllocGlobal>(
     runtime: &R,
     path: &str,
@@ -70,8 +70,8 @@ fn remove_standing<R: Files + AllocGlobal>(
     fs::remove_file(runtime, path)
 }
 
-/// Adds the folders directly in a folder to those that wait. A link
-/// does not count as a folder. A folder that cannot be read has none.
+/// Adds the folders directly in a folder to the waiting folders. A link does not count as a folder.
+/// If the folder cannot be read, no folders are added.
 fn add_folders<R: Files + AllocGlobal>(
     runtime: &R,
     folder: &str,
@@ -92,8 +92,8 @@ fn add_folders<R: Files + AllocGlobal>(
     Ok(())
 }
 
-/// Lets the owner read, write and go through a folder and all folders below it, so that their
-/// contents can be removed. Links are not followed. What cannot be changed stays as it is.
+/// Lets the owner read, write and enter a folder and all folders below it, so that their contents
+/// can be removed. Links are not followed. A folder that cannot be changed stays as it is.
 fn open_folders<R: Files + AllocGlobal>(runtime: &R, path: &str) -> Result<(), AllocError> {
     let alloc = runtime.alloc();
     let mut waiting = Vec::new(alloc);
@@ -108,8 +108,8 @@ fn open_folders<R: Files + AllocGlobal>(runtime: &R, path: &str) -> Result<(), A
     Ok(())
 }
 
-/// Removes what is at a path itself. If that is refused for a folder, the folders
-/// there are made writable first: a child may have left some that are not.
+/// Removes what is at a path. If the removal of a folder is refused, the folders there are made
+/// writable and the removal is tried again. A child may have left folders that are not writable.
 fn remove_whole<R: Files + AllocGlobal>(
     runtime: &R,
     path: &str,
@@ -126,7 +126,8 @@ fn remove_whole<R: Files + AllocGlobal>(
     }
 }
 
-/// Removes an entry of a folder, unless it is a folder itself. Returns whether it is one.
+/// Removes an entry of a folder, unless the entry is itself a folder. Returns whether the entry is
+/// a folder.
 fn remove_entry<R: Files>(runtime: &R, path: &str) -> io::Result<bool> {
     let metadata = fs::symlink_metadata(runtime, path)?;
     if metadata.is_dir() {
@@ -136,8 +137,8 @@ fn remove_entry<R: Files>(runtime: &R, path: &str) -> io::Result<bool> {
     Ok(false)
 }
 
-/// Removes the files of a folder, and adds its folders to those that wait. Names that are not UTF-8
-/// are left out.
+/// Removes the files of a folder, and adds its folders to the waiting folders. Names that are not
+/// UTF-8 are left out.
 ///
 /// Errors: the first file that cannot be removed; the folder, if it cannot be listed; out of
 /// memory.
@@ -164,9 +165,9 @@ fn clear_folder<R: Files + AllocGlobal>(
     Ok(())
 }
 
-/// Removes all files below a folder. Returns the folders, each after the one that it is in.
+/// Removes all files below a folder. Returns the folders, each after the folder that contains it.
 ///
-/// Errors: those of `clear_folder`.
+/// Errors: the errors of `clear_folder`.
 fn clear_folders<R: Files + AllocGlobal>(runtime: &R, path: &str) -> Result<Vec<String>, Failed> {
     let alloc = runtime.alloc();
     let mut waiting = Vec::new(alloc);
@@ -182,8 +183,8 @@ fn clear_folders<R: Files + AllocGlobal>(runtime: &R, path: &str) -> Result<Vec<
     Ok(cleared)
 }
 
-/// Removes a folder and what is below it, one after another. So the path that cannot be removed is
-/// known.
+/// Removes a folder and the files and folders below it, one after another. Therefore the path that
+/// cannot be removed is known.
 ///
 /// Errors: the first file or folder that cannot be removed; out of memory.
 fn remove_singly<R: Files + AllocGlobal>(runtime: &R, path: &str) -> Result<(), Failed> {
@@ -199,8 +200,9 @@ fn remove_singly<R: Files + AllocGlobal>(runtime: &R, path: &str) -> Result<(), 
     Ok(())
 }
 
-/// Removes the file or folder at a path, with all that is below it, and returns whether something
-/// was there. A link is removed itself, and what it leads to stays.
+/// Removes the file or folder at a path, with everything below the path, and returns whether
+/// something was there. A link itself is removed, but not the file or folder to which the link
+/// leads.
 ///
 /// Errors: the first file or folder that cannot be removed; out of memory.
 pub(crate) fn remove_tree<R: Files + AllocGlobal>(runtime: &R, path: &str) -> Result<bool, Failed> {

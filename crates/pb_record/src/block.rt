@@ -9,7 +9,7 @@ ghost use Rattle.pb_record.specs.Reading.{BeginsWith, StandsNone};
 use crate::number::{number_at, push_number};
 use std::alloc::AllocError;
 
-/// Returns n bytes that are followed by a line feed, and what comes after it.
+/// Returns n bytes that are followed by a line feed, and what comes after the line feed.
 fn cut_block(text: &[u8], count: u64) -> Option<(&[u8], &[u8])>
     ensures { MatchOption result ((bytes rest : List ℕ) → length bytes ≡ count → text.now ≡ bytes
         ++ 10 ∷ rest → ⊥) (λ p. (length p.0.now ≡ count) × (text.now ≡ p.0.now ++ 10 ∷ p.1.now)) }
@@ -24,7 +24,7 @@ fn cut_block(text: &[u8], count: u64) -> Option<(&[u8], &[u8])>
     }
 }
 
-/// Returns the block with which a text begins, and what comes after it.
+/// Returns the block with which a text begins, and what comes after the block.
 pub(crate) fn block_at(text: &[u8]) -> Option<(&[u8], &[u8])>
     ensures { MatchOption result (StandsNone IsAny block text.now) (λ p.
         BeginsWith IsAny block text.now p.0.now p.1.now) }
@@ -33,7 +33,8 @@ pub(crate) fn block_at(text: &[u8]) -> Option<(&[u8], &[u8])>
     cut_block(after, count)
 }
 
-/// Returns the block with which a text begins, if it is UTF-8, and what comes after it.
+/// Returns the block with which a text begins, if the block is UTF-8, and what comes after the
+/// block.
 pub(crate) fn text_at(text: &[u8]) -> Option<(&str, &[u8])>
     ensures { MatchOption result (StandsNone IsUtf8 block text.now) (λ p.
         BeginsWith IsUtf8 block text.now p.0.now p.1.now) }

@@ -1,4 +1,5 @@
-//! Requests and commands: one is made from the other, and the two are compared.
+//! Requests and commands. A request is made from a command, and a command from a request. The two
+//! are compared.
 
 ghost use Rattle.std.specs.Prelude.{◌≡◌, Decides};
 ghost use Rattle.pb_record.specs.Commands.{command_of, asked_in, AsksAs};
@@ -43,8 +44,8 @@ fn has_out(out: &PathText, other: &Option<PathText>) -> bool
 }
 
 impl RecordedCommand {
-    /// Returns the request of a command. The result is none if the command has no output folder, or
-    /// its variables are not sorted by name, each name once. No memory is used.
+    /// Returns the request of a command. The result is `None` if the command has no output folder,
+    /// if its variables are not sorted by name, or if a name occurs twice. No memory is used.
     pub fn of_command(command: Command) -> Option<RecordedCommand>
         ensures { result ≡ asked_in command }
     {
@@ -73,7 +74,7 @@ impl RecordedCommand {
         }
     }
 
-    /// Returns the command that was requested. It takes no memory.
+    /// Returns the command that was requested. The call takes no memory.
     pub fn into_command(self) -> Command
         ensures { result ≡ command_of self }
     {
@@ -101,7 +102,7 @@ impl RecordedCommand {
 
     /// Returns whether a command is equal to the request, apart from its variables. The program,
     /// the arguments, the folder, the output and target folders, the compiler, and the folders that
-    /// it reads are compared. No memory is used.
+    /// the child may read are compared. No memory is used.
     pub fn asks_as(&self, command: &Command) -> bool
         ensures { Decides result (AsksAs self.now command.now) }
     {
@@ -114,7 +115,7 @@ impl RecordedCommand {
             && are_same_paths(self.reads.as_slice(), command.reads.as_slice())
     }
 
-    /// Returns whether a command sets the same variables to the same values. It takes no memory.
+    /// Returns whether a command sets the same variables to the same values. The call takes no memory.
     pub fn sets_as(&self, command: &Command) -> bool
         ensures { Decides result (self.now.pairs ≡ command.now.pairs) }
     {

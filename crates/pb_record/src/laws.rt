@@ -3,9 +3,10 @@
 ghost use Rattle.pb_record.specs.Laws.{TellsApart, SaysWhereItEnds, FirstPartsSayNothing, MoreBytesSayNothing, OnlyRecordsAreSaid, PathsHaveNoByte0, NoZeroLeads, NumbersHaveDigits, NoZeroLeadsRecord, RecordNumbersHaveDigits, RecordNumbersFit, HasOneReading, HasReading};
 ghost use Rattle.pb_record.specs.Commands.{AskedIsCommand, CommandIsAsked, SameAsked};
 
-/// The bytes of a record differ from those of every other record, of either format, and determine
-/// where the record ends. So no record begins another. A record followed by more bytes is no
-/// record, and neither is a first part of one, as a torn write leaves it.
+/// The bytes of a record differ from the bytes of every other record, of either format, and
+/// determine where the record ends. Therefore no record is the beginning of another record. A
+/// record followed by more bytes is not a record. A proper first part of a record, as a torn write
+/// leaves it, is not a record either.
 pub fn records_lie_apart()
     ensures told { TellsApart }
     ensures ends { SaysWhereItEnds }
@@ -13,9 +14,9 @@ pub fn records_lie_apart()
     ensures longer { MoreBytesSayNothing }
 {}
 
-/// What is read is a record. Its texts are UTF-8, its paths are normalised, no number is above the
-/// largest, and the variables are sorted by name, each name once. The bytes of any other value are
-/// those of no record. A path has no byte 0.
+/// A successful read returns a record. Its texts are UTF-8, its paths are normalised, and no number
+/// exceeds the maximum. The variables are sorted by name, and each name occurs once. The bytes of
+/// any other value are not a record. A path has no byte 0.
 pub fn only_records_are_read()
     ensures said { OnlyRecordsAreSaid }
     ensures paths { PathsHaveNoByte0 }
@@ -36,15 +37,15 @@ pub fn texts_have_one_reading()
     ensures { HasOneReading }
 {}
 
-/// There is a function that returns the reading of each text. So a statement about every function
-/// of this kind is not empty.
+/// There is a function that returns the reading of each text. So a statement about every such
+/// function is not vacuous.
 pub fn texts_have_a_reading()
     ensures { HasReading }
 {}
 
-/// The command of a command's request is that command, and the request of a request's command is
-/// that request: nothing is lost. A command that requests the same and sets the same variables is
-/// the one that was requested.
+/// A command, turned into a request and back, is the same command. A request, turned into a command
+/// and back, is the same request. A command that requests the same and sets the same variables is
+/// the requested command.
 pub fn commands_are_asked()
     ensures command { AskedIsCommand }
     ensures asked { CommandIsAsked }

@@ -1,4 +1,5 @@
-//! Records: what is kept beside the output folder of a unit, and its text.
+//! Records. A record is kept beside the output folder of a unit. This crate writes a record as a
+//! text and reads the record from this text.
 #![tactic(auto)]
 
 mod block;

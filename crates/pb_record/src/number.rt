@@ -8,7 +8,7 @@ ghost use Rattle.pb_record.specs.Reading.{BeginsWith, StandsNone, HasNoFeed, beg
 use itoa::Buffer;
 use std::alloc::AllocError;
 
-/// Returns what comes before the first line feed, and what comes after it.
+/// Returns the text before the first line feed, and the text after it.
 fn split_line(text: &[u8]) -> Option<(&[u8], &[u8])>
     ensures { MatchOption result ((line rest : List ℕ) → text.now ≡ line ++ 10 ∷ rest →
         ⊥) (λ p. (text.now ≡ p.0.now ++ 10 ∷ p.1.now) × HasNoFeed p.0.now) }
@@ -21,8 +21,8 @@ fn split_line(text: &[u8]) -> Option<(&[u8], &[u8])>
     None
 }
 
-/// Returns whether digits begin a number: without a sign, and with a 0 only if it is the only
-/// digit.
+/// Returns whether bytes begin as a number does. The first byte exists and is not `+`. The first
+/// byte is `0` only if no other byte follows.
 fn begins_well(digits: &[u8]) -> bool
     ensures { result ≡ begins_well digits.now }
 {
@@ -33,7 +33,8 @@ fn begins_well(digits: &[u8]) -> bool
     }
 }
 
-/// Returns the number with these digits, or none if they are not those of a number below 2 ^ 64.
+/// Returns the number with these digits. Returns `None` if the digits do not spell a number below 2
+/// ^ 64.
 fn number_of(digits: &[u8]) -> Option<u64>
     ensures { MatchOption result ((n : ℕ) → n < 2 ^ 64 → digits.now ≡ decimals n →
         ⊥) (λ n. (n < 2 ^ 64) × (digits.now ≡ decimals n)) }
@@ -47,8 +48,8 @@ fn number_of(digits: &[u8]) -> Option<u64>
     }
 }
 
-/// Returns the number with which a text begins, and what follows it, or none if it begins with no
-/// number below 2 ^ 64.
+/// Returns the number with which a text begins, and what follows the number. Returns `None` if the
+/// text does not begin with a number below 2 ^ 64.
 pub(crate) fn number_at(text: &[u8]) -> Option<(u64, &[u8])>
     ensures { MatchOption result (StandsNone IsNumber number text.now) (λ p.
         BeginsWith IsNumber number text.now p.0 p.1.now) }

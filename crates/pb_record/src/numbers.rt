@@ -1,4 +1,5 @@
-//! The run numbers of a record, read from its text. No values are made of the rest of the text.
+//! The run numbers of a record, read from its text. The rest of the text is checked, but no values
+//! are made from the rest.
 
 ghost use Rattle.std.specs.Prelude.{◌++◌, codes, Decides, IfOk, MatchOption};
 ghost use Rattle.pb_record.specs.Grammar.{line};
@@ -18,10 +19,10 @@ use std::alloc::{AllocError, Global};
 /// The run numbers in a record.
 #[derive(Drop)]
 pub struct Numbers {
-    /// The key of its unit.
+    /// The key of the record's unit.
     pub key: Text,
-    /// Its own run number, and those by which it names the units that it needs. None if it is of
-    /// format 1.
+    /// The record's own run number, and the run numbers of the needed units. `None` if the record
+    /// has format 1.
     pub numbered: Option<(u64, Items<(Text, u64)>)>,
 }
 
@@ -46,7 +47,7 @@ fn is_end(alloc: Global, text: &[u8]) -> Result<bool, AllocError>
 }
 
 /// Returns the needed units of a record of format 2, from its text after the key. The result is
-/// none if the text is not of this form.
+/// `None` if the text does not have this form.
 fn needs_at(alloc: Global, text: &[u8]) -> Result<Option<Items<(Text, u64)>>, AllocError>
     ensures { IfOk result (λ found. MatchOption found
         ((p : RestParts) → IsRest text.now p → ⊥) (λ needs. EndsInNeeds text.now needs)) }
@@ -128,8 +129,8 @@ fn numbers_by_format(alloc: Global, text: &[u8]) -> Result<Option<Numbers>, Allo
     Ok(None)
 }
 
-/// Returns the run numbers of the record of a text, or none if the text is no record. The result is
-/// some if and only if that of `read_record` is.
+/// Returns the run numbers of the record of a text, or `None` if the text is not a record. The
+/// result is `None` if and only if `read_record` returns `None`.
 ///
 /// Errors: only out of memory.
 pub fn read_numbers(alloc: Global, text: &[u8]) -> Result<Option<Numbers>, AllocError>

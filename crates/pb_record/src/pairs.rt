@@ -6,8 +6,8 @@ ghost use Rattle.pb_record.specs.Sorted.{are_sorted, leads};
 use pb_data::{Items, Text};
 use std::marker::Model;
 
-/// Names and values of variables, sorted by name in byte order, each name once. Contracts see the
-/// list of them.
+/// Names and values of variables, sorted by name in byte order. Each name occurs once. Contracts
+/// see the list of the pairs.
 #[derive(Drop)]
 pub struct Pairs {
     inside: Items<(Text, Text)>,
@@ -25,8 +25,8 @@ impl Model for Pairs {
     ghost invariant = { λ a. are_sorted a.inside ≡ true };
 }
 
-/// Returns whether, in byte order, a name is before the name of the first of some pairs, if there
-/// is one.
+/// Returns whether, in byte order, a name is before the name of the first of some pairs. Returns
+/// true if there is no pair.
 fn leads(name: &Text, pairs: &[(Text, Text)]) -> bool
     ensures { result ≡ leads name.now pairs.now }
 {
@@ -36,7 +36,7 @@ fn leads(name: &Text, pairs: &[(Text, Text)]) -> bool
     }
 }
 
-/// Returns whether each name is before the next one in byte order. It takes no memory.
+/// Returns whether each name is before the next name in byte order. The call takes no memory.
 fn are_sorted(pairs: &[(Text, Text)]) -> bool
     ensures { result ≡ are_sorted pairs.now }
 {
@@ -51,8 +51,8 @@ fn are_sorted(pairs: &[(Text, Text)]) -> bool
 }
 
 impl Pairs {
-    /// Returns the pairs of a list, or none if it is not sorted by name or contains a name twice.
-    /// It takes no memory.
+    /// Returns the pairs of a list, or `None` if the list is not sorted by name or contains a name
+    /// twice. The call takes no memory.
     pub fn of(inside: Items<(Text, Text)>) -> Option<Pairs>
         ensures { result ≡ (if are_sorted inside then Some inside else None) }
     {
@@ -78,7 +78,7 @@ impl Pairs {
         &self.inside
     }
 
-    /// Returns the pairs as items. It takes no memory.
+    /// Returns the pairs as items. The call takes no memory.
     pub fn into_items(self) -> Items<(Text, Text)>
         ensures pairs { result ≡ self }
         ensures sorted { are_sorted self ≡ true }

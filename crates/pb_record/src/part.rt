@@ -10,11 +10,11 @@ pub trait Part: Drop {
     /// What a part of this kind is, apart from its bytes.
     ghost is_part: { Self → Type 0 };
 
-    /// Its bytes.
+    /// The bytes of the part.
     ghost spelled: { Self → List ℕ };
 
-    /// Returns the part with which a text begins, and what follows it, or none if the text begins
-    /// with no part of this kind.
+    /// Returns the part with which a text begins, and what follows the part. Returns `None` if the
+    /// text does not begin with a part of this kind.
     ///
     /// Errors: only out of memory.
     fn read(alloc: Global, text: &[u8]) -> Result<Option<(Self, &[u8])>, AllocError>
@@ -22,8 +22,9 @@ pub trait Part: Drop {
             MatchOption found (StandsNone is_part spelled text.now) (λ p.
             BeginsWith is_part spelled text.now p.0 p.1.now)) };
 
-    /// Returns what follows the part with which a text begins, or none if the text begins with no
-    /// part of this kind. The result is that of `read`, but the part need not be made.
+    /// Returns what follows the part with which a text begins, or `None` if the text does not begin
+    /// with a part of this kind. The result is the rest that `read` returns, but the part need not
+    /// be made.
     ///
     /// Errors: only out of memory.
     fn skip(alloc: Global, text: &[u8]) -> Result<Option<&[u8]>, AllocError>
@@ -47,8 +48,7 @@ pub trait Part: Drop {
         ensures written { OnOk result (out.new.items ≡ out.old.items ++ spelled self.now) }
         ensures is { OnOk result (is_part self.now) };
 
-    /// States that the bytes of a part determine where it ends. The call does nothing: its contract
-    /// is what is known.
+    /// Does nothing; its contract states that the bytes of a part determine where the part ends.
     fn spells()
         ensures { IsSpelling spelled };
 }

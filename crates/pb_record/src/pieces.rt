@@ -9,10 +9,10 @@ use std::alloc::{AllocError, Global};
 use std::marker::Model;
 use std::mem::replace;
 
-/// From how many bytes on a value is a piece of its own, and not copied.
+/// A value with at least this number of bytes is a separate piece, and is not copied.
 const LARGE: usize = 4096;
 
-/// From how many bytes on a run of copied parts is ended.
+/// A run of copied parts ends as soon as it has at least this number of bytes.
 const LONG_RUN: usize = 65_536;
 
 /// A text in pieces, which grows at its end. Contracts see the text.
@@ -22,7 +22,7 @@ pub struct Pieces {
     done: Vec<Bytes>,
     /// The last piece, with copies of small parts.
     run: Vec<u8>,
-    /// Where memory comes from.
+    /// The allocator of the text.
     alloc: Global,
 }
 
@@ -35,7 +35,7 @@ impl Model for Pieces {
     ghost view = { λ a. concat a.done.items ++ a.run.items };
 }
 
-/// Ends a run of copied parts: it becomes a piece, and the run is empty.
+/// Ends a run of copied parts. The run becomes a piece, and a new, empty run begins.
 fn end_run(alloc: Global, done: &mut Vec<Bytes>, run: &mut Vec<u8>) -> Result<(), AllocError>
     ensures done { OnOk result (done.new.items ≡ done.old.items ++ run.old.items ∷ []) }
     ensures run { OnOk result (run.new.items ≡ []) }
@@ -47,7 +47,7 @@ fn end_run(alloc: Global, done: &mut Vec<Bytes>, run: &mut Vec<u8>) -> Result<()
 
 #[tactic(auto, using(crate::proofs::PieceLemmas::piece_laws))]
 impl Pieces {
-    /// Returns an empty text. It takes no memory.
+    /// Returns an empty text. The call takes no memory.
     pub(crate) fn new(alloc: Global) -> Pieces
         ensures { result ≡ [] }
     {

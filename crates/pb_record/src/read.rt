@@ -128,8 +128,8 @@ fn read_by_format(alloc: Global, text: &[u8]) -> Result<Option<Record>, AllocErr
     Ok(None)
 }
 
-/// Returns the record of a text, or none if the text is not that of a record: it must be exactly
-/// what `write_record` writes. The format is our own, in two versions, named in the first line.
+/// Returns the record of a text, or `None` if the text is not exactly what `write_record` writes
+/// for some record. The format is our own, in two versions. The first line names the version.
 ///
 /// Errors: only out of memory.
 pub fn read_record(alloc: Global, text: &[u8]) -> Result<Option<Record>, AllocError>

@@ -19,16 +19,17 @@ pub enum InputName {
 /// reaches, with its value.
 #[derive(Drop)]
 pub enum Input {
-    /// A file, and its bytes.
+    /// A file, and the bytes of the file.
     File(PathText, Bytes),
-    /// A path without a file, and the files below it, each with its path relative to that folder.
+    /// A path without a file, and the files below this path. Each file has its path relative to
+    /// this path.
     Tree(PathText, Items<(RelativePath, Bytes)>),
     /// A variable of the environment, and its text, if it is set.
     Value(Text, Option<Text>),
 }
 
-/// The units that a unit needs, as they were. The format of the record determines which of the two
-/// it is.
+/// The units that a unit needs, as they were when the unit was built. The format of the record
+/// determines which of the two cases is used.
 #[derive(Drop)]
 pub enum Needed {
     /// Format 1: the keys of all units that the unit reaches, each with the files of its output

@@ -26,7 +26,7 @@ pub struct RecordedCommand {
     pub pairs: Pairs,
     /// The folder into which the child writes.
     pub out: PathText,
-    /// The target folder. The child sees only those parts of it that `reads` names.
+    /// The target folder. The child sees only those parts of this folder that `reads` names.
     pub target: PathText,
     /// The compiler's output about its version.
     pub toolchain: Bytes,
@@ -46,7 +46,7 @@ type AskedParts = (
     ),
 );
 
-/// Returns the request made of its parts.
+/// Returns the request that consists of these parts.
 fn asked_of(parts: AskedParts) -> RecordedCommand
     ensures { result ≡ asked_of parts }
 {

@@ -1,5 +1,5 @@
-//! An upper bound for the length of a record's text, so that memory for it is taken once. No proof
-//! depends on it: if it were too small, the text would grow.
+//! An upper bound for the length of a record's text, so that memory for the text is taken once. No
+//! proof depends on the bound. If the bound were too small, the text would grow.
 
 use crate::record::{Input, Needed, Record};
 use crate::recorded_command::RecordedCommand;
@@ -14,7 +14,7 @@ fn block(length: usize) -> usize {
     length.saturating_add(LINE)
 }
 
-/// Returns the room for texts.
+/// Returns the space for texts.
 fn texts(texts: &[Text]) -> usize {
     let mut room = LINE;
     for text in texts {
@@ -23,7 +23,7 @@ fn texts(texts: &[Text]) -> usize {
     room
 }
 
-/// Returns the room for paths.
+/// Returns the space for paths.
 fn paths(paths: &[PathText]) -> usize {
     let mut room = LINE;
     for path in paths {
@@ -42,7 +42,7 @@ fn pairs(pairs: &[(Text, Text)]) -> usize {
     room
 }
 
-/// Returns the room for files.
+/// Returns the space for files.
 fn files(files: &[(RelativePath, Bytes)]) -> usize {
     let mut room = LINE;
     for file in files {
@@ -68,7 +68,8 @@ fn value(input: &Input) -> usize {
     }
 }
 
-/// Returns the space for inputs. Each has a line for its kind, and one that says if its text is there.
+/// Returns the space for inputs. Each input has a line for its kind, and a line that says whether
+/// its text is present.
 fn inputs(inputs: &[Input]) -> usize {
     let mut room = LINE;
     for input in inputs {

@@ -17,7 +17,7 @@ use pb_data::{Bytes, Items, Text};
 use pb_place_types::RelativePath;
 use std::alloc::{AllocError, Global};
 
-/// Adds what comes before the needed units.
+/// Adds the parts of a record that come before the needed units.
 fn push_front(out: &mut Vec<u8>, kept: &Record) -> Result<(), AllocError>
     ensures written { OnOk result (out.new.items ≡ out.old.items
         ++ (block kept.now.key ⨾ asked_bytes kept.now.asked ⨾ listed input_bytes kept.now.inputs)) }
@@ -30,7 +30,7 @@ fn push_front(out: &mut Vec<u8>, kept: &Record) -> Result<(), AllocError>
     Ok(())
 }
 
-/// Adds what comes after the needed units.
+/// Adds the parts of a record that come after the needed units.
 fn push_end(out: &mut Vec<u8>, kept: &Record) -> Result<(), AllocError>
     ensures { OnOk result (out.new.items ≡ out.old.items
         ++ (block kept.now.stdout ⨾ block kept.now.stderr ⨾ line (codes "end"))) }
@@ -107,9 +107,10 @@ fn text_of(alloc: Global, kept: &Record) -> Result<Bytes, AllocError>
     Ok(Bytes::new(out))
 }
 
-/// Returns the text of a record, from which `read_record` reads it again. The format is our own, in
-/// two versions: with the numbers of the needed units, or with copies of their files. A proper
-/// first part of the text, as a torn write leaves it, reads as no record.
+/// Returns the text of a record, from which `read_record` reads the same record again. The format
+/// is our own, in two versions: with the numbers of the needed units, or with copies of their
+/// files. A torn write leaves only a first part of the text, which `read_record` does not accept as
+/// a record.
 ///
 /// Errors: only out of memory.
 pub fn write_record(alloc: Global, kept: &Record) -> Result<Bytes, AllocError>
@@ -124,7 +125,7 @@ pub fn write_record(alloc: Global, kept: &Record) -> Result<Bytes, AllocError>
     Ok(text)
 }
 
-/// Returns the text in pieces that consists of a first line, a part, and the line `end`.
+/// Returns a text in pieces. The text consists of a first line, a part, and the line `end`.
 fn pieces_of<T: Put>(alloc: Global, first: &[u8], part: T) -> Result<Items<Bytes>, AllocError>
     ensures { IfOk result (λ pieces. T.is_part part
         × (concat pieces ≡ first.now ++ (T.spelled part ++ line (codes "end")))) }
@@ -136,8 +137,8 @@ fn pieces_of<T: Put>(alloc: Global, first: &[u8], part: T) -> Result<Items<Bytes
     out.into_items()
 }
 
-/// Returns the text of a record in pieces: joined in order, they are what `write_record` returns.
-/// A value of many bytes is moved, so no memory is taken for it once more.
+/// Returns the text of a record in pieces. Joined in order, the pieces are what `write_record`
+/// returns. A value of many bytes is moved, so no memory is taken for a copy of the value.
 ///
 /// Errors: only out of memory.
 pub fn write_record_pieces(alloc: Global, kept: Record) -> Result<Items<Bytes>, AllocError>

@@ -34,7 +34,7 @@ impl<C> Memory<C> {
     }
 
     /// Fails with a call's own fault, as the fuse decides. If memory ran out for the call's value,
-    /// the fuse stays.
+    /// the fuse does not change.
     fn fail<T>(&mut self, call: Result<Call, AllocError>) -> Result<T, PlaceFault>
         requires fails_now { self.old.fuse ≡ 1 }
         ensures fails_now { IfOk result (λ _. ⊥) }
@@ -51,8 +51,8 @@ impl<C> Memory<C> {
         self.tally.count(call, Err(own))
     }
 
-    /// Counts a write for which memory ran out before it changed anything. If this write was to
-    /// fail, the fuse stays.
+    /// Counts a write for which memory ran out before the write changed anything. If the fuse was
+    /// set to fail this write, the fuse does not change.
     fn refuse(&mut self)
         ensures { self.new ≡ record self.old {
           tally = past_call self.old.tally;
@@ -288,7 +288,7 @@ impl<C: Child> Place for Memory<C> {
         ensures answers { SpawnFails command.now.out result self.old }
         ensures spawns { SpawnsIn C.answers command.now result self.old self.new }
 
-        // How it is counted.
+        // How the call is counted.
         ensures tally { self.new.tally ≡ counted_start result self.old.tally }
         ensures counts { counts_in self.new
             ≡ counted_spawn (child_spawned (C.answers command.now) command.now self.old.world)

@@ -1,5 +1,5 @@
-//! The children of a place in memory: how each is spawned and ends, as the fuse and the deaths
-//! decide.
+//! The children of a place in memory. The fuse and the deaths decide how each child is spawned and
+//! ends.
 
 ghost use Rattle.std.specs.Prelude.{is_some, Ok, ◌≡◌, ◌≢◌, ◌⊎◌, ◌+◌, ◌-◌, ◌++◌, ◌∷◌, [], length, max, true, false, IfOk, IfErr, OnOk, OnErr, IfSome, IfNone, Some, None, Err};
 ghost use Rattle.std.specs.List.{list_any};
@@ -39,7 +39,7 @@ fn add_child(
     Ok(most.max(flying.len() as u64))
 }
 
-/// Removes a child from those in flight, and returns it.
+/// Removes a child from the children in flight, and returns the child.
 #[tactic(auto, using(crate::proofs::InFlight::end_laws))]
 fn take_child(
     flying: &mut Vec<Flying<Option<StartFault>>>,
@@ -91,7 +91,7 @@ fn child_in_flight(
     })
 }
 
-/// Returns the fault with which a child in flight ends. `CannotStart` is no end, so no child in
+/// Returns the fault with which a child in flight ends. `CannotStart` is not an end, so no child in
 /// flight has that fate.
 fn fault_at_end(fault: StartFault) -> StartFault
     ensures kept { fault ≢ StartFault.CannotStart → result ≡ fault }
@@ -106,8 +106,8 @@ fn fault_at_end(fault: StartFault) -> StartFault
     }
 }
 
-/// Returns the fault with which a child ends now: `Died` if the fuse is 1, else its own fate, if it
-/// has one.
+/// Returns the fault with which a child ends now: `Died` if the fuse is 1; otherwise the child's
+/// own fate, if the child has a fate.
 fn fate_now(fails_now: bool, kept: Option<StartFault>) -> Option<StartFault>
     ensures burnt { fails_now ≡ true → result ≡ Some StartFault.Died }
     ensures none { fails_now ≡ false → kept ≡ None → result ≡ None }
@@ -136,7 +136,7 @@ fn ended_by(landed: Result<(), StartFault>, child: ChildInFlight) -> Result<Ende
 }
 
 impl<C: Child> Memory<C> {
-    /// Returns the reply of the child to a command, over what it sees now.
+    /// Returns the reply of the child to a command, given what the child sees now.
     fn reply(&self, alloc: Global, command: &Command) -> Result<Reply, AllocError>
         ensures { IfOk result
             (λ reply. reply ≡ C.answers command.now (seen_by command.now self.now.world)) }
@@ -286,7 +286,7 @@ impl<C: Child> Memory<C> {
         }
     }
 
-    /// Ends a child, with its result or a fault, as the fuse and its fate decide.
+    /// Ends a child, with its result or a fault, as the fuse and the child's fate decide.
     pub(super) fn end(&mut self, alloc: Global, ticket: u64) -> Result<Ended, StartFault>
         requires flies { is_flying ticket (children_in self.old.flying) ≡ true }
         ensures answers { EndFails ticket result self.old }
