@@ -16,7 +16,8 @@ use pb_manifest_types::{Dependency, Key, ManifestFault, Requirement, Source, Wri
 use std::alloc::Global;
 use toml::{Table, Value};
 
-/// Returns the path of an entry: none if `workspace = true` is written, and required otherwise.
+/// Returns the path of an entry. If `workspace = true` is written, the path is `None`. Otherwise a
+/// path is required.
 fn own_path(taken: bool, path: Option<WrittenPath>) -> Result<Option<WrittenPath>, ManifestFault>
     ensures { result ≡ own_path taken path }
 {
@@ -78,8 +79,8 @@ fn dependency_keys(alloc: Global, name: &str, table: &Table) -> Result<Dependenc
     })
 }
 
-/// Returns an entry of the table at a key. An entry that is a version is refused, since it has no
-/// path.
+/// Returns the entry at a key of a table. An entry that is only a version is refused, since such an
+/// entry has no path.
 #[tactic(auto, unfolding(crate::specs::Dependencies::dependency_of))]
 fn dependency_of(
     alloc: Global,
@@ -116,8 +117,8 @@ fn each_dependency(
     Ok(dependencies)
 }
 
-/// Returns the entries of `[dependencies]` or `[build-dependencies]`, none if there is no such
-/// table.
+/// Returns the entries of `[dependencies]` or `[build-dependencies]`. There are no entries if there
+/// is no such table.
 pub(crate) fn dependencies_at(
     alloc: Global,
     key: Key,

@@ -29,7 +29,7 @@ struct Targets {
     binaries: Items<Binary>,
 }
 
-/// The tables after those of the targets.
+/// The tables that come after the tables of the targets.
 #[derive(Drop)]
 struct Tables {
     dependencies: Items<Dependency>,
@@ -101,7 +101,7 @@ fn package_at(alloc: Global, table: &Table) -> Result<Option<Package>, ManifestF
     }
 }
 
-/// Returns the table `[lib]`, if there is one.
+/// Returns the table `[lib]`, if it is written.
 fn library_at(alloc: Global, table: &Table) -> Result<Option<Library>, ManifestFault>
     ensures { UnlessOom result (library_at (table_view table.now)) }
 {
@@ -114,7 +114,7 @@ fn library_at(alloc: Global, table: &Table) -> Result<Option<Library>, ManifestF
     }
 }
 
-/// Returns the table `[workspace]`, if there is one.
+/// Returns the table `[workspace]`, if it is written.
 fn workspace_at(alloc: Global, table: &Table) -> Result<Option<WorkspaceTable>, ManifestFault>
     ensures { UnlessOom result (workspace_at (table_view table.now)) }
 {
@@ -142,7 +142,7 @@ fn targets_of(alloc: Global, table: &Table) -> Result<Targets, ManifestFault>
     })
 }
 
-/// Returns the tables after those of the targets.
+/// Returns the tables that come after the tables of the targets.
 #[tactic(auto, unfolding(crate::specs::Document::tables_of))]
 fn tables_of(alloc: Global, table: &Table) -> Result<Tables, ManifestFault>
     ensures { UnlessOom result (tables_of (table_view table.now)) }
@@ -208,8 +208,8 @@ fn document_in(alloc: Global, bytes: &[u8]) -> Result<Table, ManifestFault>
 
 /// Returns the manifest in some bytes, as The Cargo Book defines it.
 ///
-/// Errors: those of `ManifestFault`, which describes when each one occurs, and which of several is
-/// returned.
+/// Errors: the errors of `ManifestFault`. This type describes when each error occurs, and which of
+/// several errors is returned.
 ///
 /// A key that no rule names is accepted and has no effect. Tables that a build does not use, such
 /// as `[lints]` and `[package.metadata]`, have no effect either. Only the keys of

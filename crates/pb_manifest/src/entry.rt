@@ -21,8 +21,8 @@ pub(crate) struct FirstKeys {
     pub package: Option<Text>,
 }
 
-/// The keys of an entry from `path` to `workspace`. `path` is none if there is no path, or if it
-/// has no effect.
+/// The keys of an entry from `path` to `workspace`. The field `path` is `None` if no path is
+/// written, or if the path has no effect.
 #[derive(Drop)]
 pub(crate) struct LastKeys {
     pub path: Option<WrittenPath>,

@@ -14,7 +14,7 @@ use pb_manifest_types::{Feature, FeatureItem, Key, ManifestFault};
 use std::alloc::Global;
 use toml::{Table, Value};
 
-/// Returns the texts before and after the first `/`, if there is one.
+/// Returns the texts before and after the first `/`, if there is a `/`.
 #[tactic(auto, unfolding(pb_manifest_types::specs::Features::parted))]
 fn parted_at_slash(text: &str) -> Option<(&str, &str)>
     ensures { option_map (λ x. (x.0.now, x.1.now)) result ≡ parted 47 text.now }
@@ -22,7 +22,7 @@ fn parted_at_slash(text: &str) -> Option<(&str, &str)>
     text.split_once('/')
 }
 
-/// Returns the texts before and after the first `?`, if there is one.
+/// Returns the texts before and after the first `?`, if there is a `?`.
 #[tactic(auto, unfolding(pb_manifest_types::specs::Features::parted))]
 fn parted_at_question_mark(text: &str) -> Option<(&str, &str)>
     ensures { option_map (λ x. (x.0.now, x.1.now)) result ≡ parted 63 text.now }
@@ -30,7 +30,7 @@ fn parted_at_question_mark(text: &str) -> Option<(&str, &str)>
     text.split_once('?')
 }
 
-/// Returns the texts before and after the first `:`, if there is one.
+/// Returns the texts before and after the first `:`, if there is a `:`.
 #[tactic(auto, unfolding(pb_manifest_types::specs::Features::parted))]
 fn parted_at_colon(text: &str) -> Option<(&str, &str)>
     ensures { option_map (λ x. (x.0.now, x.1.now)) result ≡ parted 58 text.now }
@@ -49,7 +49,7 @@ fn own_item(alloc: Global, text: &str) -> Result<FeatureItem, ManifestFault>
     Ok(FeatureItem::Own(feature))
 }
 
-/// Returns the item `dep:N` of the text before the colon and the name after it.
+/// Returns the item `dep:N` for the text before the colon and the name after the colon.
 fn dependency_item(alloc: Global, word: &str, name: &str) -> Result<FeatureItem, ManifestFault>
     ensures { UnlessOom result (dependency_item word.now name.now) }
 {
@@ -170,7 +170,7 @@ fn each_feature(alloc: Global, table: &Table) -> Result<Items<Feature>, Manifest
     Ok(features)
 }
 
-/// Returns the table `[features]`, empty if there is none.
+/// Returns the features of the table `[features]`. There are no features if there is no such table.
 pub(crate) fn features_at(alloc: Global, table: &Table) -> Result<Items<Feature>, ManifestFault>
     ensures { UnlessOom result (features_at (table_view table.now)) }
 {

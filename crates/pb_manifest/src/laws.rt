@@ -31,8 +31,8 @@ pub fn unnamed_keys_change_nothing()
     ensures document { PassesOver document_of }
 {}
 
-/// Reading a table looks only at the table's own keys. So two tables with the same values at these
-/// keys are read with the same result.
+/// Reading a table looks only at the keys that the rules of this table name. So two tables with the
+/// same values at these keys are read with the same result.
 pub fn tables_look_at_their_own_keys()
     ensures package { DependsOnlyOn of_package package_of }
     ensures library { DependsOnlyOn of_library library_of }
@@ -63,16 +63,17 @@ pub fn documents_are_in_order()
 /// Each manifest that was read keeps the promises of `specs/Promises.antt`.
 ///
 /// - Names have valid letters, and paths contain no byte 0.
-/// - Each key of a profile has a value that it may have. So `codegen-units` is from 1 to 65,536.
-/// - A custom profile has `inherits`, and none is called `debug`.
+/// - Each key of a profile has a value that is allowed for the key. So `codegen-units` is from 1 to
+/// 65,536.
+/// - A custom profile has `inherits`, and no custom profile is called `debug`.
 /// - The entries of each table are in byte order of their keys, without repeats.
 pub fn manifests_keep_promises()
     ensures { KeepsPromises }
 {}
 
-/// A text is read as an item of a feature if and only if it is the item's own spelling: `F`,
-/// `dep:N`, `N/F` or `N?/F`. N has the letters of package names, and F those of feature names (The
-/// Cargo Book, Features).
+/// A text is read as an item of a feature if and only if the text is the item's own spelling: `F`,
+/// `dep:N`, `N/F` or `N?/F`. N has the letters of package names, and F has the letters of feature
+/// names (The Cargo Book, Features).
 pub fn items_have_their_spelling()
     ensures only { SpellsItems }
     ensures each { ReadsSpellings }
@@ -94,18 +95,18 @@ pub fn default_version()
     ensures { DefaultVersion }
 {}
 
-/// The binaries of `[[bin]]` are those of the list, one for one and in order.
+/// Each item of the list `[[bin]]` becomes one binary, in the order of the list.
 pub fn binaries_keep_their_order()
     ensures { KeepsOrder }
 {}
 
-/// If a table with fixed keys has several faults, that of the lowest key in byte order is reported.
-/// Tables with fixed keys are `[package]`, `[lib]`, a `[[bin]]`, an entry of dependencies, one of
-/// `[workspace.dependencies]`, `[workspace.package]` and `[workspace]`. In `[profile]` all faults
-/// are the same.
+/// If a table with fixed keys has several faults, the fault of the lowest key in byte order is
+/// reported. Tables with fixed keys are `[package]`, `[lib]`, a `[[bin]]`, an entry of
+/// dependencies, an entry of `[workspace.dependencies]`, `[workspace.package]` and `[workspace]`.
+/// In `[profile]` all faults are the same.
 ///
-/// If a table whose keys the user chooses has several bad entries, that of the lowest key is
-/// reported. The keys of each table of a document are in byte order.
+/// If a table whose keys the user chooses has several bad entries, the fault of the entry with the
+/// lowest key is reported. The keys of each table of a document are in byte order.
 pub fn lowest_faults_are_told()
     ensures package_table { TellsLowest faults_of_package package_of }
     ensures library { TellsLowest faults_of_library library_of }

@@ -72,7 +72,7 @@ pub(crate) fn name_at(alloc: Global, table: &Table) -> Result<Text, ManifestFaul
     name_in(text_at(alloc, table, Key::Name)?)
 }
 
-/// Returns the edition of a text.
+/// Returns the edition that a text spells.
 fn edition_in(text: &Text) -> Result<Edition, ManifestFault>
     ensures { result ≡ edition_in text.now }
 {
@@ -93,7 +93,7 @@ fn edition_of(alloc: Global, value: &Value) -> Result<Edition, ManifestFault>
     edition_in(&text)
 }
 
-/// Returns the edition at `edition`, if there is one.
+/// Returns the edition at `edition`, if the key is present.
 pub(crate) fn edition_at(alloc: Global, table: &Table) -> Result<Option<Edition>, ManifestFault>
     ensures { UnlessOom result (edition_at (table_view table.now)) }
 {
@@ -117,7 +117,7 @@ fn edition_or_taken(alloc: Global, value: &Value) -> Result<Inheritable<Edition>
     Ok(Inheritable::Written(edition))
 }
 
-/// Returns the edition of a package: 2015 if none is written.
+/// Returns the edition of a package. If no edition is written, the edition is 2015.
 fn inherited_edition_at(alloc: Global, table: &Table) -> Result<Inherited<Edition>, ManifestFault>
     ensures { UnlessOom result (inherited_edition_at (table_view table.now)) }
 {
@@ -166,7 +166,7 @@ fn readme_of(alloc: Global, value: &Value) -> Result<Readme, ManifestFault>
     }
 }
 
-/// Returns the value at `readme`, if there is one.
+/// Returns the value at `readme`, if the key is present.
 pub(crate) fn readme_at(alloc: Global, table: &Table) -> Result<Option<Readme>, ManifestFault>
     ensures { UnlessOom result (readme_at (table_view table.now)) }
 {

@@ -16,7 +16,7 @@ use pb_manifest_types::{Key, ManifestFault, Profile, ProfileKeys, ProfileOverrid
 use std::alloc::Global;
 use toml::{Table, Value};
 
-/// Returns the value at `inherits`, if there is one.
+/// Returns the value at `inherits`, if the key is present.
 fn inherits_at(alloc: Global, table: &Table) -> Result<Option<Text>, ManifestFault>
     ensures { UnlessOom result (profile_value as_str key.Inherits (table_view table.now)) }
 {
@@ -43,7 +43,7 @@ fn profile_table<'a>(value: &'a Value) -> Result<&'a Table, ManifestFault>
     }
 }
 
-/// Returns an override by a package's name.
+/// Returns the override for a package's name.
 #[tactic(auto, unfolding(crate::specs::Profiles::override_of))]
 fn override_of(alloc: Global, name: &str, value: &Value) -> Result<ProfileOverride, ManifestFault>
     ensures { UnlessOom result (override_of name.now (view value.now)) }
@@ -64,7 +64,7 @@ fn each_override(alloc: Global, table: &Table) -> Result<Items<ProfileOverride>,
     Ok(overrides)
 }
 
-/// Returns the overrides by packages' names, none if there is no table of them.
+/// Returns the overrides by packages' names. There are no overrides if there is no such table.
 fn overrides_at(alloc: Global, table: &Table) -> Result<Items<ProfileOverride>, ManifestFault>
     ensures { UnlessOom result (overrides_at (table_view table.now)) }
 {
@@ -74,7 +74,7 @@ fn overrides_at(alloc: Global, table: &Table) -> Result<Items<ProfileOverride>, 
     }
 }
 
-/// Returns the override for build scripts and what they depend on, if there is one.
+/// Returns the override for build scripts and what they depend on, if the override is written.
 fn build_override_at(table: &Table) -> Result<Option<ProfileKeys>, ManifestFault>
     ensures { result ≡ build_override_at (table_view table.now) }
 {
@@ -143,7 +143,7 @@ fn each_profile(alloc: Global, table: &Table) -> Result<Items<Profile>, Manifest
     Ok(profiles)
 }
 
-/// Returns the table `[profile]`, empty if there is none.
+/// Returns the profiles of the table `[profile]`. There are no profiles if there is no such table.
 pub(crate) fn profiles_at(alloc: Global, table: &Table) -> Result<Items<Profile>, ManifestFault>
     ensures { UnlessOom result (profiles_at (table_view table.now)) }
 {

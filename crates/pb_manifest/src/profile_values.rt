@@ -10,7 +10,7 @@ use pb_manifest_types::{Key, ManifestFault, ProfileKey, ProfileKeys, Setting, Wo
 use pb_profile_keys::{COUNT, meaning};
 use toml::{Table, Value};
 
-/// Returns a written number, if it is one of a setting.
+/// Returns a written number as the number of a setting, if the number is in the range of settings.
 fn number_in(number: i64) -> Option<Setting>
     ensures { result ≡ number_in number }
 {
@@ -41,7 +41,7 @@ fn setting_of(value: &Value) -> Option<Setting>
     }
 }
 
-/// Returns what a written value means at a key, if the key may have it.
+/// Returns what a written value means at a key, if the key may have this value.
 #[tactic(auto, unfolding(crate::specs::Profiles::setting_in))]
 fn setting_in(key: ProfileKey, value: &Value) -> Option<Setting>
     ensures { result ≡ setting_in key (view value.now) }
@@ -52,7 +52,7 @@ fn setting_in(key: ProfileKey, value: &Value) -> Option<Setting>
     }
 }
 
-/// Returns the value at a key, if there is one.
+/// Returns the value at a key, if the key is present.
 fn setting_at(table: &Table, key: ProfileKey) -> Result<Option<Setting>, ManifestFault>
     ensures { result ≡ profile_value (setting_in key) (names.OfProfile key) (table_view table.now) }
 {

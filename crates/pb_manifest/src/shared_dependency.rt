@@ -16,7 +16,7 @@ use pb_manifest_types::{
 use std::alloc::Global;
 use toml::{Table, Value};
 
-/// Returns the path of an entry: none next to `git` or `registry`.
+/// Returns the path of an entry. Next to `git` or `registry`, the entry has no path.
 fn supported_path(table: &Table, path: Option<WrittenPath>) -> Option<WrittenPath>
     ensures { result ≡ supported_path (table_view table.now) path }
 {
@@ -131,7 +131,8 @@ fn each_shared_dependency(
     Ok(dependencies)
 }
 
-/// Returns the entries of `[workspace.dependencies]`, none if there is no such table.
+/// Returns the entries of `[workspace.dependencies]`. There are no entries if there is no such
+/// table.
 pub(crate) fn shared_dependencies_at(
     alloc: Global,
     table: &Table,

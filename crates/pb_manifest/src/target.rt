@@ -17,7 +17,7 @@ use pb_manifest_types::{Binary, CrateType, Key, Library, ManifestFault};
 use std::alloc::Global;
 use toml::{Table, Value};
 
-/// Returns the crate type of a text.
+/// Returns the crate type that a text spells.
 fn crate_type_in(text: &Text) -> Result<CrateType, ManifestFault>
     ensures { result ≡ crate_type_in text.now }
 {
@@ -48,7 +48,7 @@ fn each_crate_type(alloc: Global, values: &[Value]) -> Result<Items<CrateType>, 
     Ok(crate_types)
 }
 
-/// Returns the crate types at `crate-type`, none if the key is missing.
+/// Returns the crate types at `crate-type`. There are no crate types if the key is missing.
 fn crate_types_at(alloc: Global, table: &Table) -> Result<Items<CrateType>, ManifestFault>
     ensures { UnlessOom result (crate_types_at (table_view table.now)) }
 {
@@ -58,7 +58,7 @@ fn crate_types_at(alloc: Global, table: &Table) -> Result<Items<CrateType>, Mani
     }
 }
 
-/// Returns the name of the crate, if one is written.
+/// Returns the name of the crate, if a name is written.
 fn crate_name_at(alloc: Global, table: &Table) -> Result<Option<Text>, ManifestFault>
     ensures { UnlessOom result (crate_name_at (table_view table.now)) }
 {
@@ -120,7 +120,7 @@ fn binary_of(alloc: Global, value: &Value) -> Result<Binary, ManifestFault>
     binary_keys(alloc, table_of(value, Key::Bin)?)
 }
 
-/// Returns the binaries of a list, in its order.
+/// Returns the binaries of a list, in the order of the list.
 fn each_binary(alloc: Global, values: &[Value]) -> Result<Items<Binary>, ManifestFault>
     ensures { UnlessOom result (each binary_of (items_view values.now)) }
 {

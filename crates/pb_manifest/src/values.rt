@@ -138,7 +138,7 @@ pub(crate) fn paths_of(
     each_path(alloc, array_of(value, key)?, key)
 }
 
-/// Returns the text at a key, if there is one.
+/// Returns the text at a key, if the key is present.
 pub(crate) fn text_at(alloc: Global, table: &Table, key: Key) -> Result<Option<Text>, ManifestFault>
     ensures { UnlessOom result (text_at key (table_view table.now)) }
 {
@@ -151,7 +151,7 @@ pub(crate) fn text_at(alloc: Global, table: &Table, key: Key) -> Result<Option<T
     }
 }
 
-/// Returns the truth value at a key, if there is one.
+/// Returns the truth value at a key, if the key is present.
 pub(crate) fn truth_at(table: &Table, key: Key) -> Result<Option<bool>, ManifestFault>
     ensures { result ≡ truth_at key (table_view table.now) }
 {
@@ -164,7 +164,7 @@ pub(crate) fn truth_at(table: &Table, key: Key) -> Result<Option<bool>, Manifest
     }
 }
 
-/// Returns the path at a key, if there is one.
+/// Returns the path at a key, if the key is present.
 pub(crate) fn path_at(
     alloc: Global,
     table: &Table,
@@ -181,7 +181,7 @@ pub(crate) fn path_at(
     }
 }
 
-/// Returns the list of texts at a key, if there is one.
+/// Returns the list of texts at a key, if the key is present.
 pub(crate) fn texts_at(
     alloc: Global,
     table: &Table,
@@ -198,7 +198,7 @@ pub(crate) fn texts_at(
     }
 }
 
-/// Returns the list of texts at a key, empty if the key is missing.
+/// Returns the list of texts at a key. The list is empty if the key is missing.
 pub(crate) fn listed_texts_at(
     alloc: Global,
     table: &Table,
@@ -212,7 +212,7 @@ pub(crate) fn listed_texts_at(
     }
 }
 
-/// Returns the list of paths at a key, if there is one.
+/// Returns the list of paths at a key, if the key is present.
 pub(crate) fn paths_at(
     alloc: Global,
     table: &Table,
@@ -229,7 +229,7 @@ pub(crate) fn paths_at(
     }
 }
 
-/// Returns the table at a key, if there is one.
+/// Returns the table at a key, if the key is present.
 pub(crate) fn table_at<'a>(table: &'a Table, key: Key) -> Result<Option<&'a Table>, ManifestFault>
     ensures ok { IfOk result (λ t. table_at key (table_view table.now)
         ≡ Ok (option_map (λ m. table_view m.now) t)) }
@@ -257,8 +257,8 @@ pub(crate) fn takes_workspace(table: &Table) -> bool
     }
 }
 
-/// Returns whether a value is inherited from the workspace: a table must contain `workspace =
-/// true`.
+/// Returns whether a value is inherited from the workspace. If the value is a table, the table must
+/// contain `workspace = true`.
 pub(crate) fn is_taken(value: &Value, key: Key) -> Result<bool, ManifestFault>
     ensures { result ≡ is_taken key (as_table (view value.now)) }
 {
@@ -339,7 +339,7 @@ fn keys_of(alloc: Global, table: &Table) -> Result<Items<Text>, AllocError>
     Ok(keys)
 }
 
-/// Returns the keys of the table at a key, none if there is no table.
+/// Returns the keys of the table at a key. There are no keys if there is no table.
 pub(crate) fn keys_at(alloc: Global, table: &Table, key: Key) -> Result<Items<Text>, AllocError>
     ensures { IfOk result (λ keys. keys ≡ keys_at key (table_view table.now)) }
 {

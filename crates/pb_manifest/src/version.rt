@@ -22,7 +22,7 @@ fn version_of(alloc: Global, value: &Value) -> Result<Version, ManifestFault>
     Ok(version)
 }
 
-/// Returns the version at `version`, if there is one.
+/// Returns the version at `version`, if the key is present.
 pub(crate) fn version_at(alloc: Global, table: &Table) -> Result<Option<Version>, ManifestFault>
     ensures { UnlessOom result (version_at (table_view table.now)) }
 {
@@ -44,7 +44,7 @@ pub(crate) fn requirement_of(alloc: Global, value: &Value) -> Result<Requirement
     Ok(requirement)
 }
 
-/// Returns the requirement at `version`, if there is one.
+/// Returns the requirement at `version`, if the key is present.
 pub(crate) fn requirement_at(
     alloc: Global,
     table: &Table,
@@ -84,7 +84,7 @@ fn inheritable_version_at(
     }
 }
 
-/// Returns the version of a package without a written one: 0.0.0.
+/// Returns the version of a package for which no version is written: 0.0.0.
 #[tactic(auto, using(crate::proofs::Zero::zero_is_version))]
 fn zero(alloc: Global) -> Result<Version, ManifestFault>
     ensures { UnlessOom result (Ok zero) }
@@ -94,7 +94,7 @@ fn zero(alloc: Global) -> Result<Version, ManifestFault>
     Ok(version)
 }
 
-/// Returns the version of a package: 0.0.0 if none is written.
+/// Returns the version of a package. If no version is written, the version is 0.0.0.
 pub(crate) fn inherited_version_at(
     alloc: Global,
     table: &Table,

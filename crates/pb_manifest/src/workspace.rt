@@ -92,7 +92,7 @@ fn workspace_package_of(alloc: Global, table: &Table) -> Result<WorkspacePackage
     })
 }
 
-/// Returns the table `[workspace.package]`, if there is one.
+/// Returns the table `[workspace.package]`, if it is written.
 fn workspace_package_at(
     alloc: Global,
     table: &Table,
@@ -108,7 +108,7 @@ fn workspace_package_at(
     }
 }
 
-/// Returns the list of paths at a key, empty if the key is missing.
+/// Returns the list of paths at a key. The list is empty if the key is missing.
 fn listed_paths_at(
     alloc: Global,
     table: &Table,

@@ -7,10 +7,10 @@ ghost use Rattle.pb_store_soundness.specs.Laws.{StaysSound, OutsideLaw, InOutput
 ghost use Rattle.pb_store_soundness.specs.Numbers.{NumberWaitsLaw, StaysAheadLaw, GivenAheadLaw, NextIsNewLaw};
 ghost use Rattle.pb_store_soundness.specs.Reuse.{GroundsLaw, ReuseLaw, RenewLaw, SparesLaw, PutGroundsLaw};
 
-/// A profile folder stays sound if each record is gone, is unchanged, or is a true one with a
-/// number of its own. A change outside the folder keeps it sound, and so does a change in the
-/// output folder of a unit for which no record counts. A record may be removed or may no longer
-/// count, and a true record may be written.
+/// A profile folder stays sound if each record is gone, is unchanged, or is a true record with a
+/// number that no other record has. A change outside the folder keeps the folder sound. A change in
+/// the output folder of a unit for which no record counts keeps the folder sound, too. A record may
+/// be removed or may no longer count, and a true record may be written.
 pub fn soundness_stays()
     ensures stays { StaysSound }
     ensures outside { OutsideLaw }
@@ -19,10 +19,10 @@ pub fn soundness_stays()
     ensures put { PutLaw }
 {}
 
-/// If nothing differs, and all that the command reads is grounded, the unit is grounded. Then the
-/// unit's record and its folder are what its child would answer. A record of an honest child's
-/// reply may replace whatever was there. Grounded units stay grounded if a unit that they do not
-/// reach is built again.
+/// If nothing differs, and every unit that the command reads is grounded, the unit is grounded.
+/// Then the unit's record and folder are what the unit's child would answer. A record of an honest
+/// child's reply may replace whatever was there. Grounded units stay grounded if a unit that they
+/// do not reach is built again.
 pub fn records_are_reused()
     ensures grounds { GroundsLaw }
     ensures reuse { ReuseLaw }
@@ -38,15 +38,16 @@ pub fn others_stay_apart()
     ensures waits { NumberWaitsLaw }
 {}
 
-/// The next run number is above all numbers that records have or name, and stays so.
+/// The next run number is above all numbers that records have or name, and later changes keep it
+/// so.
 pub fn numbers_stay_ahead()
     ensures stays { StaysAheadLaw }
     ensures given { GivenAheadLaw }
     ensures new { NextIsNewLaw }
 {}
 
-/// `reading`, with which records are read from their files, returns the record of each text, or
-/// none. By `texts_have_one_reading` of `pb_record` it is the only function that does.
+/// `reading` reads records from their files: it returns the record of each text, or `None`. By
+/// `texts_have_one_reading` of `pb_record`, no other function does this.
 pub fn records_have_a_reading()
     ensures { FindsAsReading reading }
 {}
