@@ -9,14 +9,14 @@ use thiserror::Error;
 /// Why a profile has no settings.
 #[derive(Clone, Copy, Debug, PartialEq, Eq, Error)]
 pub enum ProfileFault {
-    /// The requested profile, or one that it inherits from, is neither built in nor written.
+    /// The requested profile, or a profile from which it inherits, is neither built in nor written.
     #[error("a requested profile does not exist")]
     NoSuchProfile,
     /// The requested profile leads to profiles that inherit from one another.
     #[error("profiles inherit from one another")]
     InheritsCycle,
-    /// An override of the requested profile, or of one that it inherits from, sets `panic`, `lto`
-    /// or `rpath`.
+    /// An override of the requested profile, or of a profile from which it inherits, sets `panic`,
+    /// `lto` or `rpath`.
     #[error("an override in a profile sets `panic`, `lto` or `rpath`")]
     NotInOverride,
     /// Out of memory.

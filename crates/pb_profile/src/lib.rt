@@ -1,5 +1,5 @@
-//! The settings of a package under a profile: the value of each key is that of the first location
-//! that has it (The Cargo Book, Profiles).
+//! The settings of a package under a profile. The first location that has a value for a key
+//! determines the value of this key (The Cargo Book, Profiles).
 #![tactic(auto)]
 
 pub mod fault;

@@ -1,4 +1,4 @@
-//! The line of a profile: the profile, the one that it inherits from, and so on.
+//! The line of a profile: the profile, the profile from which it inherits, and so on.
 
 ghost use Rattle.std.specs.Prelude.{◌≡◌, map, option_map};
 ghost use Rattle.std.specs.List.{list_all};
@@ -13,15 +13,15 @@ use std::alloc::Global;
 /// A profile in a line.
 #[derive(Drop)]
 pub struct Ancestor<'a> {
-    /// Its name.
+    /// The profile's name.
     pub name: &'a str,
-    /// Its table in the root manifest. None for a built-in profile that is not written.
+    /// The profile's table in the root manifest. `None` for a built-in profile that is not written.
     pub table: Option<&'a Profile>,
 }
 
 /// Returns the folder of a profile's output inside the target folder (The Cargo Book, Profiles).
 /// The folder is `debug` for `dev` and `test`, and `release` for `release` and `bench`. For any
-/// other profile it has the profile's name. No memory is used.
+/// other profile the folder has the profile's name. No memory is used.
 pub fn folder_of(profile: &str) -> &str
     ensures { result.now ≡ folder_of profile.now }
 {
@@ -32,7 +32,7 @@ pub fn folder_of(profile: &str) -> &str
     }
 }
 
-/// Returns the table with this name, if there is one.
+/// Returns the table with this name, if there is such a table.
 fn find_profile<'a>(profiles: &'a [Profile], name: &str) -> Option<&'a Profile>
     ensures { option_map (λ p. p.now) result ≡ named profiles.now name.now }
 {
@@ -51,7 +51,8 @@ fn ancestor_at<'a>(profiles: &'a [Profile], name: &'a str) -> Ancestor<'a>
     }
 }
 
-/// Returns the name of the profile from which a profile inherits, or none for `dev` and `release`.
+/// Returns the name of the profile from which a profile inherits, or `None` for `dev` and
+/// `release`.
 ///
 /// Errors: `NoSuchProfile`, if the profile is neither built in nor written.
 fn parent_of<'a>(ancestor: &Ancestor<'a>) -> Result<Option<&'a str>, ProfileFault>
@@ -71,7 +72,7 @@ fn parent_of<'a>(ancestor: &Ancestor<'a>) -> Result<Option<&'a str>, ProfileFaul
     }
 }
 
-/// Returns the profile from which a profile inherits, if there is one.
+/// Returns the profile from which a profile inherits, if the profile inherits.
 fn above<'a>(
     profiles: &'a [Profile],
     ancestor: &Ancestor<'a>,
@@ -84,12 +85,12 @@ fn above<'a>(
     }
 }
 
-/// Returns the line of a profile: itself, the profile that it inherits from, and so on to `dev` or
-/// `release`.
+/// Returns the line of a profile: the profile itself, the profile from which it inherits, and so on
+/// to `dev` or `release`.
 ///
-/// Errors: `NoSuchProfile`, if one of them is neither built in nor written; `InheritsCycle`, if the
-/// line has no end; `NotInOverride`, if an override of one of them sets `panic`, `lto` or `rpath`;
-/// `OutOfMemory`.
+/// Errors: `NoSuchProfile`, if a profile of the line is neither built in nor written;
+/// `InheritsCycle`, if the line has no end; `NotInOverride`, if an override of a profile of the
+/// line sets `panic`, `lto` or `rpath`; `OutOfMemory`.
 #[tactic(auto, using(crate::proofs::Located::each_seen))]
 pub fn line_of<'a>(
     alloc: Global,
@@ -107,7 +108,7 @@ pub fn line_of<'a>(
     }
 }
 
-/// Returns whether no override of these profiles sets a key that it may not set.
+/// Returns whether no override of these profiles sets a key that an override may not set.
 fn all_allow(line: &[Ancestor]) -> bool
     ensures { result ≡ list_all (λ ancestor. allows (seen ancestor)) line.now }
 {
@@ -150,7 +151,7 @@ fn may_override(keys: &ProfileKeys) -> bool
         .all(|key| key.row().in_override || keys.get(*key).is_none())
 }
 
-/// Returns whether no override of a profile sets a key that it may not set.
+/// Returns whether no override of a profile sets a key that an override may not set.
 fn allows(ancestor: &Ancestor) -> bool
     ensures { result ≡ allows (seen ancestor.now) }
 {
@@ -160,7 +161,7 @@ fn allows(ancestor: &Ancestor) -> bool
     }
 }
 
-/// Returns whether an override may set all of these keys, if there are any.
+/// Returns whether an override may set all of these keys. Returns true if there are no keys.
 fn some_may_override(keys: Option<ProfileKeys>) -> bool
     ensures { result ≡ option_all may_override keys }
 {
@@ -170,14 +171,14 @@ fn some_may_override(keys: Option<ProfileKeys>) -> bool
     }
 }
 
-/// Returns whether none of these overrides sets a key that it may not set.
+/// Returns whether no override among these sets a key that an override may not set.
 fn all_may_override(overrides: &[ProfileOverride]) -> bool
     ensures { result ≡ list_all (λ (o : ProfileOverride). may_override o.keys) overrides.now }
 {
     overrides.iter().all(|one| may_override(&one.keys))
 }
 
-/// Returns whether no override of a table sets a key that it may not set.
+/// Returns whether no override of a table sets a key that an override may not set.
 fn table_allows(table: &Profile) -> bool
     ensures { result ≡ table_allows table.now }
 {

@@ -1,4 +1,5 @@
-//! The value of a key at several locations in order: the first location that has it determines it.
+//! The value of a key at several locations in order. The first location that has a value determines
+//! the value of the key.
 
 ghost use Rattle.std.specs.Prelude.{◌≡◌, map, option_map};
 ghost use Rattle.pb_profile.specs.Line.{seen};
@@ -24,7 +25,7 @@ pub(crate) enum Source<'a> {
     BuiltIn,
 }
 
-/// Returns the value of a key among these, if there are any.
+/// Returns the value of a key among these keys, if there are keys and the key has a value.
 fn said_by(keys: Option<ProfileKeys>, key: ProfileKey) -> Option<Setting>
     ensures { result ≡ said_by keys key }
 {
@@ -60,7 +61,8 @@ fn built_in(ancestor: &Ancestor, key: ProfileKey) -> Option<Setting>
     }
 }
 
-/// Returns the value of a key in a profile's table at a location; none for built-in values.
+/// Returns the value of a key in a profile's table at a location, or `None` at a location of
+/// built-in values.
 fn written_in(source: Source, table: &Profile, key: ProfileKey) -> Option<Setting>
     ensures { result ≡ written_in source.entry table.now key }
 {

@@ -18,7 +18,7 @@ use std::alloc::Global;
 use std::marker::Model;
 
 /// The settings of a package in a role: one value for each key of a profile (The Cargo Book,
-/// Profiles). Contracts see it as the list of values along the keys.
+/// Profiles). Contracts see the list of the values, in the order of the keys.
 #[derive(Clone, Copy)]
 pub struct Settings {
     values: [Setting; COUNT],
@@ -37,22 +37,23 @@ impl Settings {
     /// that is made for the host, has the role of the host; everything else has the role of the
     /// target.
     ///
-    /// A value is that of the first location that has it. Each location is looked up along what the
-    /// profile inherits from:
+    /// The first location that has a value for a key determines this value. Each location is looked
+    /// up in the profile, then in the profile from which it inherits, and so on. The locations are,
+    /// in order:
     ///
     /// - the override with the package's name;
-    /// - the override `*`, if the package is no member;
-    /// - in the host's role, `build-override`, and then its built-in values;
+    /// - the override `*`, if the package is not a member;
+    /// - in the host's role, `build-override`, and then the built-in values for `build-override`;
     /// - the profile itself;
     /// - the built-in values.
     ///
     /// The order of the locations in the host's role is our own choice. `panic` in the host's role
     /// is `unwind`.
     ///
-    /// Errors: `NoSuchProfile`, if the profile, or one that it inherits from, does not exist;
-    /// `InheritsCycle`, if its line comes back to itself; `NotInOverride`, if an override of the
-    /// profile or of one that it inherits from, for any package, sets `panic`, `lto` or `rpath`;
-    /// `OutOfMemory`.
+    /// Errors: `NoSuchProfile`, if the profile, or a profile from which it inherits, does not
+    /// exist; `InheritsCycle`, if the profile's line comes back to itself; `NotInOverride`, if an
+    /// override of the profile or of a profile from which it inherits, for any package, sets
+    /// `panic`, `lto` or `rpath`; `OutOfMemory`.
     pub fn settings(
         alloc: Global,
         workspace: &Workspace,
@@ -67,7 +68,7 @@ impl Settings {
         Ok(settings_along(owner, role, line.as_slice()))
     }
 
-    /// Returns settings from their values along the keys.
+    /// Returns settings from their values, in the order of the keys.
     pub fn along_keys(values: [Setting; COUNT]) -> Settings
         ensures { result ≡ values }
     {
@@ -112,7 +113,7 @@ impl Settings {
     }
 }
 
-/// Returns what a value is in a role.
+/// Returns the value that a role uses for a key instead of a value, or the value itself.
 fn fix_by_role(role: Side, key: ProfileKey, value: Setting) -> Setting
     ensures { result ≡ fixed role key value }
 {

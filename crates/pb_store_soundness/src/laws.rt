@@ -19,7 +19,7 @@ pub fn soundness_stays()
     ensures put { PutLaw }
 {}
 
-/// If nothing differs, and every unit that the command reads is grounded, the unit is grounded.
+/// If nothing differs, and everything that the command reads is grounded, the unit is grounded.
 /// Then the unit's record and folder are what the unit's child would answer. A record of an honest
 /// child's reply may replace whatever was there. Grounded units stay grounded if a unit that they
 /// do not reach is built again.

@@ -1,6 +1,6 @@
-//! The entries of a package in order: first those of `[dependencies]` and then those of
-//! `[build-dependencies]`, each in byte order of their keys, without repeats in a table. An entry
-//! is found by binary search.
+//! The entries of a package in order: first the entries of `[dependencies]`, then the entries of
+//! `[build-dependencies]`. The entries of each table are in byte order of their keys, without
+//! repeats. An entry is found by binary search.
 
 ghost use Rattle.std.specs.Prelude.{◌≡◌, [], map};
 ghost use Rattle.std.specs.List.{position};
@@ -51,7 +51,7 @@ impl Model for EntriesByKey {
 }
 
 impl EntriesByKey {
-    /// Returns no entries. It takes no memory.
+    /// Returns a list without entries. This takes no memory.
     pub fn new(alloc: Global) -> EntriesByKey
         ensures { result ≡ [] }
     {
@@ -62,7 +62,7 @@ impl EntriesByKey {
 
     /// Returns these entries.
     ///
-    /// Requires: they are in order.
+    /// Requires: the entries are in order.
     pub fn from_items(entries: Items<Entry>) -> EntriesByKey
         requires { IsStrictlySortedBy (slice_cmp nat_cmp) (map (λ entry.
             table_key entry.kind entry.key) entries) }
@@ -78,7 +78,7 @@ impl EntriesByKey {
         self.inside.as_slice()
     }
 
-    /// Returns the index of the entry with a key in a table, if there is one.
+    /// Returns the index of the entry with a key in a table, if there is such an entry.
     pub fn place_of(&self, kind: DependencyKind, key: &[u8]) -> Option<usize>
         ensures place { result ≡ position (λ entry.
             bytes_eq (table_key kind key.now) (table_key entry.kind entry.key)) self.now }

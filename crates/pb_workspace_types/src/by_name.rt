@@ -36,7 +36,7 @@ impl Model for BinariesByName {
 }
 
 impl BinariesByName {
-    /// Returns no binaries. It takes no memory.
+    /// Returns a list without binaries. This takes no memory.
     pub fn new(alloc: Global) -> BinariesByName
         ensures { result ≡ [] }
     {
@@ -47,7 +47,7 @@ impl BinariesByName {
 
     /// Returns these binaries.
     ///
-    /// Requires: they are in byte order of their names, without repeats.
+    /// Requires: the binaries are in byte order of their names, without repeats.
     pub fn from_items(binaries: Items<Binary>) -> BinariesByName
         requires { IsStrictlySortedBy (slice_cmp nat_cmp) (map (λ binary. binary.name) binaries) }
         ensures { result ≡ binaries }
@@ -62,7 +62,7 @@ impl BinariesByName {
         self.inside.as_slice()
     }
 
-    /// Returns the binary with a name, if there is one.
+    /// Returns the binary with a name, if there is such a binary.
     pub fn get_named(&self, name: &Text) -> Option<&Binary>
         ensures { option_copied result ≡ find (λ binary. bytes_eq name.now binary.name) self.now }
     {
@@ -95,7 +95,7 @@ impl Model for FeaturesByName {
 }
 
 impl FeaturesByName {
-    /// Returns no features. It takes no memory.
+    /// Returns a list without features. This takes no memory.
     pub fn new(alloc: Global) -> FeaturesByName
         ensures { result ≡ [] }
     {
@@ -106,7 +106,7 @@ impl FeaturesByName {
 
     /// Returns these features.
     ///
-    /// Requires: they are in byte order of their names, without repeats.
+    /// Requires: the features are in byte order of their names, without repeats.
     pub fn from_items(features: Items<Feature>) -> FeaturesByName
         requires { IsStrictlySortedBy (slice_cmp nat_cmp) (map (λ feature. feature.name) features) }
         ensures { result ≡ features }
@@ -121,7 +121,7 @@ impl FeaturesByName {
         self.inside.as_slice()
     }
 
-    /// Returns the index of the feature with a name, if there is one.
+    /// Returns the index of the feature with a name, if there is such a feature.
     pub fn place_of(&self, name: &[u8]) -> Option<usize>
         ensures { result ≡ position (λ feature. bytes_eq name.now feature.name) self.now }
     {

@@ -11,8 +11,9 @@ use thiserror::Error;
 /// Why a workspace cannot be read, or why nothing can be selected in it.
 #[derive(Debug, Drop, Error)]
 pub enum LoadFault {
-    /// No manifest can be read at this path: no file is there, it is not named `Cargo.toml`, or it
-    /// is at or below the target folder. The last two are our own choice.
+    /// No manifest can be read at this path: no file is there, the path does not end in
+    /// `Cargo.toml`, or the path is at or below the target folder. The last two rules are our own
+    /// choice.
     #[error("no manifest can be read at `{}`", .0.as_str())]
     NoManifest(PathText),
     /// The manifest at this path is refused.
@@ -33,7 +34,8 @@ pub enum LoadFault {
     /// A package links a native library but has no build script.
     #[error("a package links a native library but has no build script")]
     LinksWithoutScript,
-    /// A package inherits a key or an entry that the workspace does not have, or is no member.
+    /// A package inherits a key or an entry that the workspace does not have. Or a package that is
+    /// not a member inherits.
     #[error("a package inherits a key or an entry that is not there")]
     NoInherited,
     /// There are more than 256 packages.
@@ -45,7 +47,8 @@ pub enum LoadFault {
     /// A call on this path failed.
     #[error("a call on `{}` failed: {}", .0.as_str(), .1)]
     Place(PathText, PlaceFault),
-    /// `-p` names a package that is no member, or `default-members` names a folder that is none.
+    /// `-p` names a package that is not a member, or `default-members` names a folder that is not a
+    /// member.
     #[error("a requested package is not a member of the workspace")]
     NoSuchPackage,
     /// Out of memory.

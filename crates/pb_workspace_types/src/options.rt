@@ -18,13 +18,13 @@ pub struct Options {
     pub all_features: bool,
     /// `--no-default-features`.
     pub no_default_features: bool,
-    /// The profile's name, `dev` unless another is requested.
+    /// The profile's name. It is `dev` unless another profile is requested.
     pub profile: Text,
     /// `--lib`: the libraries of the selected packages.
     pub lib: bool,
-    /// `--bins`: their binaries.
+    /// `--bins`: the binaries of the selected packages.
     pub bins: bool,
-    /// `--bin`: their binaries with these names.
+    /// `--bin`: the binaries of the selected packages with these names.
     pub bin: Items<Text>,
     /// `--target-dir`. A relative folder starts at the workspace's root (our own choice).
     pub target_dir: Option<Text>,
@@ -38,22 +38,22 @@ pub struct Options {
     pub jobs: u64,
 }
 
-/// The packages that a build is to build, and with which features and targets.
+/// The packages that a build must build, and the features and targets with which it builds them.
 #[derive(Drop)]
 pub struct Selection {
     /// The indices of the selected packages, in ascending order, without repeats.
     pub packages: Items<usize>,
-    /// The requested features: each is `FEATURE` or `PACKAGE/FEATURE`, not empty, without commas
-    /// and spaces.
+    /// The requested features. Each is `FEATURE` or `PACKAGE/FEATURE`, is not empty, and contains
+    /// no commas and no spaces.
     pub features: Items<Text>,
     /// Whether all features of the selected packages are requested.
     pub all_features: bool,
-    /// Whether their feature `default` is not requested.
+    /// Whether the feature `default` of the selected packages is not requested.
     pub no_default_features: bool,
-    /// `--lib`: their libraries.
+    /// `--lib`: the libraries of the selected packages.
     pub lib: bool,
-    /// `--bins`: their binaries.
+    /// `--bins`: the binaries of the selected packages.
     pub bins: bool,
-    /// `--bin`: their binaries with these names.
+    /// `--bin`: the binaries of the selected packages with these names.
     pub bin: Items<Text>,
 }

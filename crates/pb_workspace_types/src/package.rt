@@ -11,7 +11,7 @@ use pb_place_types::PathText;
 /// share nothing.
 #[derive(Clone, Copy, Debug, PartialEq, Eq)]
 pub enum Side {
-    /// The machine for which the build is.
+    /// The machine for which we build.
     Target,
     /// The machine that builds.
     Host,
@@ -29,20 +29,22 @@ pub enum DependencyKind {
 /// An entry of `[dependencies]` or `[build-dependencies]` whose package was found.
 #[derive(Drop)]
 pub struct Entry {
-    /// The name that the manifest gives it, with the letters of package names.
+    /// The name of the entry in the manifest, with the letters of package names.
     pub key: Text,
-    /// The table in which it is written.
+    /// The table in which the entry is written.
     pub kind: DependencyKind,
-    /// The index of its package in the workspace.
+    /// The index of the entry's package in the workspace.
     pub to: usize,
     /// Whether `package` names a package other than the key.
     pub renamed: bool,
-    /// Whether it is optional, so that it needs a feature to enable it.
+    /// Whether the entry is optional. An optional entry is enabled only by a feature.
     pub optional: bool,
-    /// Whether it enables the feature `default` of its package, if there is one.
+    /// Whether the entry enables the feature `default` of its package, if the package has this
+    /// feature.
     pub default_features: bool,
-    /// The features that it enables: those of `[workspace.dependencies]`, if it inherits them, and
-    /// then its own, each in the manifest's order.
+    /// The features that the entry enables. If the entry inherits from `[workspace.dependencies]`,
+    /// the features there come first. The entry's own features follow. Both are in the manifest's
+    /// order.
     pub features: Items<Text>,
 }
 
@@ -51,20 +53,21 @@ pub struct Entry {
 pub struct Library {
     /// The crate's name: ASCII letters, digits and `_`, not empty.
     pub name: Text,
-    /// In the manifest's order; only `lib` if none is written. Never empty.
+    /// The crate types, in the manifest's order. If no crate type is written, the list is only
+    /// `lib`, so the list is never empty.
     pub crate_types: Items<CrateType>,
-    /// The path of its source.
+    /// The path of the source.
     pub source: PathText,
 }
 
 /// A binary of a package.
 #[derive(Drop)]
 pub struct Binary {
-    /// Its name, with the letters of package names.
+    /// The binary's name, with the letters of package names.
     pub name: Text,
-    /// The path of its source.
+    /// The path of the source.
     pub source: PathText,
-    /// The features that it requires.
+    /// The features that the binary requires.
     pub required_features: Items<Text>,
 }
 
@@ -91,41 +94,42 @@ pub struct About {
     pub rust_version: Text,
 }
 
-/// A package: the contents of its manifest and its folder, and all that it inherits from its
-/// workspace.
+/// A package: the contents of its manifest and its folder, and everything that the package inherits
+/// from its workspace.
 #[derive(Drop)]
 pub struct Package {
     /// ASCII letters, digits, `-` and `_`, not empty. No two packages of a workspace have the same
     /// name.
     pub name: Text,
-    /// 0.0.0 if none is written.
+    /// The version. If no version is written, it is 0.0.0.
     pub version: Version,
-    /// 2015 if none is written.
+    /// The edition. If no edition is written, it is 2015.
     pub edition: Edition,
     /// The folder that contains its manifest.
     pub folder: PathText,
     /// The path of its manifest.
     pub manifest: PathText,
-    /// Whether it is a member of the workspace. A package that is no member is read because a path
-    /// dependency leads to it.
+    /// Whether the package is a member of the workspace. A package that is not a member is read
+    /// because a path dependency leads to this package.
     pub is_member: bool,
-    /// The texts in which it describes itself to people.
+    /// The texts in which the package describes itself to people.
     pub about: About,
-    /// The native library that it links, any text. No two packages of a workspace link the same.
+    /// The native library that the package links, any text. No two packages of a workspace link the
+    /// same library.
     pub links: Option<Text>,
-    /// Its library, if it has one.
+    /// The package's library, if there is a library.
     pub library: Option<Library>,
     /// Its binaries, in byte order of their names, without repeats.
     pub binaries: BinariesByName,
-    /// The source of its build script, if it has one.
+    /// The source of the package's build script, if there is a build script.
     pub script: Option<PathText>,
-    /// The entries of `[dependencies]` and then those of `[build-dependencies]`, each in byte order
-    /// of their keys.
+    /// The entries of `[dependencies]`, and then the entries of `[build-dependencies]`. Those of
+    /// each table are in byte order of their keys.
     pub entries: EntriesByKey,
-    /// Its features in byte order of their names, without repeats. An optional dependency N makes a
-    /// feature N with the one item `dep:N`. If a feature N or some item `dep:N` is written, it
-    /// makes none (The Cargo Book, Features). Therefore a feature's name may be any package name,
-    /// even a name that begins with `-`.
+    /// The features in byte order of their names, without repeats. An optional dependency N makes a
+    /// feature N with the single item `dep:N`. If a feature N or some item `dep:N` is written, the
+    /// dependency makes no feature (The Cargo Book, Features). Because of such features, a
+    /// feature's name may be any package name, even a name that begins with `-`.
     pub features: FeaturesByName,
     /// The keys of `[dev-dependencies]`, in byte order.
     pub development: Items<Text>,

@@ -4,8 +4,9 @@ use crate::options::Selection;
 use crate::workspace::Workspace;
 use std::marker::Model;
 
-/// A workspace that was read: at most 256 packages, in order of folders and with distinct names,
-/// whose entries lead to packages of the workspace. Contracts see the workspace.
+/// A workspace that was read. It has at most 256 packages, in order of their folders and with
+/// distinct names. The entries of each package lead to packages of the workspace. Contracts see the
+/// workspace.
 #[derive(Drop)]
 pub struct SettledWorkspace {
     inside: Workspace,
@@ -26,9 +27,9 @@ impl SettledWorkspace {
     ghost use Rattle.std.specs.Prelude.{◌≡◌};
     ghost use Rattle.pb_workspace_types.specs.Settled.{IsSettled};
 
-    /// Returns a workspace as a settled one.
+    /// Returns a workspace as a settled workspace.
     ///
-    /// Requires: it is settled.
+    /// Requires: the workspace is settled.
     pub fn new(workspace: Workspace) -> SettledWorkspace
         requires { IsSettled workspace }
         ensures { result ≡ workspace }
@@ -53,8 +54,8 @@ impl SettledWorkspace {
     }
 }
 
-/// A workspace that was read, and what is selected in it: indices of its packages. Contracts see
-/// the workspace and the selection.
+/// A workspace that was read, and what is selected in the workspace: indices of its packages.
+/// Contracts see the workspace and the selection.
 #[derive(Drop)]
 pub struct SelectedWorkspace<'a> {
     workspace: &'a SettledWorkspace,
@@ -98,7 +99,7 @@ impl<'a> SelectedWorkspace<'a> {
         workspace
     }
 
-    /// Returns what is selected in it.
+    /// Returns what is selected in the workspace.
     pub fn selection(&self) -> &Selection
         ensures value { result.now ≡ self.now.selection }
         ensures within { All (λ place.

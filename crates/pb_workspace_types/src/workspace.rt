@@ -8,11 +8,11 @@ use pb_place_types::PathText;
 /// The default members.
 #[derive(Drop)]
 pub enum DefaultMembers {
-    /// It is not written.
+    /// `default-members` is not written.
     Unwritten,
-    /// The indices of the members that it lists, in ascending order.
+    /// The indices of the members that `default-members` lists, in ascending order.
     Named(Items<usize>),
-    /// It lists a folder that is no member.
+    /// `default-members` lists a folder that is not a member.
     Unknown,
 }
 
@@ -21,11 +21,11 @@ pub enum DefaultMembers {
 pub struct Workspace {
     /// The folder of the root manifest.
     pub root: PathText,
-    /// The target folder. Nothing at or below it was looked at.
+    /// The target folder. Nothing at or below this folder was looked at.
     pub target: PathText,
-    /// In byte order of their folders, without repeats; at most 256.
+    /// The packages, in byte order of their folders, without repeats. There are at most 256.
     pub packages: Items<Package>,
-    /// The index of the package in the root folder, if there is one.
+    /// The index of the package in the root folder, if the root folder has a package.
     pub root_package: Option<usize>,
     /// The default members, from the root's `default-members`.
     pub default_members: DefaultMembers,
