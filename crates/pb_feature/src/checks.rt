@@ -1,4 +1,5 @@
-//! The items of all packages, checked: the fault of the first package in byte order of names.
+//! Checks the items of all packages. The fault of the first package in byte order of names is
+//! returned.
 
 ghost use Rattle.std.specs.Prelude.{◌≡◌, ℕ, ◌+◌, ◌<◌, None, length, OnOk, IfErr};
 ghost use Rattle.pb_feature.specs.Checked.{is_lesser, is_lesser_at, picked, IsFirstBelow, IsSofar};
@@ -10,21 +11,21 @@ use pb_workspace_types::Package;
 /// A package with a wrong item.
 #[derive(Clone, Copy)]
 pub(crate) struct First {
-    /// Its index.
+    /// The index of the package.
     pub place: usize,
-    /// Its fault.
+    /// The fault of the item.
     pub fault: FeatureFault,
 }
 
-/// Returns whether the name of the first package is less, in byte order.
+/// Returns whether the name of the first package is before the name of the second in byte order.
 fn is_lesser(one: &Package, other: &Package) -> bool
     ensures { result ≡ is_lesser one.now other.now }
 {
     one.name.cmp(&other.name).is_lt()
 }
 
-/// Returns whether the package at an index has a lesser name
-/// than the one that was found; true if none was found.
+/// Returns whether the name of the package at an index is before the name of the found package.
+/// Returns true if no package was found.
 fn is_lesser_at(packages: &[Package], place: usize, first: Option<First>) -> bool
     ensures { result ≡ is_lesser_at packages.now place first }
 {

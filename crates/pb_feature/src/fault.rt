@@ -9,8 +9,8 @@ use thiserror::Error;
 /// Why no features are resolved.
 #[derive(Clone, Copy, Debug, PartialEq, Eq, Error)]
 pub enum FeatureFault {
-    /// An item names a feature that its package does not have; or no selected package has
-    /// a requested feature; or a feature is requested of a package that does not have it.
+    /// An item names a feature that its package does not have. Or no selected package has a
+    /// requested feature. Or a feature is requested of a package that does not have this feature.
     #[error("a requested feature does not exist")]
     NoSuchFeature,
     /// An item names a dependency that its package does not have.
@@ -19,7 +19,7 @@ pub enum FeatureFault {
     /// An item `dep:N` or `N?/F` names a dependency that is not optional.
     #[error("a feature names a dependency that is not optional")]
     NotOptional,
-    /// Memory ran out.
+    /// Out of memory.
     #[error("out of memory")]
     OutOfMemory,
 }

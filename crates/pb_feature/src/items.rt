@@ -21,7 +21,7 @@ fn has_feature_named(features: &FeaturesByName, name: &[u8]) -> bool
     slot(features, name) != 0
 }
 
-/// Returns whether one of the texts is this one.
+/// Returns whether this text is among the texts.
 fn has_text(texts: &[Text], name: &[u8]) -> bool
     ensures { result ≡ list_any (bytes_eq name.now) texts.now }
 {
@@ -49,14 +49,14 @@ fn is_optional_at(entries: &EntriesByKey, place: Option<usize>) -> bool
     }
 }
 
-/// Returns whether one of two indices was found.
+/// Returns whether at least one of two indices was found.
 fn is_either(normal: Option<usize>, build: Option<usize>) -> bool
     ensures { result ≡ (is_some normal || is_some build) }
 {
     normal.is_some() || build.is_some()
 }
 
-/// Returns whether an entry at one of two indices is optional.
+/// Returns whether the entry at either of two indices is optional.
 fn is_either_optional(entries: &EntriesByKey, normal: Option<usize>, build: Option<usize>) -> bool
     ensures { result ≡ (found is_optional false entries.now normal
         || found is_optional false entries.now build) }
@@ -127,7 +127,7 @@ fn item_fault(owner: &Package, item: &FeatureItem) -> Option<FeatureFault>
     }
 }
 
-/// Returns the first fault of items as they are written.
+/// Returns the first fault of items, in the order in which they are written.
 fn items_fault(owner: &Package, items: &[FeatureItem]) -> Option<FeatureFault>
     ensures { result ≡ items_fault owner.now items.now }
 {

@@ -1,5 +1,5 @@
-//! The numbers of what can be true of the packages of a
-//! workspace, for the rules as they are written down.
+//! Numbers for the facts that can be true of the packages of a workspace. The rules are written
+//! down with these numbers.
 
 ghost use Rattle.std.specs.Prelude.{◌≡◌, ◌+◌, ◌*◌, IfOk, IfSome};
 ghost use Rattle.pb_feature.specs.Numbers.{width_of, bases_from, end_from, side_number, number_from, number_at, slot, slot_at, on, has, enabled};
@@ -7,7 +7,7 @@ ghost use Rattle.pb_feature.specs.Numbers.{width_of, bases_from, end_from, side_
 use pb_workspace_types::{FeaturesByName, Package, Side};
 use std::alloc::{AllocError, Global};
 
-/// Where the numbers of each package begin, and how many numbers there are.
+/// The first number of each package, and how many numbers there are.
 #[derive(Drop)]
 pub(crate) struct Bases {
     /// The first number of each package.
@@ -16,7 +16,7 @@ pub(crate) struct Bases {
     pub count: usize,
 }
 
-/// The packages of a workspace, and where the numbers of each begin.
+/// The packages of a workspace, and the first number of each package.
 #[derive(Clone, Copy)]
 pub(crate) struct Ground<'a> {
     /// The packages.
@@ -37,7 +37,8 @@ fn width_of(owner: &Package) -> Option<usize>
         .checked_add(2)
 }
 
-/// Returns where the next package's numbers begin. A number past `usize` counts as out of memory.
+/// Returns the first number of the next package. If the number exceeds `usize`, the call fails as
+/// if memory had run out.
 fn next_base(base: usize, owner: &Package) -> Result<usize, AllocError>
     ensures { IfOk result (λ next. next ≡ base + width_of owner.now) }
 {
@@ -50,7 +51,7 @@ fn next_base(base: usize, owner: &Package) -> Result<usize, AllocError>
     }
 }
 
-/// Returns where the numbers of each package begin.
+/// Returns the first number of each package.
 pub(crate) fn bases_of(alloc: Global, packages: &[Package]) -> Result<Bases, AllocError>
     ensures bases { IfOk result (λ made. made.bases.items ≡ bases_from 0 packages.now) }
     ensures count { IfOk result (λ made. made.count ≡ end_from 0 packages.now * 2) }
@@ -86,7 +87,8 @@ fn number_from(base: usize, side: Side, local: usize) -> Option<usize>
         .checked_add(side_number(side))
 }
 
-/// Returns the number of a feature, counted from 1; 0 if there is none of that name.
+/// Returns the number of the feature with a name, counted from 1. Returns 0 if there is no such
+/// feature.
 pub(crate) fn slot(features: &FeaturesByName, name: &[u8]) -> usize
     ensures { result ≡ slot features.now name.now }
 {
@@ -101,8 +103,8 @@ pub(crate) fn slot(features: &FeaturesByName, name: &[u8]) -> usize
 }
 
 impl Ground<'_> {
-    /// Returns the number at an offset in a package's row, on a
-    /// side. A number past `usize` counts as out of memory.
+    /// Returns the number at an offset in a package's row, on a side. If the number exceeds
+    /// `usize`, the call fails as if memory had run out.
     pub(crate) fn number(&self, place: usize, side: Side, local: usize) -> Result<usize, AllocError>
         ensures { IfOk result (λ i. i ≡ number_at self.now.bases.now place side local) }
     {
@@ -116,7 +118,8 @@ impl Ground<'_> {
         }
     }
 
-    /// Returns the number of a package's feature, counted from 1; 0 if there is none of that name.
+    /// Returns the number of the package's feature with a name, counted from 1. Returns 0 if there
+    /// is no such feature.
     pub(crate) fn slot_at(&self, place: usize, name: &[u8]) -> usize
         ensures { result ≡ slot_at self.now.packages.now place name.now }
     {
@@ -134,8 +137,8 @@ impl Ground<'_> {
         Ok(i)
     }
 
-    /// Returns the number of the fact that the package has the feature of this slot, counted from
-    /// 1. Slot 0 is a feature that the package does not have.
+    /// Returns the number of the fact that the package has the feature of this slot. Slots are
+    /// counted from 1. Slot 0 is for a feature that the package does not have.
     pub(crate) fn has(&self, place: usize, side: Side, feature: usize) -> Result<usize, AllocError>
         ensures { IfOk result (λ i. i ≡ has self.now.bases.now place side feature) }
     {
@@ -147,7 +150,7 @@ impl Ground<'_> {
     }
 
     /// Returns the number of the fact that the entry is enabled. The numbers of entries come after
-    /// those of features.
+    /// the numbers of features.
     pub(crate) fn number_of_entry(
         &self,
         place: usize,
@@ -167,7 +170,7 @@ impl Ground<'_> {
         Ok(i)
     }
 
-    /// Returns the number of the fact that the package has the feature of this name.
+    /// Returns the number of the fact that the package has the feature with this name.
     pub(crate) fn number_of_feature(
         &self,
         place: usize,

@@ -1,5 +1,5 @@
-//! Which packages, features and entries are on: first the faults
-//! in their order, and then the least set of what the rules yield.
+//! Which packages, features and entries are on. The faults are checked first, in their order. Then
+//! the least set of what the rules yield is computed.
 
 ghost use Rattle.std.specs.Prelude.{◌≡◌, ℕ, ◌*◌, ◌<◌, ◌⊎◌, ◌||◌, IfOk, IfErr, OnOk, All, Contains, length};
 ghost use Rattle.pb_workspace_types.specs.Settled.{IsSettled};
@@ -63,7 +63,8 @@ fn marks_of(
     }
 }
 
-/// Returns whether the package at an index is given a feature that it does not have.
+/// Returns whether a feature is requested of the package at an index that this package does not
+/// have.
 fn is_missing_at(ground: &Ground<'_>, marks: &[bool], place: usize) -> Result<bool, AllocError>
     ensures { IfOk result (λ is. is
         ≡ (is_on marks.now (has ground.now.bases.now place Target 0)
@@ -74,7 +75,7 @@ fn is_missing_at(ground: &Ground<'_>, marks: &[bool], place: usize) -> Result<bo
     Ok(is_marked(marks, target) || is_marked(marks, host))
 }
 
-/// Checks that each package is given only features that it has.
+/// Checks that only features that a package has are requested of this package.
 fn check_missing(ground: &Ground<'_>, marks: &[bool]) -> Result<(), FeatureFault>
     ensures ok { OnOk result (NoneMarkedMissing marks.now ground.now.bases.now
         (length ground.now.packages.now)) }
@@ -114,9 +115,9 @@ fn resolve_checked(
 /// Returns which packages, features and entries are on, on each of two sides. This is the least set
 /// of what is chosen and what the rules yield (The Cargo Book, Features, resolver 2).
 ///
-/// Errors, in this order: the first wrong item of the first package in byte order of
-/// names; a requested feature that no selected package has; a feature that is requested
-/// of a package which is on and does not have it. Besides these, only out of memory.
+/// Errors, in this order: the first wrong item of the first package in byte order of names; a
+/// requested feature that no selected package has; a feature that is requested of a package that is
+/// on and does not have this feature. Besides these errors, only out of memory.
 pub fn resolve(alloc: Global, selected: &SelectedWorkspace<'_>) -> Result<Features, FeatureFault>
     ensures resolved { IfOk result (IsResolved selected.now.workspace selected.now.selection) }
     ensures right { OnOk result ((fault : FeatureFault) →

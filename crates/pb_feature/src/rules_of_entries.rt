@@ -11,7 +11,7 @@ use pb_graph::Rule;
 use pb_workspace_types::{DependencyKind, Entry, Package, Side};
 use std::alloc::AllocError;
 
-/// Returns the side on which an entry's package is made.
+/// Returns the side for which an entry's package is built.
 pub(crate) fn side_made(kind: DependencyKind, side: Side) -> Side
     ensures { result ≡ side_of kind side }
 {
@@ -33,7 +33,7 @@ pub(crate) fn add_alone(rules: &mut Vec<Rule>, first: usize, gives: usize) -> Re
     Ok(())
 }
 
-/// Adds the rule that turns on a feature by its slot, if a test is true and the feature exists.
+/// Adds the rule that turns on the feature of a slot, if a test is true and the feature exists.
 pub(crate) fn add_there(
     rules: &mut Vec<Rule>,
     ground: &Ground<'_>,

@@ -17,7 +17,8 @@ use pb_manifest_types::FeatureItem;
 use pb_workspace_types::{DependencyKind, Entry, FeaturesByName, Package, Side};
 use std::alloc::AllocError;
 
-/// Adds the rule of a feature that lists one of its own package, by their slots.
+/// Adds the rule of a feature that lists a feature of its own package, by the slots of both
+/// features.
 fn add_listed(
     rules: &mut Vec<Rule>,
     ground: &Ground<'_>,
@@ -156,16 +157,16 @@ fn add_of_enabled(
     Ok(())
 }
 
-/// Returns the number of a feature of a name, counted from 1,
-/// if a test is true; else 0, as if there is none.
+/// Returns the number of the feature with a name, counted from 1, if a test is true. Otherwise
+/// returns 0, as if there were no such feature.
 fn slot_where(test: bool, features: &FeaturesByName, name: &[u8]) -> usize
     ensures { result ≡ (if test then slot features.now name.now else 0) }
 {
     if test { slot(features, name) } else { 0 }
 }
 
-/// Adds the rules of an item at an entry that it may name, on
-/// both sides. The features that it names are looked up once.
+/// Adds the rules of an item at an entry that the item may name, on both sides. The features that
+/// the item names are looked up once.
 fn add_item(
     rules: &mut Vec<Rule>,
     ground: &Ground<'_>,
@@ -230,7 +231,7 @@ fn entry_named(item: &FeatureItem) -> Option<&Text>
     }
 }
 
-/// Adds the rules of an item at the entry of an index, if one was found.
+/// Adds the rules of an item at the entry with an index, if an entry was found.
 fn add_found(
     rules: &mut Vec<Rule>,
     ground: &Ground<'_>,
@@ -262,7 +263,8 @@ fn add_found(
     }
 }
 
-/// Adds the rules of an item at the entries of its name: at most one in each table.
+/// Adds the rules of an item at the entries with the name in the item. Each table has at most one
+/// such entry.
 fn add_named(
     rules: &mut Vec<Rule>,
     ground: &Ground<'_>,

@@ -22,7 +22,7 @@ pub(crate) fn of_package(alloc: Global, name: &str, feature: &str) -> Result<Tex
     Ok(Text::new(text))
 }
 
-/// Returns whether one of the texts is one of these two.
+/// Returns whether either of these two texts is among the texts.
 fn has_either(texts: &[Text], one: &[u8], other: &[u8]) -> bool
     ensures { result ≡ list_any (λ text. bytes_eq text one.now
         || bytes_eq text other.now) texts.now }
@@ -32,7 +32,7 @@ fn has_either(texts: &[Text], one: &[u8], other: &[u8]) -> bool
         .any(|text| text.as_bytes() == one || text.as_bytes() == other)
 }
 
-/// Returns whether a feature of the package of this name is requested.
+/// Returns whether a feature of the package with this name is requested.
 fn is_asked(alloc: Global, asked: &[Text], name: &str, feature: &str) -> Result<bool, AllocError>
     ensures { IfOk result (λ is. is ≡ list_any (is_text_of name.now feature.now) asked.now) }
 {
@@ -40,7 +40,7 @@ fn is_asked(alloc: Global, asked: &[Text], name: &str, feature: &str) -> Result<
     Ok(has_either(asked, feature.as_bytes(), whole.as_bytes()))
 }
 
-/// Returns whether a feature of the package of this name is chosen, if the package is selected.
+/// Returns whether a feature of the package with this name is chosen, if the package is selected.
 fn is_chosen(
     alloc: Global,
     selection: &Selection,
@@ -84,7 +84,7 @@ fn add_chosen(
     Ok(())
 }
 
-/// Adds a selected package and what is chosen for it.
+/// Adds a selected package and what is chosen for this package.
 fn add_owner(
     alloc: Global,
     seeds: &mut Vec<usize>,

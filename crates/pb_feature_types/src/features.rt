@@ -1,4 +1,4 @@
-//! What is on in a workspace: each package, its features and its entries, on each side.
+//! What is on in a workspace: for each package its features and entries, on each side.
 
 ghost use Rattle.std.specs.Prelude.{◌≡◌};
 ghost use Rattle.pb_graph.specs.Closure.{is_on};
@@ -12,9 +12,9 @@ use pb_workspace_types::Side;
 pub struct Part {
     /// Whether the package is active.
     pub active: bool,
-    /// The names of its features that are on, in byte order.
+    /// The names of the package's features that are on, in byte order.
     pub features: Items<Text>,
-    /// For each of its entries, by its index, whether it is enabled.
+    /// Whether each entry of the package is enabled, by the index of the entry.
     pub enabled: Items<bool>,
 }
 
@@ -27,10 +27,10 @@ pub struct Sides {
     pub host: Part,
 }
 
-/// What is on in a workspace, for each package by its index.
+/// What is on in a workspace.
 #[derive(Drop)]
 pub struct Features {
-    /// For each package, by its index in the workspace.
+    /// What is on in each package, by the index of the package in the workspace.
     pub packages: Items<Sides>,
 }
 
@@ -47,7 +47,7 @@ impl Sides {
 }
 
 impl Features {
-    /// Returns whether the package at this index is active on this side. It takes no memory.
+    /// Returns whether the package at this index is active on this side. The call takes no memory.
     pub fn active(&self, place: usize, side: Side) -> bool
         ensures { result ≡ is_active self.now place side }
     {
@@ -57,8 +57,8 @@ impl Features {
         }
     }
 
-    /// Returns the names of the features of the package at this index that are on on this side, in
-    /// byte order. It takes no memory.
+    /// Returns the names of those features of a package that are on, on this side, in byte order.
+    /// The package is given by its index. The call takes no memory.
     pub fn features_of(&self, place: usize, side: Side) -> &[Text]
         ensures { result.now ≡ features_at self.now place side }
     {
@@ -68,8 +68,8 @@ impl Features {
         }
     }
 
-    /// Returns whether an entry of the package at this index, by its own index, is enabled on this
-    /// side. It takes no memory.
+    /// Returns whether an entry of a package is enabled on this side. The package and the entry are
+    /// given by their indices. The call takes no memory.
     pub fn enabled(&self, place: usize, side: Side, entry: usize) -> bool
         ensures { result ≡ is_enabled self.now place side entry }
     {
@@ -80,7 +80,8 @@ impl Features {
     }
 }
 
-/// Returns whether a number is marked. No number past the last is. It takes no memory.
+/// Returns whether a number is marked. A number past the last is not marked. The call takes no
+/// memory.
 pub fn is_marked(marks: &[bool], number: usize) -> bool
     ensures { result ≡ is_on marks.now number }
 {

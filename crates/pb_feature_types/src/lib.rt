@@ -1,5 +1,5 @@
-//! What is on in a workspace: which packages, features and entries, on each of two sides (The Cargo
-//! Book, Features, resolver 2). `pb_feature` computes it.
+//! Which packages, features and entries are on in a workspace, on each of two sides (The Cargo
+//! Book, Features, resolver 2). `pb_feature` computes the answer.
 #![tactic(auto)]
 
 pub mod features;

@@ -113,7 +113,8 @@ impl Settings {
     }
 }
 
-/// Returns the value that a role uses for a key instead of a value, or the value itself.
+/// Returns the value of a key in a role: the value that the role fixes for the key, or else the
+/// given value.
 fn fix_by_role(role: Side, key: ProfileKey, value: Setting) -> Setting
     ensures { result ≡ fixed role key value }
 {

@@ -1,4 +1,4 @@
-//! A flight, step by step, as a turn chooses.
+//! Runs a flight, step by step, as a turn chooses.
 
 ghost use Rattle.std.specs.Prelude.{◌≡◌, ◌⊎◌, ◌<◌, ◌++◌, ◌∷◌, [], ℕ, Bool, true, false, List, length, Option, IfOk, OnOk, OnErr, MatchResult, Some, None, Contains, slice_get};
 ghost use Rattle.std.specs.List.{remove};
@@ -98,8 +98,8 @@ fn tell<P, O, F: Drop, E, C: Executor<P, O, F, E>>(
     }
 }
 
-/// Takes the answer of the unit at an index of those in flight,
-/// and hands out the lines that are then due.
+/// Takes the answer of a unit in flight, and hands out the lines that are then due. The unit is
+/// given by its index among the units in flight.
 fn answer_one<P, O, F: Drop, E, C: Executor<P, O, F, E>>(
     alloc: Global,
     crew: &mut C,
@@ -150,7 +150,7 @@ fn answer_one<P, O, F: Drop, E, C: Executor<P, O, F, E>>(
         Ok(answer) => answer,
         Err(fault) => return Err(fault),
     };
-    // The answer is noted before lines are handed out: its own lines may be due.
+    // The answer is recorded before lines are handed out, because its own lines may be due.
     flight.answer(unit, answer);
     match tell(alloc, crew, place, out, flight) {
         Ok(()) => Ok(()),
@@ -158,7 +158,7 @@ fn answer_one<P, O, F: Drop, E, C: Executor<P, O, F, E>>(
     }
 }
 
-/// One step: what the turn says.
+/// Takes the step that the turn chooses.
 fn step<P, O, F: Drop, E, C: Executor<P, O, F, E>, T: Turn>(
     alloc: Global,
     crew: &mut C,
@@ -225,10 +225,10 @@ fn step<P, O, F: Drop, E, C: Executor<P, O, F, E>, T: Turn>(
     }
 }
 
-/// Drives a flight in which nothing has begun, by the steps that the turn chooses. The flight ends
-/// when all units have answered, or all up to and including the first bad one. Units later than the
-/// first bad one may be in flight at the end, and after a fault any units may be. Once all these
-/// units have answered, no answer is taken. After a fault the turn decides no further step.
+/// Drives a flight in which no unit has begun, by the steps that the turn chooses. The flight ends
+/// when all units have answered, or all units up to and including the first bad unit. At the end,
+/// units later than the first bad unit may still be in flight; after a fault, any units may be.
+/// Once the flight has ended, no answer is taken. After a fault the turn decides no further step.
 pub fn drive<P, O, F: Drop, E, C: Executor<P, O, F, E>, T: Turn>(
     alloc: Global,
     crew: &mut C,

@@ -9,9 +9,9 @@ ghost use Rattle.pb_run_flight.specs.declared.flight.State.TheVariants.{Begun};
 use crate::flight::Answer;
 use std::alloc::{AllocError, Global};
 
-/// The code that begins units and takes their answers, in an outside of two parts: a
-/// place that units change, and a receiver of their lines. Its contracts describe all
-/// that has happened since some moment: a story, expressed by the events of the flight.
+/// The code that begins units and takes their answers. The outside world of this code has two
+/// parts: a place that units change, and a receiver of the units' lines. The contracts describe
+/// everything that has happened since some moment, as a story that the events of the flight tell.
 pub trait Executor<P, O, F, E> {
     /// What each unit needs, by its index in plan order.
     ghost needs: { Self → List (List ℕ) };
@@ -22,11 +22,11 @@ pub trait Executor<P, O, F, E> {
     /// What is true at each moment, whatever has happened.
     ghost holds: { Self → P → O → Type 0 };
 
-    /// What is true at each moment at which no call has failed yet, and what each call needs.
+    /// What is true at each moment before the first failing call. Each call requires this.
     ghost able: { Self → P → O → Type 0 };
 
-    /// What has happened between two moments by these events, the newest
-    /// first, if the lines of the first n units have been handed out.
+    /// What has happened between two moments by these events, if the lines of the first n units
+    /// have been handed out. The newest event comes first.
     ghost story: { Self → P → O → Self → P → O → List (Event F) → ℕ → Type 0 };
 
     /// What has happened between two moments by these events, if a fault then ended the flight. The
@@ -40,8 +40,8 @@ pub trait Executor<P, O, F, E> {
     fn in_flight(&self, alloc: Global) -> Result<Vec<usize>, AllocError>
         ensures { IfOk result (λ units. units.items ≡ flying self.now) };
 
-    /// Begins a unit, and returns whether a child was started for
-    /// it. After a fault the unit is not in flight.
+    /// Begins a unit, and returns whether a child was started for the unit. After a fault the unit
+    /// is not in flight.
     fn begin(&mut self, alloc: Global, place: &mut P, out: &mut O, unit: usize) -> Result<bool, E>
         requires holds { holds self.old place.old out.old }
         requires able { able self.old place.old out.old }
@@ -66,7 +66,7 @@ pub trait Executor<P, O, F, E> {
             × stops e None first first_place first_out self.new place.new out.new
             (Began unit spawned ∷ es)) };
 
-    /// Takes the answer of the unit at an index of those in flight. Afterwards this unit is no
+    /// Takes the answer of the unit at an index of the units in flight. Afterwards this unit is no
     /// longer in flight, even after a fault.
     fn answer(
         &mut self,

@@ -13,26 +13,26 @@ use std::marker::Model;
 /// The answer of a unit.
 #[derive(Drop)]
 pub struct Answer<F> {
-    /// Why it is bad, if it is.
+    /// Why the answer is bad, if it is bad.
     pub fault: Option<F>,
-    /// Its lines, as they are to be handed out.
+    /// The lines of the unit, in the form in which they are handed out.
     pub lines: Bytes,
 }
 
 /// The state of a unit.
 #[derive(Drop)]
 pub enum State<F> {
-    /// It has not begun.
+    /// The unit has not begun.
     Untouched,
-    /// It has begun and not answered: it is in flight.
+    /// The unit has begun and not answered: the unit is in flight.
     Begun,
-    /// It has answered.
+    /// The unit has answered.
     Answered(Answer<F>),
 }
 
-/// Which units of a plan have begun, what they answered, and whose lines have been handed out. A
-/// unit is known by its index in plan order. Contracts see what each unit needs, the state of each,
-/// and for how many units the lines have been handed out.
+/// Which units of a plan have begun, what these units answered, and whose lines have been handed
+/// out. A unit is known by its index in plan order. Contracts see what each unit needs, the state
+/// of each unit, and for how many units the lines have been handed out.
 #[derive(Drop)]
 pub struct Flight<F> {
     needs: Items<Items<usize>>,
@@ -88,7 +88,7 @@ pub(crate) fn is_good_at<F>(states: &[State<F>], place: usize) -> bool
     }
 }
 
-/// Returns whether a unit has not begun and needs nothing more.
+/// Returns whether a unit has not begun and all its needs are met.
 fn is_open<F>(
     states: &[State<F>],
     met: &[usize],
@@ -136,8 +136,8 @@ fn may_begin<F>(
     Some(is_open(states, met, unit, state, wanted.as_slice()))
 }
 
-/// Returns the units that may begin. The first n are known to be due, and no unit from an index on
-/// has all that it needs.
+/// Returns the units that may begin. The lines of the first `given` units are known to be due. No
+/// unit from index `reach` on has all needs met.
 fn ready_of<F>(
     alloc: Global,
     needs: &[Items<usize>],
@@ -175,14 +175,14 @@ fn after<F>(states: &[State<F>], count: usize) -> &[State<F>]
     &states[count..]
 }
 
-/// Lines that are due, and how many units they belong to.
+/// Lines that are due, and the number of units to which the lines belong.
 #[derive(Drop)]
 struct Due {
     lines: Vec<u8>,
     count: usize,
 }
 
-/// Returns the lines that are due, and how many units they belong to.
+/// Returns the lines that are due, and the number of units to which the lines belong.
 fn due_of<F>(alloc: Global, states: &[State<F>]) -> Result<Due, AllocError>
     ensures lines { IfOk result (λ made. made.lines.items ≡ due states.now) }
     ensures count { IfOk result (λ made. made.count ≡ count_due states.now) }
@@ -205,8 +205,8 @@ fn due_of<F>(alloc: Global, states: &[State<F>]) -> Result<Due, AllocError>
     Ok(Due { lines, count })
 }
 
-/// Returns the lines that are due after the first `given` units, and how many units are due in all.
-/// The first `given` units are all due.
+/// Returns the lines that are due after the first `given` units, and the number of all units whose
+/// lines are due. The lines of the first `given` units must be due.
 fn due_after<F>(alloc: Global, states: &[State<F>], given: usize) -> Result<Due, AllocError>
     requires { given ≤ count_due states.now }
     ensures lines { IfOk result (λ made. made.lines.items ≡ due_after given states.now) }
@@ -226,7 +226,7 @@ fn due_after<F>(alloc: Global, states: &[State<F>], given: usize) -> Result<Due,
     })
 }
 
-/// Returns whether all units have answered, or all up to and including the first bad one.
+/// Returns whether all units have answered, or all units up to and including the first bad unit.
 fn are_finished<F>(states: &[State<F>]) -> bool
     ensures { result ≡ is_finished states.now }
 {
@@ -244,7 +244,7 @@ fn are_finished<F>(states: &[State<F>]) -> bool
     true
 }
 
-/// Returns the same. The first `given` units are known to be all due.
+/// Returns the same as `are_finished`. The lines of the first `given` units are known to be due.
 fn are_finished_after<F>(states: &[State<F>], given: usize) -> bool
     requires { given ≤ count_due states.now }
     ensures { result ≡ is_finished states.now }
@@ -285,8 +285,9 @@ fn initial_states<F: Drop>(
 }
 
 impl<F: Drop> Flight<F> {
-    /// Returns a table for units with these needs, none of which has begun. The needs of a unit are
-    /// indices in plan order. The memory for all that `begin` and `answer` write is allocated here.
+    /// Returns a table for units with these needs. No unit has begun. The needs of a unit are
+    /// indices in plan order. The memory for everything that `begin` and `answer` write is
+    /// allocated here.
     ///
     /// Errors: out of memory.
     pub fn new(alloc: Global, needs: Items<Items<usize>>) -> Result<Flight<F>, AllocError>
@@ -320,7 +321,7 @@ impl<F: Drop> Flight<F> {
         self.states
     }
 
-    /// Returns whether a unit is in flight: it has begun and not answered.
+    /// Returns whether a unit is in flight: whether the unit has begun and not answered.
     pub fn is_flying(&self, unit: usize) -> bool
         ensures { IsTrue result ↔ slice_get self.now.states unit ≡ Some Begun }
     {
@@ -332,23 +333,25 @@ impl<F: Drop> Flight<F> {
         }
     }
 
-    /// Returns whether all units have answered, or all up to and including the first bad one.
+    /// Returns whether all units have answered, or all units up to and including the first bad
+    /// unit.
     pub fn is_finished(&self) -> bool
         ensures { result ≡ is_finished self.now.states }
     {
         are_finished_after(self.states.as_slice(), self.given)
     }
 
-    /// Returns the bad unit that is reported for the build: the first bad one in plan order, if all
-    /// units before it have answered. Which unit answered first in time does not matter.
+    /// Returns the bad unit that is reported for the build: the first bad unit in plan order, if
+    /// all units before this unit have answered. Which unit answered first in time does not matter.
     pub fn first_bad(&self) -> Option<usize>
         ensures { result ≡ first_bad self.now.states }
     {
         first_bad(self.states.as_slice())
     }
 
-    /// Returns the units that may begin, in plan order. They have not begun, and all their needs
-    /// have answered and are good. No unit before them in plan order has answered and is bad.
+    /// Returns the units that may begin, in plan order. Such a unit has not begun. All units that
+    /// it needs have answered and are good. No unit before it in plan order has answered and is
+    /// bad.
     ///
     /// Errors: out of memory.
     pub fn ready(&self, alloc: Global) -> Result<Vec<usize>, AllocError>
@@ -364,7 +367,8 @@ impl<F: Drop> Flight<F> {
         )
     }
 
-    /// Notes that a unit has begun, which is one of the units that may begin. No memory is used.
+    /// Records that a unit has begun. The unit must be one of the units that may begin. No memory
+    /// is used.
     pub fn begin(&mut self, unit: usize)
         requires ready { Contains (ready_of self.old.needs self.old.states) unit }
         ensures { self.new ≡ begun unit self.old }
@@ -372,7 +376,7 @@ impl<F: Drop> Flight<F> {
         self.states[unit] = State::Begun;
     }
 
-    /// Notes the answer of a unit in flight. This uses no memory.
+    /// Records the answer of a unit in flight. No memory is used.
     pub fn answer(&mut self, unit: usize, answer: Answer<F>)
         requires flying { slice_get self.old.states unit ≡ Some Begun }
         ensures { self.new ≡ answered unit answer self.old }
@@ -388,8 +392,9 @@ impl<F: Drop> Flight<F> {
         self.reach = reach;
     }
 
-    /// Returns the lines that are due now and have not been handed out. Lines are due of the units
-    /// that have answered, from the start of plan order, up to and including the first bad unit.
+    /// Returns the lines that are due now and have not been handed out. From the start of plan
+    /// order, the lines of the units that have answered are due, up to and including the first bad
+    /// unit.
     ///
     /// Errors: out of memory; then nothing has been handed out, and
     /// the next call returns these lines too.

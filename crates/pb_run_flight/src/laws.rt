@@ -4,41 +4,41 @@ ghost use Rattle.pb_run_flight.specs.Laws.{ReadyIsExact, ReachedIsGood, HandsOut
 
 use crate::turn::{Pick, Turn};
 
-/// The units that are ready are exactly those that may begin, in plan order, each once.
+/// The ready units are exactly the units that may begin. Each occurs once, in plan order.
 pub fn ready_is_exact<F>()
     ensures { ReadyIsExact F }
 {}
 
 /// After lawful events, a unit that may begin or has begun reaches only units that have answered
-/// and are good. So the unit reads nothing of a unit in flight.
+/// and are good. So such a unit reads nothing that a unit in flight writes.
 pub fn reached_is_good<F>()
     ensures { ReachedIsGood F }
 {}
 
-/// After each call that hands out lines, all lines handed out are those of the units that have
-/// answered. They count from the start of plan order, up to and including the first bad unit.
+/// After each call that hands out lines, these lines have been handed out: from the start of plan
+/// order, the lines of the units that have answered, up to and including the first bad unit.
 pub fn hands_out_all_due<F>()
     ensures { HandsOutAllDue F }
 {}
 
-/// The lines that are due now are the first of those that are due at the end.
+/// The lines that are due now are the first lines of those that are due at the end.
 pub fn due_is_start<F>()
     ensures { DueIsStart F }
 {}
 
-/// Once all units up to and including the first bad one have answered, no further lines will be due
-/// at the end. The first bad unit will still be the first at the end.
+/// Once all units up to and including the first bad unit have answered, no further lines will be
+/// due at the end. This bad unit will still be the first bad unit at the end.
 pub fn finished_is_all<F>()
     ensures { FinishedIsAll F }
 {}
 
-/// After lawful events, the units in flight are exactly those
-/// that have begun and not answered, each once.
+/// After lawful events, the units in flight are exactly the units that have begun and not answered.
+/// Each occurs once.
 pub fn flying_is_begun<F>()
     ensures { FlyingIsBegun F }
 {}
 
-/// If units are missing after lawful events, one may begin or one is in flight.
+/// If answers of units are missing after lawful events, a unit may begin or a unit is in flight.
 pub fn something_is_left<F>()
     ensures { SomethingIsLeft F }
 {}
@@ -48,8 +48,8 @@ pub fn steps_are_lawful<F, T: Turn>()
     ensures { StepsAreLawful F T.turns }
 {}
 
-/// If a child is spawned for what differs, the units that were
-/// started are exactly those that have begun and differ.
+/// If a child is spawned only for each unit that differs, the started units are exactly the units
+/// that have begun and differ.
 pub fn started_differs<F, T: Turn>()
     ensures { StartedDiffers F T.turns }
 {}

@@ -1,6 +1,6 @@
-//! The flight table of a build: which units may begin, which are in flight, and which lines are
-//! due. The table knows no place and no compiler. A unit is a number, and its answer is a fault, if
-//! there is one, and bytes.
+//! The flight table of a build: which units may begin, which units are in flight, and which lines
+//! are due. The table knows no place and no compiler. A unit is a number. The answer of a unit
+//! consists of bytes, and of a fault if the unit is bad.
 #![tactic(auto)]
 
 mod driving;

@@ -1,4 +1,4 @@
-//! What units need, the other way round, and how many of a unit's needs are met.
+//! For each unit, the units that need it, and how many of its own needs are met.
 
 ghost use Rattle.std.specs.Prelude.{◌≡◌, ◌<◌, ◌≤◌, ◌+◌, ℕ, List, [], IfOk, OnOk, Contains, length, map, slice_index, slice_set};
 ghost use Rattle.pb_run_flight.specs.Table.{is_good_at};
@@ -49,7 +49,7 @@ fn no_lists(alloc: Global, needs: &[Items<usize>]) -> Result<Vec<Items<usize>>, 
     Ok(lists)
 }
 
-/// Returns, for each unit, the units that need it.
+/// Returns the list of the units that need each unit.
 pub fn needed_by(alloc: Global, needs: &[Items<usize>]) -> Result<Vec<Items<usize>>, AllocError>
     ensures long { IfOk result (λ lists. length lists.items ≡ length needs.now) }
     ensures listed { IfOk result (λ lists. AreListed needs.now (length needs.now) lists.items) }
@@ -72,7 +72,7 @@ pub fn none_met(alloc: Global, needs: &[Items<usize>]) -> Result<Vec<usize>, All
     Ok(met)
 }
 
-/// Returns how many of these needs are met, if the first `from` are known to be.
+/// Returns how many of these needs are met. The first `from` needs are known to be met.
 fn met_from<F>(states: &[State<F>], needs: &[usize], from: usize) -> usize
     requires { from ≤ count_met states.now needs.now }
     ensures { result ≡ count_met states.now needs.now }

@@ -4,8 +4,8 @@ ghost use Rattle.std.specs.Prelude.{◌≡◌, ◌<◌, ◌+◌, ℕ, List, leng
 ghost use Rattle.pb_run_flight.specs.declared.turn.Step.{Step};
 ghost use Rattle.pb_run_flight.specs.Steps.{IsWithin, PicksFirst, PicksLast, PicksLent, TurnsOfJobs};
 
-/// A step of a build. A unit begins: the one at an index of the list of those that may begin. Or a
-/// unit answers: the one at an index of the list of those in flight.
+/// A step of a build: a unit begins or a unit answers. The first list contains the units that may
+/// begin. The second list contains the units in flight.
 #[derive(Clone, Copy, Debug)]
 pub enum Step {
     /// The unit at this index of the first list begins.
@@ -16,12 +16,13 @@ pub enum Step {
 
 /// Decides each step of a build. A turn may have a state, which each step may change.
 pub trait Turn {
-    /// How its state, the two lists, the step and its new state are related.
+    /// How the turn's state, the two lists, the step and the turn's new state are related.
     ghost turns: { Self → List ℕ → List ℕ → Step → Self → Type 0 };
 
-    /// Returns the next step. `ready` are the units that may begin, in plan order. `flying` are
-    /// those that have begun and not answered, in the order in which they began. At least one of
-    /// the two lists has a unit. The step names an item of its list. No memory is used.
+    /// Returns the next step. `ready` contains the units that may begin, in plan order. `flying`
+    /// contains the units that have begun and not answered, in the order in which they began. At
+    /// least one of the two lists contains a unit. The step names an item of its list. No memory is
+    /// used.
     fn turn(&mut self, ready: &[usize], flying: &[usize]) -> Step
         requires some { 0 < length ready.now + length flying.now }
         ensures turned { turns self.old ready.now flying.now result self.new }
@@ -30,11 +31,11 @@ pub trait Turn {
 
 /// Decides which unit begins. A pick may have a state, which each call may change.
 pub trait Pick {
-    /// How its state, the list, the answer and its new state are related.
+    /// How the pick's state, the list, the answer and the pick's new state are related.
     ghost picks: { Self → List ℕ → ℕ → Self → Type 0 };
 
-    /// Returns an index of a list that is not empty. The list has the units that may begin, in plan
-    /// order, and the unit at the index begins. This uses no memory.
+    /// Returns an index of a list that is not empty. The list contains the units that may begin, in
+    /// plan order. The unit at the returned index begins. No memory is used.
     fn pick(&mut self, ready: &[usize]) -> usize
         requires some { 0 < length ready.now }
         ensures picked { picks self.old ready.now result self.new }
@@ -50,7 +51,7 @@ impl<P: Pick> Pick for &mut P {
     }
 }
 
-/// Picks the first in plan order.
+/// Picks the first unit in plan order.
 #[derive(Drop)]
 pub struct First {}
 
@@ -62,7 +63,7 @@ impl Pick for First {
     }
 }
 
-/// Picks the last in plan order.
+/// Picks the last unit in plan order.
 #[derive(Drop)]
 pub struct Last {}
 
@@ -74,9 +75,9 @@ impl Pick for Last {
     }
 }
 
-/// A turn by a number of jobs. If a unit may begin and fewer units than the jobs are in flight, the
-/// picked one begins; else the one that began first answers. Zero jobs count as one (our own
-/// choice).
+/// A turn by a number of jobs. If a unit may begin and the number of units in flight is less than
+/// the number of jobs, the picked unit begins. Otherwise the unit in flight that began first
+/// answers. Zero jobs count as one job (our own choice).
 #[derive(Drop)]
 pub struct Jobs<P> {
     /// Which unit begins.
