@@ -77,7 +77,7 @@ pub fn nodes_in_circles(alloc: Global, extents: &[Extent]) -> Result<Vec<usize>,
         .collect(alloc)
 }
 
-/// Returns one more than the greatest level of the needed nodes, or 0 if there are none.
+/// Returns one more than the greatest level of the needed nodes, or 0 if there are no needed nodes.
 fn level_above(levels: &[usize], needs: &[usize]) -> usize
     requires needs { All (λ v. v < length levels.now) needs.now }
     requires small { (v : ℕ) → slice_index levels.now v < 2 ^ 63 }

@@ -2,7 +2,7 @@
 
 ghost use Rattle.pb_manifest_types.specs.Laws.{DefaultLibraryName};
 
-/// A library without a name of its own has its package's name, with `_` for each `-`.
+/// If `[lib]` writes no name, the library has its package's name, with `_` for each `-`.
 #[tactic(auto, unfolding(crate::specs::Letters::underscored))]
 pub fn default_library_name()
     ensures { DefaultLibraryName }

@@ -78,8 +78,8 @@ fn place_of_ticket<K>(flying: &[Flying<K>], ticket: u64) -> Option<usize>
     None
 }
 
-/// Removes and returns the first child with this ticket. If there is no such child, all children
-/// stay.
+/// Removes and returns the first child with this ticket. If there is no such child, nothing
+/// changes.
 pub fn take_out<K: Drop>(flying: &mut Vec<Flying<K>>, ticket: u64) -> Option<Flying<K>>
     ensures entry { IfSome result (λ f. (entry_at ticket flying.old.items ≡ Some f)
         × (flying.new.items ≡ other_entries ticket flying.old.items)) }

@@ -68,7 +68,7 @@ fn leads_up(text: &str) -> bool {
 /// (`PathText::join`), unless a `..` comes after a link. Such a `..` leads to the folder that
 /// contains the link's goal, as in the system. A link that leads nowhere is treated as a folder.
 ///
-/// Errors: those of `PathText::join`.
+/// Errors: the errors of `PathText::join`.
 pub(crate) fn path_from<R: Files + AllocGlobal>(
     runtime: &R,
     alloc: Global,

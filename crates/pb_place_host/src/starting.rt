@@ -15,7 +15,7 @@ use std::process::{Child, Output, Processes, Stdio};
 use std::rt::{Env, Files};
 use std::{fs, io, process};
 
-/// Adds arguments to those of a process.
+/// Adds arguments to the arguments of a process.
 fn add_words(made: &mut process::Command, words: &[Text]) -> Result<(), AllocError>
     ensures words { OnOk result (command_args made.new ≡ command_args made.old ++ words.now) }
     ensures program { OnOk result (command_program made.new ≡ command_program made.old) }

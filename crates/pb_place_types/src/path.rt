@@ -154,8 +154,8 @@ pub(crate) fn stem(folder: &str) -> &str
 }
 
 impl PathText {
-    /// Returns the path that an absolute text spells. Empty parts, `.` and `..` are removed, each
-    /// `..` together with the name before it if there is one.
+    /// Returns the path that an absolute text spells. Empty parts, `.` and `..` are removed. Each
+    /// `..` also removes the name before it, if there is such a name.
     ///
     /// Errors: `NotAbsolute`, if the text does not begin with `/`; else `BadByte`, if it contains
     /// byte 0; `OutOfMemory`.

@@ -315,7 +315,7 @@ pub trait Place {
     /// `command.out` is created first. No clause shows this, because the maps contain only files.
     /// Only files inside `out` change; after an error `out` may contain anything.
     ///
-    /// Errors: those of `spawn` and of `finish`.
+    /// Errors: the errors of `spawn` and of `finish`.
     fn start(&mut self, alloc: Global, command: &Command) -> Result<Ended, StartFault>
         ensures ok { IsTrue is_modelled → IfOk result (λ ended.
             Ends (child command.now) command.now (at self.old).world ended (at self.new).world) }
@@ -330,7 +330,7 @@ pub trait Place {
     /// a real machine, a `..` after a link leads to the folder that contains the link's target. The
     /// call is not counted.
     ///
-    /// Errors: those of `PathText::join`.
+    /// Errors: the errors of `PathText::join`.
     fn path_from(&self, alloc: Global, folder: &PathText, text: &str) -> Result<PathText, PathFault>
         ensures { IsTrue is_modelled →
             UnlessOom path_fault.OutOfMemory (λ path. path) result (joined folder.now text.now) }

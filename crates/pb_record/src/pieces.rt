@@ -1,4 +1,4 @@
-//! A text in pieces. Small parts are copied one after another; a large value is a piece of its own.
+//! A text in pieces. Small parts are copied one after another; a large value is a separate piece.
 
 ghost use Rattle.std.specs.Prelude.{◌≡◌, ◌++◌, ◌∷◌, [], IfOk, OnOk};
 ghost use Rattle.std.specs.List.{concat};

@@ -58,7 +58,7 @@ fn whole<T: Part>(alloc: Global, text: &[u8]) -> Result<Option<T>, AllocError>
     }
 }
 
-/// Returns a record of format 2, made of its parts.
+/// Returns the record of format 2 that has these parts.
 fn numbered_of(parts: NumberedParts) -> Record
     ensures { result ≡ numbered_of parts }
 {
@@ -73,7 +73,7 @@ fn numbered_of(parts: NumberedParts) -> Record
     }
 }
 
-/// Returns a record of format 1, made of its parts.
+/// Returns the record of format 1 that has these parts.
 fn copied_of(parts: CopiedParts) -> Record
     ensures { result ≡ copied_of parts }
 {

@@ -21,7 +21,7 @@ pub fn hands_out_all_due<F>()
     ensures { HandsOutAllDue F }
 {}
 
-/// The lines that are due now are the first lines of those that are due at the end.
+/// The lines that are due now are the beginning of the lines that are due at the end.
 pub fn due_is_start<F>()
     ensures { DueIsStart F }
 {}
@@ -38,7 +38,7 @@ pub fn flying_is_begun<F>()
     ensures { FlyingIsBegun F }
 {}
 
-/// If answers of units are missing after lawful events, a unit may begin or a unit is in flight.
+/// If a flight is not finished after lawful events, a unit may begin or a unit is in flight.
 pub fn something_is_left<F>()
     ensures { SomethingIsLeft F }
 {}
@@ -48,8 +48,8 @@ pub fn steps_are_lawful<F, T: Turn>()
     ensures { StepsAreLawful F T.turns }
 {}
 
-/// If a child is spawned only for each unit that differs, the started units are exactly the units
-/// that have begun and differ.
+/// Suppose that a unit has a child if and only if the unit differs. Then the started units are
+/// exactly the units that have begun and differ.
 pub fn started_differs<F, T: Turn>()
     ensures { StartedDiffers F T.turns }
 {}

@@ -11,9 +11,8 @@ use thiserror::Error;
 /// Why a workspace cannot be read, or why nothing can be selected in it.
 #[derive(Debug, Drop, Error)]
 pub enum LoadFault {
-    /// No manifest can be read at this path: no file is there, the path does not end in
-    /// `Cargo.toml`, or the path is at or below the target folder. The last two rules are our own
-    /// choice.
+    /// No manifest can be read at this path: no file is there, the file is not named `Cargo.toml`,
+    /// or the file is at or below the target folder. The last two rules are our own choice.
     #[error("no manifest can be read at `{}`", .0.as_str())]
     NoManifest(PathText),
     /// The manifest at this path is refused.

@@ -1,7 +1,7 @@
 //! The contents of a workspace: its packages, with everything that is inherited and discovered. The
-//! crate also defines what a build requests of a workspace, and why a workspace cannot be read (The
-//! Cargo Book, Workspaces, Manifest Format, Specifying Dependencies). `pb_workspace` reads a
-//! workspace. Crates that only use a workspace depend on this crate.
+//! crate also defines what a build requests of a workspace, and why a workspace cannot be read. The
+//! rules are in The Cargo Book (Workspaces, Manifest Format, Specifying Dependencies).
+//! `pb_workspace` reads a workspace. Crates that only use a workspace depend on this crate.
 #![tactic(auto)]
 
 mod by_key;
