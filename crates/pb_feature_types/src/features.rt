@@ -57,8 +57,8 @@ impl Features {
         }
     }
 
-    /// Returns the names of those features of a package that are on, on this side, in byte order.
-    /// The package is given by its index. The call takes no memory.
+    /// Returns the names of the features that are on in a package on this side, in byte order. The
+    /// package is given by its index. The call takes no memory.
     pub fn features_of(&self, place: usize, side: Side) -> &[Text]
         ensures { result.now ≡ features_at self.now place side }
     {

@@ -68,7 +68,8 @@ pub struct Dependency {
 pub enum WorkspaceSource {
     /// A folder.
     Path(PathSource),
-    /// `git`, `registry` or no path. An unsupported source is refused only if a package inherits the entry.
+    /// `git`, `registry` or no path. An unsupported source is refused only if a package inherits
+    /// the entry.
     Unsupported,
 }
 

@@ -27,8 +27,8 @@ impl Model for WrittenPath {
 }
 
 impl WrittenPath {
-    /// Returns the path of a text, or `None` if and only if the text contains byte 0. The call takes no
-    /// memory.
+    /// Returns the path of a text, or `None` if and only if the text contains byte 0. The call
+    /// takes no memory.
     pub fn new(text: Text) -> Option<WrittenPath>
         ensures { result ≡ (if has_zero text then None else Some text) }
     {

@@ -43,7 +43,8 @@ pub(crate) fn write_file<R: Files>(
     Ok(())
 }
 
-/// Writes a file whose bytes come in pieces, as `write_file` does. No memory is used for the pieces.
+/// Writes a file whose bytes come in pieces, as `write_file` does. No memory is used for the
+/// pieces.
 pub(crate) fn write_file_pieces<R: Files>(
     runtime: &R,
     alloc: Global,

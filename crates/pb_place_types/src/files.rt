@@ -133,8 +133,8 @@ impl FileMap {
         Ok(paths_of(alloc, names)?)
     }
 
-    /// Does nothing; its contract states that each file has a normalised absolute path. The call takes no
-    /// memory.
+    /// Does nothing; its contract states that each file has a normalised absolute path. The call
+    /// takes no memory.
     pub fn have_paths(&self)
         ensures { (path bytes : List ℕ) → map.get self.now path ≡ Some bytes
             → is_path path ≡ true }

@@ -115,7 +115,8 @@ impl RecordedCommand {
             && are_same_paths(self.reads.as_slice(), command.reads.as_slice())
     }
 
-    /// Returns whether a command sets the same variables to the same values. The call takes no memory.
+    /// Returns whether a command sets the same variables to the same values. The call takes no
+    /// memory.
     pub fn sets_as(&self, command: &Command) -> bool
         ensures { Decides result (self.now.pairs ≡ command.now.pairs) }
     {
