@@ -21,7 +21,7 @@ pub trait Rules {
     fn count_things(&self) -> usize
         ensures { result ≡ count self.now };
 
-    /// Replaces the contents of a buffer by what a known thing yields together with other known
+    /// Replaces the contents of a buffer by what a known thing yields together with the known
     /// things. The buffer may also get other things that follow from known things.
     fn put_given(
         &self,

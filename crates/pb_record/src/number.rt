@@ -33,8 +33,7 @@ fn begins_well(digits: &[u8]) -> bool
     }
 }
 
-/// Returns the number with these digits. Returns `None` if the digits do not spell a number below 2
-/// ^ 64.
+/// Returns the number that these digits spell, or `None` if no number below 2 ^ 64 has these digits.
 fn number_of(digits: &[u8]) -> Option<u64>
     ensures { MatchOption result ((n : ℕ) → n < 2 ^ 64 → digits.now ≡ decimals n →
         ⊥) (λ n. (n < 2 ^ 64) × (digits.now ≡ decimals n)) }
