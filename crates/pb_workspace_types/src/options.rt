@@ -24,7 +24,7 @@ pub struct Options {
     pub lib: bool,
     /// `--bins`: the binaries of the selected packages.
     pub bins: bool,
-    /// `--bin`: the binaries of the selected packages with these names.
+    /// `--bin`: the binaries with these names in the selected packages.
     pub bin: Items<Text>,
     /// `--target-dir`. A relative folder starts at the workspace's root (our own choice).
     pub target_dir: Option<Text>,
@@ -54,6 +54,6 @@ pub struct Selection {
     pub lib: bool,
     /// `--bins`: the binaries of the selected packages.
     pub bins: bool,
-    /// `--bin`: the binaries of the selected packages with these names.
+    /// `--bin`: the binaries with these names in the selected packages.
     pub bin: Items<Text>,
 }
