@@ -13,7 +13,7 @@ use pb_place_types::{PathFault, PathText, RelativePath};
 use std::alloc::{AllocError, AllocFailed, Global};
 use thiserror::Error;
 
-/// Why arguments are no compile.
+/// Why arguments do not request a compile.
 #[derive(Clone, Copy, Debug, PartialEq, Eq, Error)]
 pub enum CommandLineFault {
     /// The small compiler does not know these arguments.
@@ -53,9 +53,9 @@ pub enum Role {
     Source,
     /// A library and its file, as `NAME=PATH`.
     Extern,
-    /// A condition that is given.
+    /// A condition.
     Condition,
-    /// None: the small compiler ignores it.
+    /// No role: the small compiler ignores the argument.
     Unused,
 }
 
@@ -88,29 +88,30 @@ pub struct Arguments {
 /// A compile, from its arguments.
 #[derive(Drop)]
 pub struct CommandLine {
-    /// What is made, from the first crate type.
+    /// What the compile makes, as the first crate type says.
     pub crate_type: CrateType,
     /// The name of the crate.
     pub crate_name: Text,
-    /// The file of the image inside `out_dir`: the crate name for a program, and otherwise
-    /// `libNAME.rlib`. These names are our own choice, and like those of a real compiler.
+    /// The file of the image inside `out_dir`. For a program the file has the crate's name, and
+    /// otherwise its name is `libNAME.rlib`. These names are our own choice. They resemble the
+    /// names that a real compiler chooses.
     pub image: RelativePath,
     /// The file of the dep-info inside `out_dir`: `NAME.d`.
     pub dep_info: RelativePath,
     /// The folder in which files are written.
     pub out_dir: PathText,
-    /// The source, as written.
+    /// The source, as the arguments name it.
     pub source: Text,
     /// The libraries and their files, each as `NAME=PATH`.
     pub externs: Items<Text>,
-    /// The conditions that are given.
+    /// The conditions that `--cfg` sets.
     pub conditions: Items<Text>,
 }
 
-/// The values of a compile that occur once, or follow from these.
+/// The values of a compile that occur once, and the values that follow from them.
 #[derive(Drop)]
 pub struct Settled {
-    /// What is made.
+    /// What the compile makes.
     pub crate_type: CrateType,
     /// The name of the crate.
     pub crate_name: Text,
@@ -120,11 +121,11 @@ pub struct Settled {
     pub dep_info: RelativePath,
     /// The folder in which files are written.
     pub out_dir: PathText,
-    /// The source, as written.
+    /// The source, as the arguments name it.
     pub source: Text,
 }
 
-/// Returns whether the next argument determines what is made, or where.
+/// Returns whether the value of an option determines what is made, or where it is made.
 fn is_for_crate(word: &str) -> bool
     ensures { result ≡ (bytes_eq word.now (codes "--crate-name")
         || bytes_eq word.now (codes "--crate-type") || bytes_eq word.now (codes "--out-dir")) }
@@ -132,7 +133,7 @@ fn is_for_crate(word: &str) -> bool
     word == "--crate-name" || word == "--crate-type" || word == "--out-dir"
 }
 
-/// Returns whether the next argument is a setting or a condition.
+/// Returns whether the value of an option is a setting or a condition.
 fn is_for_setting(word: &str) -> bool
     ensures { result ≡ (bytes_eq word.now (codes "-C") || bytes_eq word.now (codes "--cfg")
         || bytes_eq word.now (codes "--check-cfg")) }
@@ -140,7 +141,7 @@ fn is_for_setting(word: &str) -> bool
     word == "-C" || word == "--cfg" || word == "--check-cfg"
 }
 
-/// Returns whether the next argument is a library, or where libraries are.
+/// Returns whether the value of an option is a library or a folder of libraries.
 fn is_for_library(word: &str) -> bool
     ensures { result ≡ (bytes_eq word.now (codes "--extern") || bytes_eq word.now (codes "-L")
         || bytes_eq word.now (codes "-l")) }
@@ -177,7 +178,8 @@ fn role_of(option: &str) -> Role
     Role::Unused
 }
 
-/// Returns the role of an argument that is no option with a value, and no value of an option.
+/// Returns the role of an argument that is neither an option with a value nor the value of an
+/// option.
 fn role_alone(word: &str) -> Role
     ensures { result ≡ role_alone word.now }
 {
@@ -207,8 +209,8 @@ fn add_value(said: &mut Arguments, role: Role, value: Text) -> Result<(), AllocE
     Ok(())
 }
 
-/// Processes one argument, which is the value of an option that waits for one, an option, or an
-/// argument on its own. Returns the role of the next argument, if this argument waits for a value.
+/// Processes one argument: the value of the option before it, an option, or an argument on its own.
+/// If this argument waits for a value, returns the role of the next argument.
 fn take_word(
     alloc: Global,
     said: &mut Arguments,
@@ -230,7 +232,8 @@ fn take_word(
     Ok(None)
 }
 
-/// Adds the values of the arguments. Returns the role for which the last option waits, if it does.
+/// Adds the values of the arguments. If the last option waits for a value, returns the role of this
+/// value.
 fn add_words(
     alloc: Global,
     said: &mut Arguments,
@@ -294,7 +297,7 @@ fn only(alloc: Global, values: &[Text]) -> Result<Text, CommandLineFault>
 
 /// Returns the first value.
 ///
-/// Errors: `Bad`, if there is none.
+/// Errors: `Bad`, if there is no value.
 fn first(values: &[Text]) -> Result<&Text, CommandLineFault>
     ensures { UnlessOom fault.OutOfMemory (λ value. value.now) result (first values.now) }
 {
@@ -304,7 +307,7 @@ fn first(values: &[Text]) -> Result<&Text, CommandLineFault>
     }
 }
 
-/// Returns what is made, from a crate type.
+/// Returns what a compile with this crate type makes.
 fn crate_type_of(text: &str) -> CrateType
     ensures { result ≡ crate_type_of text.now }
 {
@@ -336,7 +339,7 @@ fn dep_info_name(alloc: Global, name: &str) -> Result<Text, AllocError>
 
 /// Returns a name as a file inside the output folder.
 ///
-/// Errors: `Bad`, if the name is no such file; `OutOfMemory`.
+/// Errors: `Bad`, if the name is no file name; `OutOfMemory`.
 fn file_named(alloc: Global, name: Text) -> Result<RelativePath, CommandLineFault>
     ensures { UnlessOom fault.OutOfMemory (λ file. file) result (file_named name) }
 {
@@ -368,7 +371,7 @@ struct Once {
     source: Text,
 }
 
-/// The files inside the output folder, and that folder.
+/// The files inside the output folder, and the folder.
 #[derive(Drop)]
 struct Outputs {
     image: RelativePath,
@@ -378,7 +381,7 @@ struct Outputs {
 
 /// Returns the values that occur once.
 ///
-/// Errors: `Bad`, if one of them does not; `OutOfMemory`.
+/// Errors: `Bad`, if one of these values is absent or repeated; `OutOfMemory`.
 fn once_in(alloc: Global, said: &Arguments) -> Result<Once, CommandLineFault>
     ensures { UnlessOom fault.OutOfMemory (λ once. once) result (once_in said.now) }
 {
@@ -432,10 +435,10 @@ fn outputs_of(alloc: Global, once: &Once) -> Result<Outputs, CommandLineFault>
     })
 }
 
-/// Returns what the values settle.
+/// Returns the values that occur once, and the values that follow from them.
 ///
-/// Errors: `Bad`, if one that must occur once does not, or if a name or a folder is invalid;
-/// `OutOfMemory`.
+/// Errors: `Bad`, if a value that must occur once is absent or repeated, or if a name or a folder
+/// is invalid; `OutOfMemory`.
 fn settled_by(alloc: Global, said: &Arguments) -> Result<Settled, CommandLineFault>
     ensures { UnlessOom fault.OutOfMemory (λ settled. settled) result (settled_by said.now) }
 {
@@ -452,12 +455,12 @@ fn settled_by(alloc: Global, said: &Arguments) -> Result<Settled, CommandLineFau
     })
 }
 
-/// Returns the compile of these arguments. `--crate-name` and `--out-dir` must be there once, and
-/// `--crate-type` at least once. The other options may be there with their values, and settings in
-/// one argument. One more argument is the source.
+/// Returns the compile of these arguments. `--crate-name` and `--out-dir` must occur once, and
+/// `--crate-type` at least once. The other options may occur with their values, and so may settings
+/// in one argument. One more argument is the source.
 ///
-/// Errors: `Bad`, for anything else; `OutOfMemory`. By our own choice, `Bad` includes an output
-/// folder that is no absolute path, and a crate name that is no file name.
+/// Errors: `Bad`, for any other arguments; `OutOfMemory`. By our own choice, `Bad` includes an
+/// output folder that is no absolute path, and a crate name that is no file name.
 pub(crate) fn command_line_of(
     alloc: Global,
     words: &[Text],

@@ -37,8 +37,8 @@ pub(crate) fn text_of(alloc: Global, bytes: &[u8]) -> Result<Option<Text>, Alloc
     }
 }
 
-/// Returns the text of the file at a path, or none if there is no path or no file, or it is not
-/// UTF-8.
+/// Returns the text of the file at a path. The result is none if there is no path, if there is no
+/// file, or if the file is not UTF-8.
 pub(crate) fn text_at<V: View>(
     alloc: Global,
     view: &V,
@@ -81,7 +81,8 @@ fn add_text<V: View>(
     Ok(())
 }
 
-/// Carries out the lines of a source with this path and this text, or reports that there is none.
+/// Carries out the lines of a source with this path and this text, or reports that there is no
+/// source.
 fn add_source<V: View>(
     alloc: Global,
     effects: &mut Effects,
@@ -116,7 +117,7 @@ fn add_source<V: View>(
 pub struct Source {
     /// None if the argument is no absolute path.
     pub path: Option<PathText>,
-    /// None if no file is there, or it is not UTF-8.
+    /// None if there is no file, or if the file is not UTF-8.
     pub text: Option<Text>,
 }
 
@@ -296,9 +297,9 @@ fn compile_reply(alloc: Global, line: &CommandLine, effects: Effects) -> Result<
 }
 
 /// Returns the reply to a compile. If there is an error, the status is 1 and there is no image. If
-/// not, the status is 0. In both cases standard error has the diagnostics, and there is dep-info. A
-/// source may be missing, may not be UTF-8 or, by our own choice, may be no absolute path. It is
-/// then the error `no source` at line 0.
+/// there is no error, the status is 0. In both cases standard error contains the diagnostics, and
+/// there is dep-info. If the source is missing or not UTF-8, the error is `no source` at line 0.
+/// The error is the same if the path of the source is not absolute (our own choice).
 pub(crate) fn compile<V: View>(
     alloc: Global,
     line: &CommandLine,

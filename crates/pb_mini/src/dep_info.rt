@@ -8,7 +8,7 @@ use pb_place_types::PathText;
 use std::alloc::{AllocError, Global};
 
 /// The names of all that a compile read, without repeats, in order of first mention. Apart from
-/// these, only the files of other units may change the small compiler's reply.
+/// these files and variables, only the files of other units may change the reply.
 #[derive(Drop)]
 pub struct Names {
     /// Files, including those that do not exist.

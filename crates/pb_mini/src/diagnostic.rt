@@ -61,7 +61,7 @@ pub(crate) fn diagnostic_text(alloc: Global, diagnostic: &Diagnostic) -> Result<
     Ok(text)
 }
 
-/// Returns diagnostics in turn, each as a line.
+/// Returns diagnostics as lines, in the same order.
 pub(crate) fn diagnostics_text(
     alloc: Global,
     diagnostics: &[Diagnostic],

@@ -1,4 +1,5 @@
-//! The effects of lines: they add bytes to the image, report diagnostics, and name what they read.
+//! The effects of lines. Lines add bytes to the image, report diagnostics, and read files and
+//! variables.
 
 ghost use Rattle.std.specs.Prelude.{◌≡◌, IfOk, OnOk, Some};
 ghost use Rattle.pb_mini.specs.Effects.{no_effects, joined, followed_by, AddsEffect, copied, copied_file, diagnosed, reads, asks};
@@ -18,7 +19,7 @@ pub struct Effects {
     pub image: Buffer,
     /// The diagnostics about the lines.
     pub diagnostics: Items<Diagnostic>,
-    /// The names of what they read.
+    /// The names of what the lines read.
     pub names: Names,
 }
 
@@ -90,7 +91,7 @@ pub(crate) fn add_file(
     Ok(())
 }
 
-/// Names a file that is read, if there is a path for it.
+/// Adds the path of a file to the names of what is read, if there is a path.
 pub(crate) fn add_path(effects: &mut Effects, path: Option<PathText>) -> Result<(), AllocError>
     ensures { OnOk result (AddsEffect effects.new effects.old (reads path)) }
 {
@@ -100,7 +101,7 @@ pub(crate) fn add_path(effects: &mut Effects, path: Option<PathText>) -> Result<
     Ok(())
 }
 
-/// Names a variable that is read, with its value.
+/// Adds a variable and its value to the names of what is read.
 pub(crate) fn add_variable(
     effects: &mut Effects,
     name: Text,

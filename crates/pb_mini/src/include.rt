@@ -15,7 +15,7 @@ use pb_data::{Bytes, Table, Text, with_next};
 use pb_place_types::{PathText, View, ViewFault};
 use std::alloc::{AllocError, Global};
 
-/// Returns the text before the first slash, and the text after it, if there is one.
+/// Returns the text before the first slash and, if there is a slash, the text after it.
 #[tactic(auto, using(crate::proofs::SlashLemmas::slash_laws))]
 fn first_part(text: &str) -> (&str, Option<&str>)
     ensures part { result.0.now ≡ before_first (λ b. b == 47) text.now }
@@ -79,8 +79,8 @@ fn with_first_part(alloc: Global, value: &str, path: &str) -> Result<String, All
     Ok(text)
 }
 
-/// Returns the path, in which the variable's value replaces the first part. The value is empty if
-/// the variable is not set.
+/// Returns the path with the variable's value instead of its first part. The value is empty if the
+/// variable is not set.
 fn expand_path(
     alloc: Global,
     path: &str,
@@ -95,7 +95,7 @@ fn expand_path(
     }
 }
 
-/// Names the variable of a path, if it has one.
+/// Adds the variable of a path to the names of what is read, if the path has a variable.
 fn add_variable_of(
     effects: &mut Effects,
     variable: Option<(Text, Option<Text>)>,
@@ -130,7 +130,7 @@ fn add_no_file(
     add_diagnostic(effects, Level::Error, message, number)
 }
 
-/// Adds each line of the file, or reports that there is none.
+/// Adds each line of the file, or reports that there is no file.
 fn add_lines_of(
     alloc: Global,
     effects: &mut Effects,
@@ -147,7 +147,7 @@ fn add_lines_of(
     }
 }
 
-/// Names the variable and the file, and adds the file's lines.
+/// Adds the variable and the file to the names of what is read, and the file's lines to the image.
 fn add_included(
     alloc: Global,
     effects: &mut Effects,
@@ -166,7 +166,7 @@ fn add_included(
     Ok(())
 }
 
-/// Returns the path of the file that a line includes, or none if it has byte 0.
+/// Returns the path of the file that a line includes, or none if the text contains byte 0.
 fn path_included(
     alloc: Global,
     folder: &PathText,
@@ -180,7 +180,7 @@ fn path_included(
     path_from(alloc, folder, text.as_str())
 }
 
-/// Returns the path of the file that a line includes, and the file, if there is one.
+/// Returns the path of the file that a line includes, and the file, if it exists.
 fn file_included<V: View>(
     alloc: Global,
     folder: &PathText,

@@ -6,16 +6,16 @@ ghost use Rattle.pb_place_types.specs.declared.command.Command.{Command};
 ghost use Rattle.pb_mini.specs.Honesty.{AnswersHonestly, TellsNames};
 ghost use Rattle.pb_mini.specs.declared.command_line.CommandLine.{CommandLine};
 
-/// The small compiler is honest. A reply comes again in every world that agrees on two things: the
+/// The small compiler is honest. It replies the same in every world that agrees on two things: the
 /// files and inherited variables that were read, and the files below the folders that the command
 /// may read. The image of a run and the files of `--extern` must be strictly below these folders.
-/// The inherited value of a variable that the pairs set does not matter.
+/// If the pairs set a variable, the inherited value of this variable does not matter.
 pub fn is_honest()
     ensures { (c : Command) (v w : World) → AnswersHonestly c v w }
 {}
 
-/// The dep-info reports what was read: the reply to any compile, good or bad, has this file.
-/// Exactly the names that the compile read are listed there, without repeats.
+/// The dep-info reports what was read. The reply to any compile, good or bad, contains the dep-info
+/// file. This file lists exactly the names that the compile read, without repeats.
 pub fn tells_names()
     ensures { (words : List (List ℕ)) (pairs : List (List ℕ
         × List ℕ)) (w : World) (line : CommandLine) → TellsNames words pairs w line }

@@ -7,8 +7,8 @@ ghost use Rattle.pb_mini.specs.Lines.{lines_of, word_in, rest_of, name_in, value
 use crate::buffer::Buffer;
 use std::alloc::{AllocError, Global};
 
-/// Returns a line's first word and the rest. The word ends at the first space. If there is none,
-/// the whole line is the word, and the rest is empty.
+/// Returns a line's first word and the rest. The word ends at the first space. If there is no
+/// space, the whole line is the word, and the rest is empty.
 pub(crate) fn word_and_rest(line: &str) -> (&str, &str)
     ensures word { result.0.now ≡ word_in line.now }
     ensures rest { result.1.now ≡ rest_of line.now }
@@ -19,8 +19,8 @@ pub(crate) fn word_and_rest(line: &str) -> (&str, &str)
     }
 }
 
-/// Returns the texts before and after the first `=`. If there is none, the whole text is the name,
-/// and the value is empty.
+/// Returns the texts before and after the first `=`. If there is no `=`, the whole text is the
+/// name, and the value is empty.
 pub(crate) fn name_and_value(text: &str) -> (&str, &str)
     ensures name { result.0.now ≡ name_in text.now }
     ensures value { result.1.now ≡ value_in text.now }

@@ -10,7 +10,7 @@ use pb_data::{Bytes, Table, Text, TryCopy};
 use pb_place_types::{PathFault, PathText, View, ViewFault};
 use std::alloc::{AllocError, Global};
 
-/// Returns the path of a text, or none if it is no absolute path.
+/// Returns the path of a text, or none if the text is no absolute path.
 pub(crate) fn path_of(alloc: Global, text: &str) -> Result<Option<PathText>, AllocError>
     ensures { IfOk result (λ path. path ≡ path_of text.now) }
 {
@@ -21,7 +21,7 @@ pub(crate) fn path_of(alloc: Global, text: &str) -> Result<Option<PathText>, All
     }
 }
 
-/// Returns the path of a text relative to a folder, or none if it contains byte 0.
+/// Returns the path of a text relative to a folder, or none if the text contains byte 0.
 pub(crate) fn path_from(
     alloc: Global,
     folder: &PathText,
@@ -52,8 +52,8 @@ pub(crate) fn file_at<V: View>(
     }
 }
 
-/// Returns the value of a variable: the one in the pairs, else the inherited one, or none if it is
-/// not set.
+/// Returns the value of a variable: the value in the pairs, or else the inherited value. The result
+/// is none if the variable is not set.
 pub(crate) fn value_of<V: View>(
     alloc: Global,
     pairs: &Table<Text>,

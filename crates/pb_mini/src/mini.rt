@@ -71,51 +71,54 @@ fn reply_to<V: View>(
 ///   number and a line `host:` with the platform.
 /// - `--run PATH` runs an image.
 /// - Other arguments are a compile: `--crate-name NAME` and `--out-dir FOLDER` once each,
-///   `--crate-type TYPE` at least once, of which the first counts, and one source. There may be any
-///   number of `-C`, `--cfg`, `--check-cfg`, `--extern`, `-L` and `-l`, each with an argument after
-///   it, and of arguments that begin with `--edition=`, `--error-format=` or `--emit=`.
+///   `--crate-type TYPE` at least once, and one source. The first `--crate-type` counts. There may
+///   be any number of `-C`, `--cfg`, `--check-cfg`, `--extern`, `-L` and `-l`, each with an
+///   argument after it. There may be any number of arguments that begin with `--edition=`,
+///   `--error-format=` or `--emit=`.
 /// - Anything else has status 2, and `mini: bad command line` on standard error.
 ///
-/// **A compile** with an error has status 1 and no image, else status 0 and the image. In both
-/// cases it has dep-info, `NAME.d`, and its diagnostics are lines of JSON on standard error. A
-/// source that is missing or not UTF-8 is the error `no source` at line 0. The lines of the source:
+/// **A compile** with an error has status 1 and no image. Any other compile has status 0 and an
+/// image. In both cases there is dep-info, `NAME.d`, and the diagnostics are lines of JSON on
+/// standard error. If the source is missing or not UTF-8, the error is `no source` at line 0. The
+/// lines of the source mean:
 ///
 /// - A line that is empty or begins with `#` does nothing.
 /// - `use NAME` adds the line to the image, and after it each line of the library's file with `> `
-///   in front. The library is the first `--extern NAME=PATH`; without one, the error is `no library
-///   NAME`.
+///   in front. The library is that of the first `--extern NAME=PATH`. If there is no such argument,
+///   the error is `no library NAME`.
 /// - `include PATH` adds each line of the file with `| ` in front. A relative path begins at the
-///   source's folder, and `$VAR` as its first part is the variable's value. The error is `no file
-///   PATH`.
+///   source's folder. If its first part is `$VAR`, the variable's value replaces this part. If
+///   there is no file, the error is `no file PATH`.
 /// - `env NAME` adds `env NAME=VALUE`, or `env NAME` if the variable is not set.
-/// - `when COND LINE` is LINE if `--cfg COND` was given, and else does nothing.
-/// - `warn TEXT` and `fail TEXT` are diagnostics.
+/// - `when COND LINE` does the same as LINE if `--cfg COND` is an argument, and otherwise nothing.
+/// - `warn TEXT` reports a warning, and `fail TEXT` reports an error.
 /// - A line whose verb is `print`, `show`, `read`, `put` or `exit` is added to the image.
-/// - Any other line is the error `unknown line`.
+/// - Any other line causes the error `unknown line`.
 ///
-/// The dep-info names all included files and all variables that are read, without repeats, even
-/// those that do not exist.
+/// The dep-info names all included files and all variables that are read, without repeats. Files
+/// that do not exist and variables that are not set are named, too.
 ///
-/// **A run** carries out the lines of the image and ignores those that it does not know:
+/// **A run** carries out the lines of the image and ignores unknown lines:
 ///
 /// - `print TEXT` writes the text.
 /// - `show NAME` declares a variable, and sets `SHOW_NAME` to its value.
 /// - `read PATH` declares a file, and sets `READ` to its first line.
-/// - `put NAME TEXT` leaves a file. If NAME is empty, `.` or `..`, or contains a slash or byte 0,
-///   the run ends with status 2.
+/// - `put NAME TEXT` puts the file NAME into the output folder. If NAME is empty, `.` or `..`, or
+///   contains a slash or byte 0, the run ends with status 2.
 /// - `exit N` ends with a status from 0 to 255, or with 2 for any other text.
 ///
 /// If there is no image, the status is 2, with `mini: no image` on standard error.
 ///
-/// Our own choices: a source that is no absolute path is also the error `no source`. An output
-/// folder that is no absolute path, or a crate name that is no file name, is a bad command line. A
-/// library whose path is not absolute has no file. A line of an image that is not UTF-8 is ignored.
+/// Our own choices: if the path of the source is not absolute, the error is also `no source`. An
+/// output folder that is no absolute path, or a crate name that is no file name, is a bad command
+/// line. A library whose path is not absolute has no file. A line of an image that is not UTF-8 is
+/// ignored.
 ///
-/// `pairs` are names and values that override the variables of the view; the last of several with
-/// the same name counts.
+/// `pairs` are names and values that override the variables of the view. If several pairs have the
+/// same name, the last one counts.
 ///
-/// Errors: `Failed`, only if the view fails; `OutOfMemory`. If a view does not report what it
-/// shows, as one of real files, no clause promises what the reply is.
+/// Errors: `Failed`, only if the view fails; `OutOfMemory`. A view of real files does not report
+/// what it shows. For such a view, no clause promises what the reply is.
 ///
 /// The arguments are those that Cargo passes to a compiler; the language of the source is our own
 /// choice.

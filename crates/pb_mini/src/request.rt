@@ -28,10 +28,10 @@ fn compile_in(alloc: Global, words: &[Text]) -> Result<Request, CommandLineFault
     Ok(Request::Compile(line))
 }
 
-/// Returns the request of some arguments. `-vV` alone requests the version, and `--run` with one
-/// more argument the run of an image. Other arguments request a compile.
+/// Returns the request of some arguments. `-vV` alone requests the version. `--run` with one more
+/// argument requests the run of an image. Other arguments request a compile.
 ///
-/// Errors: `Bad`, if they are no request; `OutOfMemory`.
+/// Errors: `Bad`, if the arguments are no valid request; `OutOfMemory`.
 pub(crate) fn request_of(alloc: Global, words: &[Text]) -> Result<Request, CommandLineFault>
     ensures { UnlessOom fault.OutOfMemory (λ request. request) result (request_of words.now) }
 {

@@ -19,9 +19,9 @@ pub struct Scope {
     pub folder: PathText,
     /// The file of each library by its name, from the arguments.
     pub libraries: Table<Text>,
-    /// The conditions that are given.
+    /// The conditions that `--cfg` sets.
     pub conditions: OrderedSet,
-    /// The values that override those of the inherited variables.
+    /// The values that override the values of inherited variables.
     pub pairs: Table<Text>,
 }
 

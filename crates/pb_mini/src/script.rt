@@ -63,7 +63,7 @@ fn print(output: &mut Output, text: &str) -> Result<(), AllocError>
     push_line(&mut output.stdout, text.as_bytes())
 }
 
-/// Returns the value, which is empty if there is none.
+/// Returns the value, or the empty text if there is no value.
 fn or_empty(value: &Option<Text>) -> &str
     ensures { result.now ≡ unwrap_or value.now [] }
 {
@@ -142,7 +142,7 @@ fn is_absolute(text: &str) -> bool
     }
 }
 
-/// Returns a path below a folder, which is empty if there is none.
+/// Returns a path below a folder. If there is no folder, its name counts as empty.
 fn below_text(alloc: Global, folder: &Option<Text>, path: &str) -> Result<Text, AllocError>
     ensures { IfOk result (λ text. text ≡ below_text folder.now path.now) }
 {
@@ -151,14 +151,14 @@ fn below_text(alloc: Global, folder: &Option<Text>, path: &str) -> Result<Text, 
     Ok(Text::new(text))
 }
 
-/// Returns the same for a folder that is not needed afterwards.
+/// Returns a path below a folder, as `below_text` does, and consumes the folder.
 fn below_folder(alloc: Global, folder: Option<Text>, path: &str) -> Result<Text, AllocError>
     ensures { IfOk result (λ text. text ≡ below_text folder path.now) }
 {
     below_text(alloc, &folder, path)
 }
 
-/// Returns the path of a file to read, as a text: a relative one begins at `CARGO_MANIFEST_DIR`.
+/// Returns the path of a file to read, as a text. A relative path begins at `CARGO_MANIFEST_DIR`.
 fn full_path<V: View>(
     alloc: Global,
     pairs: &Table<Text>,
@@ -208,7 +208,8 @@ fn has_slash(text: &str) -> bool
     text.as_bytes().iter().any(|byte| *byte == b'/')
 }
 
-/// Returns the path of a file with this name in the output folder, or none if it is no file name.
+/// Returns the path of a file with this name in the output folder, or none if the name is no file
+/// name.
 fn file_named(alloc: Global, name: &str) -> Result<Option<RelativePath>, AllocError>
     ensures { IfOk result (λ path. path ≡ (if is_file_name name.now then Some name.now else None)) }
 {
@@ -219,7 +220,7 @@ fn file_named(alloc: Global, name: &str) -> Result<Option<RelativePath>, AllocEr
     Ok(RelativePath::of(name))
 }
 
-/// Carries out `put NAME TEXT`. If that is no file name, returns the status with which the script
+/// Carries out `put NAME TEXT`. If NAME is no file name, returns the status with which the script
 /// ends.
 fn put(alloc: Global, output: &mut Output, name: &str, text: &str) -> Result<Option<u8>, AllocError>
     ensures { IfOk result (λ ends. Goes ends output.new output.old (was_put name.now text.now)) }
@@ -279,7 +280,7 @@ fn three_digits(a: u8, b: u8, c: u8) -> u8
     if number < 256 { number as u8 } else { 2 }
 }
 
-/// Carries out a line by its first word. If the script ends there, returns its status.
+/// Carries out a line by its first word. If the script ends at this line, returns its status.
 fn do_by<V: View>(
     alloc: Global,
     output: &mut Output,
@@ -314,7 +315,7 @@ fn do_by<V: View>(
     Ok(None)
 }
 
-/// Carries out a line; a line that is no text does nothing.
+/// Carries out a line. A line that is not UTF-8 does nothing.
 fn do_line<V: View>(
     alloc: Global,
     output: &mut Output,

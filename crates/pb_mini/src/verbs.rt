@@ -30,7 +30,7 @@ pub enum Verb {
     Warn,
     /// An error with the rest as its message.
     Fail,
-    /// The line is added to the image as it is, for the script that runs it.
+    /// The line is added to the image unchanged. A run of the image carries it out.
     Copied,
     /// No verb of the language.
     Unknown,
@@ -209,7 +209,7 @@ fn env_line(alloc: Global, name: &str, value: &Option<Text>) -> Result<Text, All
     Ok(Text::new(line))
 }
 
-/// Names a variable, and adds a line with its value.
+/// Adds a variable to the names of what is read, and a line with its value to the image.
 
 fn add_told(
     alloc: Global,
