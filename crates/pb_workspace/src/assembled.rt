@@ -133,7 +133,7 @@ fn packages_of(
     Ok(made)
 }
 
-/// Returns whether a text means a member.
+/// Returns whether a text means this member.
 fn is_meant_member(
     alloc: Global,
     root: &PathText,

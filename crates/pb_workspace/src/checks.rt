@@ -1,4 +1,4 @@
-//! What is refused once all packages are read.
+//! Faults that are looked for after all packages are read.
 
 ghost use Rattle.std.specs.Prelude.{◌≡◌, IfOk, IfSome, false, map};
 ghost use Rattle.std.specs.List.{filter_map, list_any};
@@ -17,7 +17,7 @@ use pb_workspace_package::{UnresolvedPackage, Wanted, was_mentioned};
 use pb_workspace_types::LoadFault;
 use std::alloc::{AllocError, Global};
 
-/// Returns whether a name of these packages is repeated, or was mentioned before.
+/// Returns whether a name of these packages is repeated, or was seen before.
 fn names_come_again(
     alloc: Global,
     seen: &mut OrderedSet,
@@ -45,7 +45,8 @@ fn has_same_names(alloc: Global, drafts: &[UnresolvedPackage]) -> Result<bool, A
     again
 }
 
-/// Returns whether a native library that these packages link is repeated, or was mentioned before.
+/// Returns whether two of these packages link the same native library, or one links a library that
+/// was seen before.
 fn links_come_again(
     alloc: Global,
     seen: &mut OrderedSet,

@@ -7,15 +7,15 @@ ghost use Rattle.pb_workspace.specs.Rows.{cells_from, row_of, plain_cells, star_
 use pb_data::Items;
 use std::alloc::{AllocError, Global};
 
-/// An end of a name, with its first byte: whether a pattern matches it.
+/// An end of a name: its first byte, and whether a pattern matches the end.
 #[derive(Clone, Copy)]
 struct Cell {
     byte: u8,
     matched: bool,
 }
 
-/// Whether a pattern matches each end of a name: first the empty end, then the others, the shortest
-/// first.
+/// For each end of a name, whether a pattern matches the end. The empty end comes first, and then
+/// the others, the shortest first.
 #[derive(Drop)]
 struct Row {
     empty: bool,
@@ -162,10 +162,10 @@ fn last_matched(row: &Row) -> bool
     matched
 }
 
-/// Returns whether a pattern matches a whole name, which is one part of a path (The Cargo Book,
+/// Returns whether a pattern matches a whole name. The name is one part of a path (The Cargo Book,
 /// Workspaces). `*` matches any number of characters, even a dot at the front. `?` matches one
 /// character, and every other byte matches itself. By our own choice `[` matches itself, and `**`
-/// is the same as `*`. The time is proportional to the pattern's length times the name's.
+/// is the same as `*`. The time is proportional to the pattern's length times the name's length.
 ///
 /// Errors: out of memory only.
 pub fn matches(alloc: Global, pattern: &str, name: &str) -> Result<bool, AllocError>

@@ -4,29 +4,30 @@ ghost use Rattle.pb_workspace.specs.GlobWords.{DecidesGlobs};
 ghost use Rattle.pb_workspace.specs.Laws.{NamesDiffer, HasTargetFolder, HasRoot, LooksAtSources};
 ghost use Rattle.pb_workspace.specs.PackageFolders.{FuelIsEnough};
 
-/// The limit on rounds never cuts the reading of a workspace short. At most 256 packages are read,
-/// and 257 or more rounds find the same packages, or the same fault.
+/// The limit on rounds never cuts the reading of a workspace short. At most 256 packages are read.
+/// Any number of rounds from 257 on finds the same packages, or the same fault.
 pub fn rounds_are_enough()
     ensures { FuelIsEnough }
 {}
 
-/// A glob matches a name if and only if its signs do. `*` matches any text, `?` one character, and
-/// every other byte itself (The Cargo Book, Workspaces).
+/// A glob matches a name if and only if its bytes, one after another, match the parts of the name.
+/// `*` matches any text, `?` matches one character, and every other byte matches itself (The Cargo
+/// Book, Workspaces).
 pub fn globs_stand_for_names()
     ensures { DecidesGlobs }
 {}
 
-/// An accepted workspace has no two packages with the same name. Its target folder is the one for
-/// which it was read, and its root is the folder of its manifest. The contract of `load` has the
-/// other promises.
+/// An accepted workspace has no two packages with the same name. Its target folder is the folder
+/// for which it was read, and its root is the folder of its manifest. The contract of `load`
+/// contains the other promises.
 pub fn workspaces_are_settled()
     ensures names { NamesDiffer }
     ensures target { HasTargetFolder }
     ensures root { HasRoot }
 {}
 
-/// Only the sources determine a workspace: worlds that differ only at or below the target folder
-/// have the same workspace, or the same refusal.
+/// Only the sources determine a workspace. Worlds that differ only at or below the target folder
+/// have the same workspace, or the same fault.
 pub fn workspaces_look_at_sources()
     ensures { LooksAtSources }
 {}

@@ -1,5 +1,6 @@
-//! Workspaces: which packages exist, with everything inherited and discovered, and which of them a
-//! build is to build (The Cargo Book, Workspaces, Manifest Format, Specifying Dependencies).
+//! Workspaces: which packages exist, with all that they inherit and all that is discovered, and
+//! which of them a build must build (The Cargo Book, Workspaces, Manifest Format, Specifying
+//! Dependencies).
 #![tactic(auto)]
 
 mod assembled;

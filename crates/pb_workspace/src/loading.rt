@@ -34,8 +34,8 @@ use std::alloc::{AllocError, Global};
 
 /// Returns the parts of the root manifest.
 ///
-/// Errors: `NoManifest`, if it is not named `Cargo.toml` or is no file of the sources; those of
-/// `parts_at`.
+/// Errors: `NoManifest`, if the manifest is not named `Cargo.toml` or is no file of the sources;
+/// those of `parts_at`.
 fn root_parts<P: Place>(
     alloc: Global,
     place: &mut P,
@@ -195,7 +195,8 @@ fn packages_read<P: Place>(
     others_read(alloc, place, target, frame, begun)
 }
 
-/// Returns the workspace of packages that were read, or why they do not fit together.
+/// Returns the workspace of packages that were read, or the reason why the packages do not fit
+/// together.
 #[tactic(auto, unfolding(crate::specs::Loaded::workspace_from))]
 fn workspace_from(
     alloc: Global,
@@ -267,19 +268,19 @@ fn workspace_in<P: Place>(
 /// Dependencies).
 ///
 /// The root package is read first, and then the members in byte order of their folders. Then the
-/// packages to which path dependencies lead are read, in rounds, each in that order. No package is
-/// read twice, and nothing at or below the target folder is looked at. No child process is started,
-/// and no file is changed.
+/// packages to which path dependencies lead are read, in rounds. Each round reads its packages in
+/// the same byte order. No package is read twice, and nothing at or below the target folder is
+/// looked at. No child process is started, and no file is changed.
 ///
-/// Errors, of which the first that occurs is returned:
+/// Errors (the first that occurs is returned):
 /// - `NoManifest`: the file does not exist, is not named `Cargo.toml`, or is at or below the target
 ///   folder.
-/// - `Manifest`: the manifest reader refuses it.
+/// - `Manifest`: the manifest reader refuses the file.
 /// - `Manifest` with `BadKind` of `package`: the manifest of a package has no `[package]`.
 /// - `Manifest` with `UnsupportedSource`: a package inherits an entry of the workspace that has no
 ///   path, or has `git` or `registry`.
-/// - `NoInherited`: a package inherits a key or an entry that the workspace does not have, or is no
-///   member.
+/// - `NoInherited`: a package inherits a key or an entry that the workspace does not have, or the
+///   package inherits but is no member.
 /// - `TooMany`: a 257th package would be read.
 /// - `Place`: a call failed. It contains the path of that call.
 /// - `SameName`, `NameMismatch`, `VersionMismatch`, `LinksTwice`, `LinksWithoutScript`,

@@ -1,4 +1,4 @@
-//! Which folders the texts of `members`, `default-members` and `exclude` mean.
+//! The folders that the texts of `members`, `default-members` and `exclude` mean.
 
 ghost use Rattle.std.specs.Prelude.{◌≡◌, ◌++◌, ◌||◌, IfOk, OnOk, map, true};
 ghost use Rattle.std.specs.List.{fold, list_all, list_any};
@@ -14,17 +14,17 @@ use pb_workspace_package::source::resolve_path;
 use pb_workspace_package::{cut_at_slashes, names_in};
 use std::alloc::{AllocError, Global};
 
-/// A part that a folder must match for a text to mean it.
+/// A part of a text, which a name of a folder's path must match if the text means the folder.
 #[derive(Drop)]
 pub struct Part {
     /// A name, or a pattern for a name.
     pub text: RelativePath,
-    /// Whether `*` and `?` match other characters.
+    /// Whether `*` and `?` may match other characters.
     pub is_pattern: bool,
 }
 
-/// Returns whether a folder is at or below one that `exclude` lists, relative to the workspace's
-/// root (The Cargo Book, Workspaces).
+/// Returns whether a folder is at or below a folder that `exclude` lists. The listed paths are
+/// relative to the workspace's root (The Cargo Book, Workspaces).
 ///
 /// Errors: out of memory only.
 pub fn is_excluded(
@@ -48,7 +48,7 @@ pub fn is_excluded(
 ///
 /// Errors: out of memory only.
 ///
-/// Requires: each name is a path inside a folder. The names of a path are.
+/// Requires: each name is a path inside a folder. The names in a path satisfy this condition.
 fn plain_parts(alloc: Global, names: &[&str]) -> Result<Vec<Part>, AllocError>
     requires { list_all is_relative (map (λ name. name.now) names.now) ≡ true }
     ensures { IfOk result (λ parts. parts.items ≡ plain_parts (map (λ name. name.now) names.now)) }
@@ -74,8 +74,8 @@ fn is_absolute(text: &str) -> bool
     }
 }
 
-/// Returns the parts that come before those of a text: those of the root folder, or none for an
-/// absolute text.
+/// Returns the parts that come before the parts of a text. They are the parts of the root folder,
+/// or no parts if the text is absolute.
 fn start_of(alloc: Global, root: &PathText, text: &str) -> Result<Vec<Part>, AllocError>
     ensures { IfOk result (λ parts. parts.items ≡ start_of root.now text.now) }
 {
@@ -86,12 +86,12 @@ fn start_of(alloc: Global, root: &PathText, text: &str) -> Result<Vec<Part>, All
     plain_parts(alloc, names.as_slice())
 }
 
-/// Walks one part further.
+/// Continues the parts by one part, as in a path.
 ///
 /// Errors: out of memory only.
 ///
-/// Requires: the part stays, leads up, or is a path inside a folder. The parts of a text without
-/// byte 0 do.
+/// Requires: the part stays in the folder, leads up, or is a path inside a folder. The parts of a
+/// text without byte 0 satisfy this condition.
 fn go_further(alloc: Global, parts: &mut Vec<Part>, part: &str) -> Result<(), AllocError>
     requires { stays part.now || (leads_up part.now || is_relative part.now) ≡ true }
     ensures { OnOk result (parts.new.items ≡ further parts.old.items part.now) }
@@ -111,9 +111,9 @@ fn go_further(alloc: Global, parts: &mut Vec<Part>, part: &str) -> Result<(), Al
     Ok(())
 }
 
-/// Returns the parts that a folder must match for a text of `members` or `default-members` to mean
-/// it. The parts of the root folder, which match only themselves, come first. Then come those of
-/// the text, walked as in a path.
+/// Returns the parts of a text of `members` or `default-members`. The text means a folder if the
+/// folder's names match these parts. The parts of the root folder come first, and each matches only
+/// itself. The parts of the text follow, where `.` and `..` have their meaning in a path.
 ///
 /// Errors: out of memory only.
 pub fn parts_meant(

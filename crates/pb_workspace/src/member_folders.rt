@@ -29,7 +29,7 @@ pub fn is_manifest(path: &PathText) -> bool
     path.last_part() == "Cargo.toml"
 }
 
-/// Returns whether a part is matched by only one name.
+/// Returns whether only one name matches a part.
 fn is_fixed(part: &Part) -> bool
     ensures { result ≡ is_fixed part.now }
 {
@@ -81,10 +81,10 @@ fn folder_named(
     alone(alloc, named)
 }
 
-/// Returns the folders to which a part leads from a folder (The Cargo Book, Workspaces). A part
-/// that only one name matches leads to the folder with that name, whether or not it exists, and
-/// makes no call. Any other part leads to the folders whose names it matches, and lists the folders
-/// there once (our own choice).
+/// Returns the folders to which a part leads from a folder (The Cargo Book, Workspaces). If only
+/// one name matches the part, the part leads to the folder with this name, whether or not the
+/// folder exists. In this case no call is made. Any other part leads to the folders with matching
+/// names, and one call lists the folders (our own choice).
 ///
 /// Errors: `Place`, if the listing failed, with its path; `OutOfMemory`.
 fn one_step<P: Place>(
@@ -110,7 +110,7 @@ fn one_step<P: Place>(
     Ok(named)
 }
 
-/// Returns the folders that `exclude` does not leave out.
+/// Returns those folders that `exclude` does not leave out.
 ///
 /// Errors: out of memory only.
 fn kept_among(
@@ -129,8 +129,8 @@ fn kept_among(
     Ok(kept)
 }
 
-/// Returns the folders to which a part leads from a folder, without those that `exclude` leaves out. So a glob does not
-/// look below them (our own choice).
+/// Returns the folders to which a part leads from a folder, without the folders that `exclude`
+/// leaves out. So a glob does not look below excluded folders (our own choice).
 ///
 /// Errors: those of `one_step`.
 fn kept_step<P: Place>(
@@ -278,9 +278,9 @@ fn with_manifests<P: Place>(
     Ok(taken)
 }
 
-/// Returns the folders that a glob means. Its parts lead to them from `/`, `exclude` does not leave
-/// them out, and they have a manifest. At and below folders that `exclude` leaves out no call is
-/// made (our own choice).
+/// Returns the folders that a glob means. The parts of the glob lead to these folders from `/`. The
+/// folders have a manifest, and `exclude` does not leave them out. No call is made for a path at or
+/// below a folder that `exclude` leaves out (our own choice).
 ///
 /// Errors: those of `one_step`; those of `has_manifest`.
 fn folders_taken<P: Place>(
@@ -375,10 +375,11 @@ fn folders_of_texts<P: Place>(
 /// Returns the folders that `members` means, in byte order without repeats (The Cargo Book,
 /// Workspaces).
 ///
-/// A text without a sign means the folder that is written out. A glob means the folders with a
-/// manifest that it matches and that `exclude` does not leave out. A glob never matches a folder at
-/// or below the target folder. Only folders to which its parts lead are looked at: `crates/*` lists
-/// the folders in `crates`, and nothing below them (our own choice).
+/// A text without `*` and `?` means the folder that the text names. A glob means each folder that
+/// it matches, if the folder has a manifest and `exclude` does not leave it out. A glob never
+/// matches a folder at or below the target folder. Only folders to which the parts of a glob lead
+/// are looked at: `crates/*` lists the folders in `crates`, and nothing below them (our own
+/// choice).
 ///
 /// Errors: `Place`, if a call failed, with its path; `OutOfMemory`.
 pub fn member_folders<P: Place>(

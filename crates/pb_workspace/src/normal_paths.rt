@@ -1,5 +1,5 @@
-//! All paths of a workspace are normalised: the promise of the type of paths, for all of them at
-//! once. The functions here do nothing when they run.
+//! All paths of a workspace are normalised. The type of paths promises this for each path, and the
+//! functions here promise it for all paths at once. The functions do nothing when they run.
 
 ghost use Rattle.std.specs.Prelude.{◌≡◌, All, IfSome, true};
 ghost use Rattle.pb_place_types.specs.Paths.{is_path};
@@ -70,8 +70,8 @@ fn packages_have_paths(packages: &[Package])
 }
 
 /// All paths of a workspace are normalised and absolute: its root, its target folder, and the
-/// folder, manifest and sources of each package. The function does nothing; it states this for
-/// callers that have a workspace (our own choice).
+/// folder, manifest and sources of each package. The function does nothing. Its contract states the
+/// fact for callers that have a workspace (our own choice).
 pub fn workspace_has_paths(workspace: &Workspace)
     ensures { HasNormalPaths workspace.now }
 {

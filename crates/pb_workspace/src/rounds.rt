@@ -26,8 +26,8 @@ use pb_workspace_package::{Given, PackageLocation, Tables, UnresolvedPackage, Wa
 use pb_workspace_types::LoadFault;
 use std::alloc::{AllocError, Global};
 
-/// The number of rounds that is enough for that number of packages: a round that reads nothing
-/// leaves nothing ahead.
+/// The number of rounds that is enough for the largest number of packages. After a round that reads
+/// no package, no folder is left to read.
 pub const MAX_ROUNDS: usize = MAX_PACKAGES + 1;
 
 /// Packages that were read, and the folders of the next round.
@@ -39,7 +39,7 @@ pub struct LoadState {
     pub ahead: ByFolder<()>,
 }
 
-/// Returns the fault of a path without a readable manifest.
+/// Returns the fault of a path at which there is no manifest.
 pub fn no_manifest(alloc: Global, path: &PathText) -> LoadFault
     ensures refusal { is_outside result ≡ false → result ≡ load_fault.NoManifest path.now }
     ensures here { is_failure result ≡ false }
@@ -50,7 +50,7 @@ pub fn no_manifest(alloc: Global, path: &PathText) -> LoadFault
     }
 }
 
-/// Returns the refusal of a manifest.
+/// Returns the fault of a manifest that the reader refuses.
 fn manifest_refusal(alloc: Global, path: &PathText, fault: ManifestFault) -> LoadFault
     ensures refusal { is_outside result ≡ false → result ≡ load_fault.Manifest path.now fault }
     ensures here { is_failure result ≡ false }

@@ -1,4 +1,4 @@
-//! Which packages of a workspace a build is to build, and with which features.
+//! The packages of a workspace that a build must build, and their features.
 
 ghost use Rattle.std.specs.Prelude.{◌≡◌, ◌++◌, ◌==◌, IfOk, OnOk, map, filter};
 ghost use Rattle.std.specs.List.{flat_map, list_any, slice_split};
@@ -49,14 +49,14 @@ fn is_named_member(names: &[Text], found: &Package) -> bool
     found.is_member && is_mentioned(names, &found.name)
 }
 
-/// Returns whether a name is that of a member.
+/// Returns whether a name is the name of a member.
 fn names_member(name: &Text, packages: &[Package]) -> bool
     ensures { result ≡ list_any (is_member_named name.now) packages.now }
 {
     packages.iter().any(|found| is_member_named(name, found))
 }
 
-/// Returns whether each of these names is that of a member.
+/// Returns whether each of these names is the name of a member.
 fn name_members(names: &[Text], packages: &[Package]) -> bool
     ensures { result ≡ name_members names.now packages.now }
 {
@@ -81,7 +81,7 @@ fn members_named(
     Ok(places)
 }
 
-/// Returns the indices of the members with these names, each of which must be a member's.
+/// Returns the indices of the members with these names. Each name must be the name of a member.
 fn named_members(
     alloc: Global,
     names: &[Text],
@@ -97,7 +97,8 @@ fn named_members(
     Ok(places)
 }
 
-/// Returns the index of the root package if there is one, else those of all members.
+/// Returns the index of the root package, or the indices of all members if there is no root
+/// package.
 fn root_or_members(
     alloc: Global,
     root: Option<usize>,
@@ -115,7 +116,7 @@ fn root_or_members(
     }
 }
 
-/// Returns the packages that are selected if the options name none.
+/// Returns the packages that are selected if the options name no package.
 fn by_default(alloc: Global, workspace: &Workspace) -> Result<Items<usize>, LoadFault>
     ensures { UnlessOom load_fault.OutOfMemory (λ places. places) result
         (by_default workspace.now.default_members workspace.now.root_package
@@ -255,10 +256,10 @@ fn selection_of(
 /// Returns what the options of a build request of the workspace (The Cargo Book, Workspaces and
 /// cargo build).
 ///
-/// The packages are all members with `--workspace`, or else the members that `-p` names. Without
-/// both, `default-members` decides, or else the root package, or else all members. The packages'
-/// indices are in ascending order without repeats, and the type guarantees that each is one of the
-/// workspace's packages.
+/// With `--workspace` the packages are all members. Otherwise they are the members that `-p` names.
+/// Without both options, `default-members` decides. Without this key, the package is the root
+/// package, or all members if there is no root package. The indices are in ascending order without
+/// repeats, and the type guarantees that each is the index of a package of the workspace.
 ///
 /// The features are the texts between the commas and spaces of `--features`, in order; empty texts
 /// are left out.

@@ -59,7 +59,7 @@ pub fn nothing(alloc: Global) -> Given
     }
 }
 
-/// Returns the keys of `[workspace.package]`, or none if that table is not written.
+/// Returns the keys of `[workspace.package]`, or no keys if this table is not written.
 fn keys_or_none(written: Option<WorkspacePackage>) -> WorkspacePackage
     ensures { result ≡ keys_or_none written }
 {
@@ -69,8 +69,8 @@ fn keys_or_none(written: Option<WorkspacePackage>) -> WorkspacePackage
     }
 }
 
-/// Returns the workspace of a root manifest. Without `[workspace]` it is the root package only (The
-/// Cargo Book, Workspaces). It takes no memory.
+/// Returns the workspace of a root manifest. Without `[workspace]`, the workspace is the root
+/// package only (The Cargo Book, Workspaces). It takes no memory.
 pub fn frame_of(
     alloc: Global,
     root: PathText,
@@ -107,8 +107,8 @@ pub fn frame_of(
 
 /// Returns whether the package of a folder is a member. The root package is a member. In a
 /// workspace, each folder that `members` means is a member. So is each folder inside the root
-/// folder that is not excluded (The Cargo Book, Workspaces). The package whose path dependency
-/// leads there does not matter (our own choice).
+/// folder that is not excluded (The Cargo Book, Workspaces). It does not matter which package's
+/// path dependency leads to the folder (our own choice).
 ///
 /// Errors: out of memory only.
 pub fn is_member(

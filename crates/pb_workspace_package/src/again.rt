@@ -6,7 +6,7 @@ ghost use Rattle.pb_data.specs.OrderedSet.{is_mentioned, mentioned};
 use pb_data::{OrderedSet, Text, TryCopy};
 use std::alloc::{AllocError, Global};
 
-/// Returns whether a name was mentioned before, and mentions it.
+/// Returns whether a name was seen before, and adds the name to the seen names.
 ///
 /// Errors: out of memory.
 pub fn was_mentioned(alloc: Global, seen: &mut OrderedSet, name: &Text) -> Result<bool, AllocError>

@@ -9,7 +9,7 @@ use pb_data::Text;
 use pb_place_types::PathText;
 use std::alloc::{AllocError, Global};
 
-/// Returns the parts of a text between its slashes, some of which may be empty.
+/// Returns the parts of a text between its slashes. Parts may be empty.
 ///
 /// Errors: out of memory.
 pub fn cut_at_slashes(alloc: Global, text: &str) -> Result<Vec<&str>, AllocError>
@@ -80,7 +80,7 @@ fn up_and_down<'a>(
     Ok(steps)
 }
 
-/// Returns the steps from the end of the first names to the end of the others.
+/// Returns the steps from the end of the first list of names to the end of the second list.
 fn steps_between<'a>(
     alloc: Global,
     names: &[&str],
@@ -131,7 +131,8 @@ fn join_names(alloc: Global, names: &[&str]) -> Result<Text, AllocError>
     Ok(Text::new(text))
 }
 
-/// Returns the path from a folder to a path, as `../README.md`; it is empty if they are equal.
+/// Returns the path from a folder to another path, such as `../README.md`. The result is empty if
+/// both are equal.
 ///
 /// Errors: out of memory.
 pub fn text_between(alloc: Global, folder: &PathText, path: &PathText) -> Result<Text, AllocError>

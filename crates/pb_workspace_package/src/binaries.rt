@@ -28,7 +28,8 @@ fn with_end(alloc: Global, name: &str, end: &str) -> Result<Text, AllocError>
     Ok(Text::new(text))
 }
 
-/// Returns `src/bin/NAME.rs` or `src/bin/NAME/main.rs`, the first that is a file of the sources.
+/// Returns the first of `src/bin/NAME.rs` and `src/bin/NAME/main.rs` that is a file of the sources,
+/// or none if neither is.
 #[tactic(auto, using(crate::proofs::BinPaths::bin_laws))]
 fn looked_in_bin(
     alloc: Global,
@@ -58,7 +59,7 @@ fn flat_path(alloc: Global, folder: &PathText, name: &str) -> Result<PathText, A
     bin_path(alloc, folder, flat.as_str())
 }
 
-/// Returns the source of a `[[bin]]` without path that is not named as its package.
+/// Returns the source of a `[[bin]]` that has no path and is not named as its package.
 fn looked_for_other(
     alloc: Global,
     listings: &Listings,
@@ -75,7 +76,7 @@ fn looked_for_other(
     flat_path(alloc, folder, name)
 }
 
-/// Returns the source of a `[[bin]]` without path that is named as its package.
+/// Returns the source of a `[[bin]]` that has no path and is named as its package.
 fn looked_for_main(
     alloc: Global,
     listings: &Listings,
@@ -95,12 +96,12 @@ fn looked_for_main(
     OwnFile::Main.path(alloc, folder)
 }
 
-/// Returns the source of a `[[bin]]` of a package (The Cargo
-/// Book, Cargo Targets): the path that it writes, as it is.
+/// Returns the source of a `[[bin]]` of a package (The Cargo Book, Cargo Targets). If the `[[bin]]`
+/// writes a path, the source is this path, unchanged.
 ///
 /// If no path is written, the source is the first of these paths that is a file. The paths are
 /// `src/main.rs` (only if the binary is named as its package), `src/bin/NAME.rs` and
-/// `src/bin/NAME/main.rs`. If none is a file, the source is the first of these paths.
+/// `src/bin/NAME/main.rs`. If no path is that of a file, the source is the first of these paths.
 ///
 /// Errors: out of memory.
 pub fn binary_source(
@@ -173,7 +174,7 @@ pub fn written_binaries(
     Ok(binaries)
 }
 
-/// Adds binaries in turn; each replaces one of the same name.
+/// Adds binaries in turn. Each binary replaces an earlier binary of the same name.
 fn put_binaries(
     alloc: Global,
     entries: &mut Sorted<Binary>,
@@ -203,9 +204,9 @@ fn values_of(alloc: Global, entries: Items<(Text, Binary)>) -> Result<Items<Bina
     Ok(binaries)
 }
 
-/// Returns the binaries of a package, in byte order of their names, each once: those that were
-/// found and those that are written. If two found binaries have one name, the later counts. A
-/// written binary replaces a found binary of its name.
+/// Returns the binaries of a package, found or written, in byte order of their names, each once. If
+/// two found binaries have the same name, the later one counts. A written binary replaces a found
+/// binary of its name.
 ///
 /// Errors: out of memory.
 pub fn binaries_of(

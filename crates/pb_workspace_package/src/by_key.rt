@@ -65,8 +65,8 @@ impl WantedByKey {
     }
 }
 
-/// Entries of `[workspace.dependencies]` in byte order of their
-/// keys, with no two of one key. Contracts see them as a list.
+/// Entries of `[workspace.dependencies]` in byte order of their keys, each key once. Contracts see
+/// them as a list.
 #[derive(Drop)]
 pub struct SharedByKey {
     inside: Items<WorkspaceDependency>,

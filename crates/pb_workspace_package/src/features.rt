@@ -92,7 +92,7 @@ fn put_made(
     Ok(())
 }
 
-/// Adds the feature that an entry makes, if it makes one.
+/// Adds the feature that an entry makes, if the entry makes a feature.
 fn add_one_made(
     alloc: Global,
     names: &OrderedSet,
@@ -123,7 +123,7 @@ fn add_made(
     Ok(())
 }
 
-/// Adds the written features. Each replaces a made one of the same name.
+/// Adds the written features. Each replaces a feature of the same name that an entry made.
 fn add_written(
     made: &mut Sorted<Items<FeatureItem>>,
     written: Items<Feature>,
@@ -187,7 +187,8 @@ fn made_of(
 
 /// Returns the features of a package, in byte order of their names, each once (The Cargo Book,
 /// Features). An optional entry N of one of its two tables makes a feature N with the single item
-/// `dep:N`, unless some feature lists `dep:N`. A written feature replaces a made one of its name.
+/// `dep:N`, unless some feature lists `dep:N`. A written feature replaces a feature of the same
+/// name that an entry makes.
 ///
 /// Errors: out of memory.
 pub fn features_of(

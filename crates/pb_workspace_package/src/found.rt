@@ -16,9 +16,9 @@ use pb_place_types::PathText;
 use pb_workspace_types::Library;
 use std::alloc::{AllocError, Global};
 
-/// Returns the README of a package that names none. This is the first of `README.md`, `README.txt`
-/// and `README` that is a file of the package's folder (The Cargo Book, Manifest Format). If none
-/// is, the result is the empty text.
+/// Returns the README of a package whose manifest names no README. The result is the first of
+/// `README.md`, `README.txt` and `README` that is a file of the package's folder (The Cargo Book,
+/// Manifest Format). If the folder has none of these files, the result is the empty text.
 ///
 /// Errors: out of memory.
 pub fn found_readme(
@@ -42,8 +42,8 @@ pub fn found_readme(
 }
 
 /// Returns the source of a package's build script, if it has one (The Cargo Book, Build Scripts).
-/// This is `build.rs` if that is a file, unless `build` says otherwise. A path that `build` writes
-/// is taken as it is.
+/// Unless `build` says otherwise, the source is `build.rs` if the package's folder has this file.
+/// If `build` writes a path, the source is this path, unchanged.
 ///
 /// Errors: out of memory.
 pub fn script_of(
@@ -92,7 +92,7 @@ fn standard_types(alloc: Global) -> Result<Items<CrateType>, AllocError>
     Ok(types)
 }
 
-/// Returns the crate types of a library: `lib` alone if none is written.
+/// Returns the crate types of a library: `lib` alone if no type is written.
 fn served_types(alloc: Global, types: Items<CrateType>) -> Result<Items<CrateType>, AllocError>
     ensures { IfOk result (λ served. served ≡ served_types types) }
 {
@@ -123,7 +123,8 @@ fn written_library(
     })
 }
 
-/// Returns the library of a package without a `[lib]` table: `src/lib.rs`, if that is a file.
+/// Returns the library of a package without a `[lib]` table: `src/lib.rs`, if the folder has this
+/// file.
 fn found_library(
     alloc: Global,
     listings: &Listings,
@@ -147,8 +148,9 @@ fn found_library(
     }))
 }
 
-/// Returns the library of a package of this name, if it has one (The Cargo Book, Cargo Targets).
-/// This is the library of `[lib]`, or `src/lib.rs`, if that is a file.
+/// Returns the library of a package of this name, if the package has a library (The Cargo Book,
+/// Cargo Targets). The result is the library of `[lib]`. Without `[lib]`, it is `src/lib.rs`, if
+/// the package's folder has this file.
 ///
 /// Errors: out of memory.
 #[tactic(auto, using(crate::proofs::Naming::library_laws))]

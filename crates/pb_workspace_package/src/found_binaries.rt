@@ -28,7 +28,7 @@ fn parted_at_dot(text: &str) -> Option<(&str, &str)>
     text.split_once('.')
 }
 
-/// Returns NAME of `NAME.rs`, if it has the letters of a package's name.
+/// Returns NAME of `NAME.rs`, if NAME may be the name of a package.
 fn stem_of(alloc: Global, file: &str) -> Result<Option<Text>, AllocError>
     ensures { IfOk result (λ name. name ≡ stem_in (parted 46 file.now)) }
 {
@@ -44,7 +44,7 @@ fn stem_of(alloc: Global, file: &str) -> Result<Option<Text>, AllocError>
     }
 }
 
-/// Returns NAME of the path `NAME.rs`.
+/// Returns NAME of the path `NAME.rs`, if NAME may be the name of a package.
 fn flat_name(alloc: Global, names: &[&str]) -> Result<Option<Text>, AllocError>
     ensures { IfOk result (λ name. name ≡ flat_name (map (λ x. x.now) names.now)) }
 {
@@ -54,7 +54,7 @@ fn flat_name(alloc: Global, names: &[&str]) -> Result<Option<Text>, AllocError>
     }
 }
 
-/// Returns NAME of the path `NAME/main.rs`.
+/// Returns NAME of the path `NAME/main.rs`, if NAME may be the name of a package.
 fn nested_name(alloc: Global, names: &[&str]) -> Result<Option<Text>, AllocError>
     ensures { IfOk result (λ name. name ≡ nested_name (map (λ x. x.now) names.now)) }
 {
@@ -70,7 +70,7 @@ fn nested_name(alloc: Global, names: &[&str]) -> Result<Option<Text>, AllocError
     }
 }
 
-/// Returns the name of the binary at a path, if it is one.
+/// Returns the name of the binary at a path, if the path is that of a binary.
 fn name_by(alloc: Global, nested: bool, path: &str) -> Result<Option<Text>, AllocError>
     ensures { IfOk result (λ name. name ≡ name_by nested (names_in path.now)) }
 {
@@ -82,7 +82,7 @@ fn name_by(alloc: Global, nested: bool, path: &str) -> Result<Option<Text>, Allo
     }
 }
 
-/// Returns the name of the binary at a path in `src/bin`, if it is one.
+/// Returns the name of the binary at a path in `src/bin`, if the path is that of a binary.
 fn name_inside(
     alloc: Global,
     nested: bool,
@@ -97,7 +97,7 @@ fn name_inside(
     }
 }
 
-/// Returns the binary at a path in `src/bin`, if it is one.
+/// Returns the binary at a path in `src/bin`, if the path is that of a binary.
 fn binary_at(
     alloc: Global,
     nested: bool,
@@ -174,12 +174,12 @@ fn binaries_from(
     Ok(binaries)
 }
 
-/// Returns the binaries that a package's folder has (The Cargo Book, Cargo Targets). Those of
-/// `src/bin/NAME/main.rs` come first, then those of `src/bin/NAME.rs`. That of `src/main.rs` is the
-/// last, and is named as the package.
+/// Returns the binaries that a package's folder has (The Cargo Book, Cargo Targets). The binaries
+/// of `src/bin/NAME/main.rs` come first, and then the binaries of `src/bin/NAME.rs`. The binary of
+/// `src/main.rs` comes last, and is named as the package.
 ///
-/// If two have the same name, the later one counts. NAME has the letters
-/// of a package's name. What is at or below the target folder is left out.
+/// If two binaries have the same name, the later one counts. NAME must be possible as the name of a
+/// package. Files at or below the target folder are left out.
 ///
 /// Errors: out of memory.
 pub fn found_binaries(

@@ -1,4 +1,4 @@
-//! The keys of a package, each settled.
+//! The keys of a package, after it has inherited from its workspace.
 
 ghost use Rattle.std.specs.Prelude.{◌≡◌, IfErr, false, IfOk};
 ghost use Rattle.pb_data.specs.UnlessOom.{UnlessOom};
@@ -32,11 +32,11 @@ pub struct Keys {
     pub links: Option<Text>,
     /// Whether binaries are discovered.
     pub autobins: bool,
-    /// What `build` says.
+    /// The value of `build`.
     pub build: Build,
 }
 
-/// Returns a copy of what `build` says.
+/// Returns a copy of the value of `build`.
 fn build_of(alloc: Global, build: &Build) -> Result<Build, AllocError>
     ensures { IfOk result (λ made. made ≡ build.now) }
 {
@@ -51,18 +51,18 @@ fn build_of(alloc: Global, build: &Build) -> Result<Build, AllocError>
     }
 }
 
-/// Those keys of a package that it cannot inherit.
+/// The keys that a package cannot inherit.
 #[derive(Drop)]
 pub struct Own {
     /// Its name.
     pub name: Text,
     /// The native library that it links.
     pub links: Option<Text>,
-    /// What `build` says.
+    /// The value of `build`.
     pub build: Build,
 }
 
-/// Returns a copy of those keys of a package that it cannot inherit.
+/// Returns copies of the keys that a package cannot inherit.
 fn own_keys(alloc: Global, found: &Package) -> Result<Own, AllocError>
     ensures name { IfOk result (λ own. own.name ≡ found.now.name) }
     ensures links { IfOk result (λ own. own.links ≡ found.now.links) }
@@ -74,7 +74,7 @@ fn own_keys(alloc: Global, found: &Package) -> Result<Own, AllocError>
     Ok(Own { name, links, build })
 }
 
-/// Returns the keys, with the README that was looked for.
+/// Returns the keys of a package. `readme` is the README that was found in its folder, or empty.
 fn keys_from(
     alloc: Global,
     at: &PackageLocation,
@@ -105,8 +105,8 @@ fn keys_from(
     })
 }
 
-/// Returns the keys of a package: what it writes, takes from its workspace
-/// or has in its folder (The Cargo Book, Manifest Format and Workspaces).
+/// Returns the keys of a package. Each is written in the manifest, taken from the workspace, or
+/// found in the package's folder (The Cargo Book, Manifest Format and Workspaces).
 ///
 /// Errors: `NoInherited`, if a key is taken from a workspace that does not have it; `OutOfMemory`.
 pub fn keys_of(

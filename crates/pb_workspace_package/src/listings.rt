@@ -1,4 +1,4 @@
-//! What is seen of a package's folder.
+//! The files that are looked up in a package's folder.
 
 ghost use Rattle.std.specs.Prelude.{◌≡◌, ◌++◌, ℕ, List, IfOk, IfErr, IsTrue, true, codes, filter};
 ghost use Rattle.std.specs.List.{flat_map, list_any};
@@ -19,10 +19,10 @@ use pb_place_types::{PathText, Place};
 use pb_workspace_types::LoadFault;
 use std::alloc::{AllocError, Global};
 
-/// What a package's folder has. Nothing but these two lists decides what is found there.
+/// The files of a package's folder. Only these two lists decide what is found in the folder.
 #[derive(Drop)]
 pub struct Listings {
-    /// The files at fixed paths, in the order in which the place is asked about them.
+    /// The files at fixed paths, in the order in which they are looked up.
     pub own: Items<OwnFile>,
     /// The files below its `src/bin`, in byte order.
     pub in_bin: Items<PathText>,
@@ -37,8 +37,8 @@ pub fn bin_folder(alloc: Global, folder: &PathText) -> Result<PathText, AllocErr
     own_path(alloc, folder, "src/bin")
 }
 
-/// Returns whether a package's folder has a file at a fixed path. The place is not asked about a
-/// file at or below the target folder.
+/// Returns whether a package's folder has a file at a fixed path. A file at or below the target
+/// folder is not looked up.
 ///
 /// Errors: `Place`, if the call failed, with its path; `OutOfMemory`.
 fn is_there<P: Place>(
@@ -59,8 +59,8 @@ fn is_there<P: Place>(
     is_source(alloc, place, target, &path)
 }
 
-/// Returns the files at fixed paths that a package's folder has. The place is asked about each of
-/// these files in turn, but about none at or below the target folder.
+/// Returns the files at fixed paths that a package's folder has. Each of these files is looked up
+/// in turn. A file at or below the target folder is not looked up.
 ///
 /// Errors: `Place`, if a call failed, with its path; `OutOfMemory`.
 fn files_there<P: Place>(
@@ -85,8 +85,8 @@ fn files_there<P: Place>(
     Ok(own)
 }
 
-/// Returns what a package's folder has. The place is asked about each file at a fixed path, and
-/// then `src/bin` is listed. Nothing at or below the target folder is looked at.
+/// Returns the files of a package's folder. Each file at a fixed path is looked up, and then
+/// `src/bin` is listed. Nothing at or below the target folder is looked at.
 ///
 /// Errors: `Place`, if a call failed, with its path; `OutOfMemory`.
 pub fn listings_of<P: Place>(
@@ -123,7 +123,7 @@ pub fn has_own_file(listings: &Listings, file: OwnFile) -> bool
     listings.own.as_slice().contains(&file)
 }
 
-/// Returns the path of a file at a fixed path, if it is one of the sources.
+/// Returns the path of a file at a fixed path, if the file is one of the sources.
 ///
 /// Errors: out of memory.
 pub fn own_source(
@@ -142,7 +142,7 @@ pub fn own_source(
     Ok(Some(path))
 }
 
-/// Returns the path of a file in the folder `src/bin` of a package, whether it exists or not.
+/// Returns the path of a file in the folder `src/bin` of a package, whether the file exists or not.
 ///
 /// Errors: out of memory.
 #[tactic(auto, using(crate::proofs::Listed::bin_laws))]
@@ -165,7 +165,8 @@ fn is_in_bin(listings: &Listings, path: &PathText) -> bool
         .any(|other| *path == *other)
 }
 
-/// Returns the path of a file in the folder `src/bin` of a package, if it is one of the sources.
+/// Returns the path of a file in the folder `src/bin` of a package, if the file is one of the
+/// sources.
 ///
 /// Errors: out of memory.
 pub fn bin_source(

@@ -26,7 +26,7 @@ pub enum OwnFile {
     Main,
 }
 
-/// All of them, in the order in which the place is asked about them.
+/// All of these files, in the order in which they are looked up.
 pub const OWN_FILES: [OwnFile; 6] = [
     OwnFile::ReadmeMd,
     OwnFile::ReadmeTxt,
@@ -37,7 +37,7 @@ pub const OWN_FILES: [OwnFile; 6] = [
 ];
 
 impl OwnFile {
-    /// Returns its name, or its names with a slash between them, from the folder of the package.
+    /// Returns the path of the file relative to the folder of the package, as a text.
     pub fn name(self) -> &'static str
         ensures { result.now ≡ name_of self }
     {
@@ -51,7 +51,7 @@ impl OwnFile {
         }
     }
 
-    /// Returns its path, from the folder of the package.
+    /// Returns the path of the file in this folder of a package.
     ///
     /// Errors: out of memory.
     #[tactic(auto, using(crate::proofs::OwnFiles::own_name_laws))]

@@ -1,4 +1,4 @@
-//! A package, settled from its manifest, its folder and what its workspace gives.
+//! A package, determined by its manifest, its folder and what its workspace offers.
 
 ghost use Rattle.std.specs.Prelude.{◌≡◌, ◌++◌, All, IfOk, IfErr, true, false, map, IfSome};
 ghost use Rattle.pb_data.specs.UnlessOom.{UnlessOom};
@@ -47,8 +47,8 @@ pub struct Targets {
     pub script: Option<PathText>,
 }
 
-/// Returns the README that is found in a package's folder if
-/// none is written; otherwise the empty text.
+/// Returns the README that is found in a package's folder. If the manifest has a key `readme`,
+/// returns the empty text.
 ///
 /// Errors: out of memory.
 pub fn readme_found(
@@ -163,7 +163,7 @@ pub fn targets_of(
     })
 }
 
-/// Returns whether a name of these `[[bin]]` repeats, or was mentioned before.
+/// Returns whether a name of these `[[bin]]` repeats, or was seen before.
 fn binaries_come_again(
     alloc: Global,
     seen: &mut OrderedSet,

@@ -33,7 +33,7 @@ impl<V: Drop> Sorted<V> {
         }
     }
 
-    /// Adds an entry in its order; it replaces one of the same name.
+    /// Inserts an entry at its position. An entry of the same name is replaced.
     pub fn insert(&mut self, name: Text, value: V) -> Result<(), AllocError>
         ensures { OnOk result (self.new ≡ with_entry self.old name value) }
     {

@@ -16,7 +16,8 @@ use pb_place_types::{PathText, Place, PlaceFault, RelativePath};
 use pb_workspace_types::LoadFault;
 use std::alloc::{AllocError, Global};
 
-/// Returns the fault of a failed call on a path; out of memory stays so. It uses no memory.
+/// Returns the fault of a failed call on a path. Out of memory stays out of memory. No memory is
+/// used.
 pub fn call_fault(path: PathText, fault: PlaceFault) -> LoadFault
     ensures { result ≡ fault_at path fault }
 {
@@ -26,8 +27,8 @@ pub fn call_fault(path: PathText, fault: PlaceFault) -> LoadFault
     }
 }
 
-/// Returns the first bytes of the file at a path, at most `most`, if the file is one of the
-/// sources. A path at or below the target folder is not read.
+/// Returns at most the first `most` bytes of the file at a path, if the file is one of the sources.
+/// A path at or below the target folder is not read.
 ///
 /// Errors: `Place`, if the read failed, with its path; `OutOfMemory`.
 #[tactic(auto, using(crate::proofs::SourceLemmas::source_laws))]
@@ -55,8 +56,8 @@ pub fn source<P: Place>(
     }
 }
 
-/// Returns whether a file of the sources is at a path. The place is not asked about a path at or
-/// below the target folder.
+/// Returns whether a file of the sources is at a path. No call is made for a path at or below the
+/// target folder.
 ///
 /// Errors: `Place`, if the call failed, with its path; `OutOfMemory`.
 #[tactic(auto, using(crate::proofs::SourceLemmas::asking_laws))]
@@ -150,8 +151,8 @@ pub fn own_path(alloc: Global, folder: &PathText, name: &str) -> Result<PathText
     folder.below(alloc, &name)
 }
 
-/// Returns the path that a written path means from a folder; an absolute one
-/// means itself. A written path contains no byte 0, so it always means one.
+/// Returns the path that a written path means, relative to a folder. An absolute path means itself.
+/// A written path contains no byte 0, so it always means a path.
 ///
 /// Errors: out of memory.
 #[tactic(auto, using(crate::proofs::Resolving::resolving_laws))]

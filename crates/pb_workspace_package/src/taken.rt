@@ -17,7 +17,7 @@ use std::alloc::{AllocError, Global};
 
 /// Returns a package's version.
 ///
-/// Errors: `NoInherited`, if it is taken from a workspace that has none.
+/// Errors: `NoInherited`, if the value is taken from a workspace that does not have it.
 pub fn version_of(
     alloc: Global,
     own: &Inherited<Version>,
@@ -38,7 +38,7 @@ pub fn version_of(
 
 /// Returns a package's edition.
 ///
-/// Errors: `NoInherited`, if it is taken from a workspace that has none.
+/// Errors: `NoInherited`, if the value is taken from a workspace that does not have it.
 pub fn edition_of(own: &Inherited<Edition>, given: Option<Edition>) -> Result<Edition, LoadFault>
     ensures told { result ≡ own_or_given own.now given }
     ensures here { IfErr result (λ e. is_failure e ≡ false) }
@@ -52,7 +52,7 @@ pub fn edition_of(own: &Inherited<Edition>, given: Option<Edition>) -> Result<Ed
     }
 }
 
-/// Returns a text of a package; it is empty if it is absent.
+/// Returns a text of a package. If the manifest does not have this text, the result is empty.
 fn text_of(alloc: Global, own: &Inheritable<Text>, given: &Option<Text>) -> Result<Text, LoadFault>
     ensures told { UnlessOom load_fault.OutOfMemory (λ text.
         text) result (text_of own.now given.now) }
@@ -113,8 +113,8 @@ fn authors_of(
     }
 }
 
-/// Returns a text of the workspace, which is a path from the root, as a path
-/// from the member's folder. A text with byte 0 is no path and stays as it is.
+/// Returns a path of the workspace as a path from the member's folder. The workspace's path starts
+/// at the root folder. A text with byte 0 is no path and stays unchanged.
 fn from_member(
     alloc: Global,
     root: &PathText,
@@ -179,7 +179,8 @@ fn given_readme(
     }
 }
 
-/// Returns the README of a package; if nothing is written, the one that was found in its folder.
+/// Returns the README of a package. If the manifest does not mention a README, returns the README
+/// that was found in the package's folder.
 fn readme_of(
     alloc: Global,
     root: &PathText,

@@ -1,4 +1,4 @@
-//! A package as a whole; the packages of its entries have not been looked for yet.
+//! A whole package. The packages of its entries have not been looked for yet.
 
 ghost use Rattle.std.specs.Prelude.{◌≡◌, All, IfErr, IsTrue, false, true, IfOk, map};
 ghost use Rattle.pb_data.specs.UnlessOom.{UnlessOom};
@@ -42,7 +42,7 @@ pub struct Tables {
     pub features: Items<Feature>,
 }
 
-/// A package as a whole; the packages of its entries have not been looked for yet.
+/// A whole package. The packages of its entries have not been looked for yet.
 #[derive(Drop)]
 pub struct UnresolvedPackage {
     /// The folder that contains its manifest.
@@ -224,12 +224,12 @@ fn draft_seen(
     draft_with(alloc, listings, at, is_member, given, tables, keys)
 }
 
-/// Returns the package of a manifest. The manifest and its folder describe the package, with all
-/// that it inherits from its workspace (The Cargo Book, Manifest Format and Workspaces). The folder
+/// Returns the package of a manifest. The manifest, its folder, and what the package inherits from
+/// its workspace describe the package (The Cargo Book, Manifest Format and Workspaces). The folder
 /// is looked at once.
 ///
-/// Errors: the first that occurs. It reads the keys, then
-/// `[dependencies]`, then `[build-dependencies]`:
+/// Errors: the first that occurs. The keys are checked first, then `[dependencies]`, and then
+/// `[build-dependencies]`:
 /// - `Place`: a call failed. It contains the path of that call.
 /// - `NoInherited`: a key or an entry is taken that the workspace does not have.
 /// - `Manifest` with `UnsupportedSource`: the entry that is

@@ -33,15 +33,15 @@ pub struct Wanted {
     pub version: Option<Requirement>,
     /// Whether `package` names another package than the key.
     pub renamed: bool,
-    /// Whether it is left out unless something enables it.
+    /// Whether the entry is left out unless something enables it.
     pub optional: bool,
-    /// Whether it turns on the feature `default` of its package, if that exists.
+    /// Whether it turns on the feature `default` of its package, if this feature exists.
     pub default_features: bool,
     /// The features that it turns on.
     pub features: Items<Text>,
 }
 
-/// Where an entry is written.
+/// The paths of a package whose entries are read.
 #[derive(Drop)]
 pub struct PackageLocation {
     /// The workspace's root.
@@ -113,7 +113,7 @@ fn add_texts(alloc: Global, texts: &[Text], made: &mut Items<Text>) -> Result<()
     Ok(())
 }
 
-/// Returns the features of the workspace's entry and then the member's.
+/// Returns the features of the workspace's entry, and then those of the member's entry.
 fn joined_features(
     alloc: Global,
     first: &[Text],
@@ -127,7 +127,7 @@ fn joined_features(
     Ok(made)
 }
 
-/// Returns the refusal of a source that is taken from the workspace.
+/// Returns the fault of an entry that is taken from the workspace and has an unsupported source.
 fn unsupported_source(alloc: Global, manifest: &PathText) -> Result<LoadFault, AllocError>
     ensures { IfOk result
         (λ fault. fault ≡ load_fault.Manifest manifest.now ManifestFault.UnsupportedSource) }
