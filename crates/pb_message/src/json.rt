@@ -9,7 +9,7 @@ use pb_data::Text;
 use pb_json::json_string;
 use std::alloc::{AllocError, Global};
 
-/// Adds texts one after another.
+/// Adds texts, one after another.
 pub(crate) fn push_all(out: &mut String, parts: &[&str]) -> Result<(), AllocError>
     ensures { OnOk result (string_bytes out.new ≡ string_bytes out.old
         ++ concat (map (λ part. part.now) parts.now)) }
@@ -20,7 +20,7 @@ pub(crate) fn push_all(out: &mut String, parts: &[&str]) -> Result<(), AllocErro
     Ok(())
 }
 
-/// Returns the texts one after another.
+/// Returns the concatenation of texts.
 pub(crate) fn join_texts(alloc: Global, parts: &[&str]) -> Result<String, AllocError>
     ensures { IfOk result (λ text. string_bytes text ≡ concat (map (λ part. part.now) parts.now)) }
 {

@@ -14,7 +14,7 @@ use pb_place_types::PathText;
 use pb_profile::Settings;
 use std::alloc::{AllocError, Global};
 
-/// Returns whether a folder's path ends in a name.
+/// Returns whether the last part of a folder's path is this name.
 fn ends_in(alloc: Global, folder: &PathText, name: &str) -> Result<bool, AllocError>
     ensures { IfOk result (λ answer. answer ≡ ends_with nat_eq folder.now (codes "/" ++ name.now)) }
 {
@@ -55,7 +55,7 @@ fn required_list(alloc: Global, features: &[Text]) -> Result<String, AllocError>
     join_texts(alloc, &[",\"required-features\":", list.as_str()])
 }
 
-/// Returns the member for required features, or nothing if there are none.
+/// Returns the member for required features, or an empty text if there are no required features.
 fn required_text(alloc: Global, features: &[Text]) -> Result<String, AllocError>
     ensures { IfOk result (λ text. string_bytes text ≡ required_text features.now) }
 {
@@ -198,7 +198,7 @@ fn push_diagnostic(out: &mut String, subject: &str, text: &str) -> Result<(), Al
     )
 }
 
-/// Returns the file if it is executable, else null.
+/// Returns the file if the file is executable, and null otherwise.
 fn executable_text(alloc: Global, artifact: &Artifact) -> Result<String, AllocError>
     ensures { IfOk result (λ text. string_bytes text
         ≡ executable_text artifact.now.is_executable artifact.now.file) }

@@ -1,4 +1,4 @@
-//! Messages as values. A message does not contain whether a child was started for its unit.
+//! Messages as values. A message does not say whether a child process was started for its unit.
 
 use pb_data::{Items, Text};
 use pb_place_types::PathText;
@@ -22,11 +22,11 @@ pub struct Artifact {
     pub features: Items<Text>,
     /// The file.
     pub file: PathText,
-    /// Whether the file is executable: whether it is a binary's.
+    /// Whether the file is executable, as the file of a binary is.
     pub is_executable: bool,
 }
 
-/// What a build script passes to the compiler, each list in printed order.
+/// What a build script passes to the compiler. Each list is in printed order.
 #[derive(Drop)]
 pub struct Executed {
     /// Libraries to link.

@@ -14,7 +14,8 @@ use std::alloc::{AllocError, Global};
 pub struct Target {
     /// Its kinds: a library's crate types, `bin`, or `custom-build` for a script.
     pub kinds: Items<Text>,
-    /// The crate types to which it is compiled: a library's, else `bin`.
+    /// The crate types to which it is compiled: the crate types of a library, and `bin` for any
+    /// other target.
     pub crate_types: Items<Text>,
     /// A library's crate name, a binary's name, or `build-script-build`.
     pub name: Text,

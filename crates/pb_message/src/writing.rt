@@ -11,10 +11,11 @@ use pb_place_types::{Out, write_all};
 #[derive(Clone, Copy, Debug, PartialEq, Eq)]
 pub struct SinkFault;
 
-/// Writes lines into a sink: all of their bytes, or the first n but not all.
+/// Writes lines into a sink. After success all bytes are written. After an error only the first n
+/// bytes are written, but not all.
 ///
-/// Errors: `SinkFault`, if the sink fails or takes none of some bytes. The sink's failures have
-/// risen then, and nothing is written after that.
+/// Errors: `SinkFault`, if the sink fails, or takes no byte of a write. In this case the number of
+/// the sink's failures has risen, and nothing more is written.
 pub fn write_lines<O: Out>(out: &mut O, lines: &str) -> Result<(), SinkFault>
     ensures all { OnOk result (Appends (O.heard out.old).taken (O.heard out.new).taken lines.now) }
     ensures whole { OnOk result ((O.heard out.new).faults ≡ (O.heard out.old).faults) }

@@ -1,4 +1,5 @@
-//! The present value of an input is compared with the recorded one without having both in memory.
+//! The present value of an input is compared with the recorded value. Both values are never in
+//! memory at the same time.
 
 ghost use Rattle.std.specs.Prelude.{◌≡◌, ◌∷◌, ◌&&◌, [], map, IsTrue, IfOk, Decides};
 ghost use Rattle.std.specs.FinMap as finite;
@@ -143,8 +144,8 @@ pub(crate) fn are_files<P: Place>(
     }
 }
 
-/// Returns whether a path is a file with these bytes. If there is no file, it looks at the folder,
-/// as the reading of the present value does.
+/// Returns whether a path is a file with these bytes. If there is no file, the function looks at
+/// the folder, as the reading of the present value does.
 fn is_file_present<P: Place>(
     alloc: Global,
     place: &mut P,
@@ -221,7 +222,8 @@ fn is_value_present<P: Place>(
     }
 }
 
-/// Returns whether an input has its present value. Nothing at or below the target folder is looked at.
+/// Returns whether the recorded value of an input is the present value. Nothing at or below the
+/// target folder is looked at.
 pub(crate) fn is_present<P: Place>(
     alloc: Global,
     place: &mut P,

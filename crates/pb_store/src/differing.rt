@@ -1,4 +1,4 @@
-//! What differs from the record of a unit since it was kept.
+//! The differences between a unit and its record.
 
 ghost use Rattle.std.specs.Prelude.{◌≡◌, ◌∷◌, [], true, false, IsTrue, IfOk, MatchOption, Decides};
 ghost use Rattle.pb_place_types.specs.declared.call.Call.TheVariants as call;
@@ -37,7 +37,7 @@ fn name_of(alloc: Global, input: &Input) -> Result<InputName, AllocError>
     }
 }
 
-/// Returns the name of the first input whose value is not the present one.
+/// Returns the name of the first input whose recorded value is not the present value.
 fn first_input<P: Place>(
     alloc: Global,
     place: &mut P,
@@ -130,9 +130,9 @@ fn first_copy<P: Place>(
     Ok(None)
 }
 
-/// Returns the key of the first needed unit that is not as the record names it, by the record's
-/// format. For units that are named by number, the store's numbers are used instead of their
-/// records.
+/// Returns the key of the first needed unit that does not agree with the record. The record's
+/// format determines what is compared. For units that are named by number, the store's numbers are
+/// used instead of their records.
 #[tactic(auto, using(crate::proofs::Held::first_by_number))]
 fn first_need<P: Place>(
     alloc: Global,
@@ -219,7 +219,8 @@ impl Store {
     /// Returns the first difference between a unit and its record, for a command that would build
     /// it again. If nothing differs, the recorded answer is returned. Each input is read and
     /// compared in turn, up to the first that differs. The records of needed units are not read,
-    /// because the store has their run numbers. When a unit is built again is our own rule.
+    /// because the store has their run numbers. The rule for when a unit is built again is our own
+    /// choice.
     ///
     /// Errors: `Place` if a file or a variable cannot be read, or a folder cannot be listed;
     /// `OutOfMemory`.
@@ -309,7 +310,7 @@ impl Store {
         ensures ended { IsTrue P.is_modelled →
             IfOk result (IsAnswered (records self.now.folder (P.at place.old).world key.now)) }
 
-        // It only reads the record. Over a place that is not modelled the record may be gone.
+        // The call only reads the record. At a place that is not modelled, the record may be gone.
         ensures quiet { IsTrue P.is_modelled →
             OnlyLooks MayRead result (P.at place.old) (P.at place.new) }
         ensures looks { IsTrue P.is_modelled →

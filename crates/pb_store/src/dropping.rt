@@ -1,4 +1,4 @@
-//! A record is dropped, and the run number of the next one is taken.
+//! A record is dropped, and the run number of the next record is taken.
 
 ghost use Rattle.std.specs.Prelude.{◌≡◌, IsTrue, MatchResult, OnOk, OnErr};
 ghost use Rattle.pb_place_types.specs.declared.call.Call.TheVariants as call;

@@ -12,7 +12,7 @@ pub enum StoreFault {
     /// A call of the place failed.
     #[error("{}", .0)]
     Place(PlaceFault),
-    /// No run number is left: a record of the folder names 18446744073709551615, or that number was
+    /// No run number is left: a record of the folder names 18446744073709551615, or this number was
     /// taken. Nothing was removed.
     #[error("no run number is left")]
     NumbersSpent,
@@ -21,7 +21,8 @@ pub enum StoreFault {
     OutOfMemory,
 }
 
-/// Returns the fault of a call of the place as one of the store. Out of memory stays out of memory.
+/// Returns the fault of a call of the place as a fault of the store. Out of memory stays out of
+/// memory.
 pub(crate) fn store_error(fault: PlaceFault) -> StoreFault
     ensures { result ≡ stored fault }
 {
@@ -43,8 +44,8 @@ pub enum OpenFault {
     OutOfMemory,
 }
 
-/// Returns the fault of a call of the place on this path as one of opening. Out of memory stays out
-/// of memory.
+/// Returns the fault of a call of the place on this path as a fault of opening. Out of memory stays
+/// out of memory.
 pub(crate) fn open_error(path: PathText, fault: PlaceFault) -> OpenFault
     ensures { result ≡ opened path fault }
 {

@@ -1,4 +1,4 @@
-//! The record of a unit that was built is kept, with the run number that was taken for it.
+//! The record of a unit that was built is kept, with the run number that was taken for the record.
 
 ghost use Rattle.std.specs.Prelude.{◌≡◌, true, IsTrue, IfOk, OnOk, OnErr, Some, map};
 ghost use Rattle.std.specs.List.{concat};
@@ -216,8 +216,8 @@ fn watch<P: Place>(
     }
 }
 
-/// Returns whether all that the child of a command read stood still since the spawn. This is about
-/// these inputs, and about what units wrote into the folders that the command reads.
+/// Returns whether nothing that the child of a command read has moved since the child was spawned.
+/// The child read these inputs, and what units wrote into the folders that the command reads.
 fn stood_still<P: Place>(
     alloc: Global,
     place: &mut P,
@@ -233,8 +233,8 @@ fn stood_still<P: Place>(
     Ok(place.stood_still(command))
 }
 
-/// Writes a record, unless something that the child of its command read has moved. The look for
-/// this comes after the record is made: what changes later differs from the recorded values.
+/// Writes a record, unless something that the child of its command read has moved. The check comes
+/// after the record is made. If something changes later, it differs from the recorded value.
 fn put_still<P: Place>(
     alloc: Global,
     place: &mut P,
@@ -276,9 +276,9 @@ impl Store {
     /// Requires: the command writes into the unit's folder, and its variables are sorted by name,
     /// each name once.
     ///
-    /// If something that the child read has moved since it was spawned (`Place::watch`), no record
-    /// is written. The child may not have read the present values then. At a modelled place nothing
-    /// moves.
+    /// If something that the child read has moved since the child was spawned (`Place::watch`), no
+    /// record is written. In this case the child may not have read the present values. At a
+    /// modelled place nothing moves.
     pub fn keep<P: Place>(
         &mut self,
         alloc: Global,
@@ -328,7 +328,7 @@ impl Store {
             Ok(kept) => kept,
             Err(fault) => return Err(fault),
         };
-        // The number is noted before the write: no call comes after it.
+        // The number is noted before the write, so that no call comes after the write.
         match note(alloc, &mut self.numbers, text, Some(number)) {
             Ok(()) => {}
             Err(fault) => {

@@ -4,24 +4,24 @@ ghost use Rattle.pb_store.specs.Asking.{FirstNameIsFirst};
 ghost use Rattle.pb_store.specs.Differences.{DifferencesAreOne, UnchangedIsSame};
 ghost use Rattle.pb_store.specs.Looking.{TestsDecide};
 
-/// States that the world determines the first difference of a unit: two calls of `differs` in one
-/// world that return no error return the same.
+/// States that the world determines the first difference of a unit: if two calls of `differs` in
+/// the same world return no error, both return the same.
 pub fn differences_are_one()
     ensures { DifferencesAreOne }
 {}
 
 /// States a fact about the name that `differs` returns for two rows of variables, each sorted by
 /// name. The name is the first, in byte order, at which the rows differ. At this name only one row
-/// has a text, or their texts differ. At each lesser name both have the same text, or neither has
-/// one.
+/// has a text, or their texts differ. At each lesser name both rows have the same text, or neither
+/// row has a text.
 pub fn first_name_is_first()
     ensures { FirstNameIsFirst }
 {}
 
-/// States that the tests that determine how far `differs` looks decide the facts that make a
-/// difference. These facts are the present value of an input, and each part and variable of a
-/// command. The files of a needed unit are such a fact, too, if the record names the unit by its
-/// files.
+/// `differs` uses tests to determine how far it looks. This law states that the tests decide the
+/// facts that make a difference. These facts are the present value of an input, and each part and
+/// variable of a command. The files of a needed unit are such a fact, too, if the record names the
+/// unit by its files.
 pub fn tests_decide()
     ensures { TestsDecide }
 {}

@@ -19,7 +19,8 @@ use pb_place_types::Place;
 use pb_record::{Needed, Record};
 use std::alloc::Global;
 
-/// Returns a record with a number and the numbers of the needed units, instead of copies.
+/// Returns a record that contains a number and the numbers of the needed units, instead of copies
+/// of their files.
 fn numbered_record(kept: Record, number: u64, numbers: Items<(Text, u64)>) -> Record
     ensures { result ≡ numbered_record kept number numbers }
 {
@@ -84,8 +85,8 @@ impl Store {
                 return Err(fault);
             }
         }
-        // The number is taken before the write: a torn write may have used it, whether the record
-        // exists or not.
+        // The number is taken before the write. An incomplete write may have used the number,
+        // whether the record exists or not.
         self.next = number_after(number);
         match put_record(alloc, place, &self.folder, key, kept) {
             Ok(()) => Ok(()),
@@ -95,9 +96,9 @@ impl Store {
 
     /// Gives a unit's record of format 1 the next run number, names the needed units by their
     /// numbers, and rewrites the record in format 2. If the record is of format 2, or no record
-    /// counts, it changes nothing. `needs` are the keys of the units that the unit needs, in plan
-    /// order. After an error the unit has its old record, none, or the new one. If the write
-    /// failed, the number is taken; after any other error it may be taken. The contract then
+    /// counts, the function changes nothing. `needs` are the keys of the units that the unit needs,
+    /// in plan order. After an error the unit has its old record, none, or the new one. If the
+    /// write failed, the number is taken; after any other error it may be taken. The contract then
     /// promises nothing about the run numbers in the store.
     ///
     /// Errors: `NumbersSpent` only if the record is of format 1 and no number is left, and then

@@ -27,7 +27,7 @@ fn number_in(numbers: &Table<Option<u64>>, key: &Text) -> Option<u64>
     }
 }
 
-/// Returns whether this is the number.
+/// Returns whether a number was found and is equal to this number.
 fn is_number(found: Option<u64>, number: u64) -> bool
     ensures { Decides result (found ≡ Some number) }
 {
@@ -100,7 +100,7 @@ pub(crate) fn with_numbers(
     Ok(pairs)
 }
 
-/// Notes the number of a unit's record, or that it has none.
+/// Notes the number of a unit's record, or that there is no number.
 ///
 /// Errors: only `OutOfMemory`.
 pub(crate) fn note(

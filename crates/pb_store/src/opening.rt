@@ -78,8 +78,8 @@ fn numbers_in(alloc: Global, text: &Option<Bytes>) -> Result<Option<Numbers>, Al
     }
 }
 
-/// Returns the greatest number that the record at a path has or names. If the record counts, it
-/// notes the record's number.
+/// Returns the greatest number that the record at a path has or names. If the record counts, the
+/// function notes the record's number.
 #[tactic(auto, using(crate::proofs::Numbered::number_laws))]
 fn read_greatest<P: Place>(
     alloc: Global,
@@ -121,8 +121,8 @@ fn read_greatest<P: Place>(
     }
 }
 
-/// If a file has the name of a record, returns the greatest number that the record has or names;
-/// else 0. If the record counts, it notes the record's number.
+/// If a file has the name of a record, returns the greatest number that the record has or names.
+/// For any other file, returns 0. If the record counts, the function notes the record's number.
 fn greatest_at<P: Place>(
     alloc: Global,
     place: &mut P,

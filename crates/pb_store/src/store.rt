@@ -14,17 +14,17 @@ use pb_place_types::{PathText, Place, RelativePath};
 use pb_record::{Record, read_record};
 use std::alloc::{AllocError, Global};
 
-/// The run numbers of the records of a profile folder, and the next number. It contains no record.
+/// The run numbers of the records of a profile folder, and the next number. The store contains no
+/// record.
 #[derive(Debug, Drop)]
 pub struct Store {
     /// The profile folder.
     pub folder: PathText,
-    /// The next run number, which is above each number that a record of the folder has or names.
-    /// Each number that was taken since the store was opened is below it, too. Without a number
-    /// left, there is no next number.
+    /// The next run number. It is above each number that a record of the folder has or names, and
+    /// above each number that was taken since the store was opened. None if no number is left.
     pub next: Option<u64>,
     /// The run numbers of the records that count in the folder, by the units' keys. After a failed
-    /// removal or write of a record, contracts promise nothing about them.
+    /// removal or write of a record, contracts promise nothing about these numbers.
     pub numbers: Table<Option<u64>>,
 }
 

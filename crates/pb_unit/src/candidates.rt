@@ -61,7 +61,7 @@ fn asks_binary(selection: &Selection, name: &Text) -> bool
     selection.bins || is_mentioned(selection.bin.as_slice(), name) || asks_all(selection)
 }
 
-/// Adds a binary, if it is a root.
+/// Adds a binary if the binary is a root.
 fn add_binary(
     alloc: Global,
     found: &mut Vec<Named>,
@@ -131,7 +131,7 @@ fn add_selected(
     )
 }
 
-/// Returns the binaries that are roots, as they come.
+/// Returns the binaries that are roots, in the order in which they are found.
 fn all_named(
     alloc: Global,
     workspace: &Workspace,

@@ -12,11 +12,12 @@ use std::alloc::AllocError;
 /// What a unit needs of the package to which an enabled entry leads.
 #[derive(Clone, Copy)]
 pub(crate) enum Need {
-    /// By a normal entry, its library, on the same side.
+    /// For a normal entry: the package's library, on the same side.
     Lib,
-    /// By a build entry, its library, on the host's side.
+    /// For a build entry: the package's library, on the host's side.
     Tool,
-    /// By a normal entry, the run of its script, if it has a library and `links`.
+    /// For a normal entry: the run of the package's script, if the package has a library and
+    /// `links`.
     Run,
 }
 
@@ -155,7 +156,7 @@ pub(crate) fn add_needed(
     Ok(())
 }
 
-/// Adds the package's own library, if it has one.
+/// Adds the package's own library, if the package has a library.
 pub(crate) fn add_own_library(
     numbers: &mut Vec<usize>,
     workspace: &SettledWorkspace,
@@ -172,7 +173,7 @@ pub(crate) fn add_own_library(
     Ok(())
 }
 
-/// Adds the run of the package's own script, if it has one.
+/// Adds the run of the package's own script, if the package has a script.
 pub(crate) fn add_own_run(
     numbers: &mut Vec<usize>,
     workspace: &SettledWorkspace,

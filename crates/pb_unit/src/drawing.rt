@@ -14,12 +14,12 @@ use pb_graph::Node;
 use pb_workspace_types::{SelectedWorkspace, SettledWorkspace};
 use std::alloc::{AllocError, Global};
 
-/// The units that a plan may have, as the nodes of a graph, and which of them are roots.
+/// The units that a plan may have, as the nodes of a graph, and the nodes that are roots.
 #[derive(Drop)]
 pub(crate) struct Drawing {
     /// The units, by their numbers.
     pub(crate) units: Items<Unit>,
-    /// What each of them needs, by these numbers.
+    /// The numbers of the units that each unit needs.
     pub(crate) nodes: Items<Node>,
     /// The numbers of the roots.
     pub(crate) roots: Items<usize>,

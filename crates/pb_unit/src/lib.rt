@@ -1,5 +1,5 @@
-//! Units of a build and the plan of them: what the selected packages need, each after
-//! all that it needs (The Cargo Book, Build Scripts, Features, Profiles, cargo build).
+//! The units of a build, and their plan: all units that the selected packages need, each after the
+//! units that it needs (The Cargo Book, Build Scripts, Features, Profiles, cargo build).
 #![tactic(auto)]
 
 mod candidates;

@@ -25,7 +25,7 @@ fn sort_names(names: Vec<Text>) -> Items<Text>
     Items::from_vec(names)
 }
 
-/// Adds the name of the package to which an entry leads, if it has no library.
+/// Adds the name of the package to which an entry leads, if this package has no library.
 fn add_missing(
     alloc: Global,
     names: &mut Vec<Text>,
@@ -72,7 +72,8 @@ fn add_all_missing(
     Ok(())
 }
 
-/// Returns the names of the packages without a library to which enabled entries lead, as they come.
+/// Returns the names of the packages without a library to which enabled entries lead, in the order
+/// in which they are found.
 fn all_missing(
     alloc: Global,
     workspace: &Workspace,
@@ -111,7 +112,7 @@ fn name_behind<'a>(workspace: &'a Workspace, units: &[Unit], node: usize) -> &'a
     }
 }
 
-/// Returns the names of the packages of some units, as they come.
+/// Returns the names of the packages of some units, in the order in which they are found.
 fn all_behind(
     alloc: Global,
     workspace: &Workspace,

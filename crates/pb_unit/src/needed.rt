@@ -83,7 +83,8 @@ fn by_run(
     Ok(numbers)
 }
 
-/// Returns what a unit needs: an own library, libraries, tools and runs, by what the unit makes.
+/// Returns what a unit needs: its own library, other libraries, tools and runs. What the unit makes
+/// determines which of these it needs.
 pub(crate) fn needed_by(
     alloc: Global,
     workspace: &SettledWorkspace,

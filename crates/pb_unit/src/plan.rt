@@ -35,22 +35,23 @@ pub struct Planned {
     pub unit: Unit,
     /// Its key.
     pub key: Text,
-    /// Its output folder: the folder named as its key, in the
-    /// folder of the profile, in the target folder.
+    /// Its output folder: the folder with the unit's key as its name, in the folder of the profile,
+    /// in the target folder.
     pub out: PathText,
-    /// 0 if it needs nothing, else one more than the greatest level of what it needs.
+    /// Its level: 0 if the unit needs nothing, and otherwise one more than the greatest level of
+    /// the units that it needs.
     pub level: usize,
-    /// The indices, in the plan, of what it needs, ascending, each once.
+    /// The indices, in the plan, of the units that it needs, ascending, each once.
     pub needs: Items<usize>,
-    /// The indices, in the plan, of what it needs, of what that needs, and so on, ascending, each
-    /// once.
+    /// The indices, in the plan, of all units that it reaches: the units that it needs, the units
+    /// that those need, and so on. The indices are ascending, each once.
     pub reaches: Items<usize>,
     /// The settings of its package in the unit's role.
     pub settings: Settings,
 }
 
-/// A plan: the units of the selected packages, each once and
-/// after all that it needs. A unit is known by its index.
+/// A plan: the units of the selected packages, each once and after all units that it needs. An
+/// index identifies a unit.
 #[derive(Drop)]
 pub struct Plan {
     /// The units by level, and then by the bytes of their keys: at least 1, at most 4,096.
@@ -72,15 +73,15 @@ fn workspace_of<'a>(selected: &'a SelectedWorkspace<'_>) -> &'a Workspace
     selected.workspace().get()
 }
 
-/// The line of the requested profile, and its folder.
+/// The line of the requested profile, and the folder of its output.
 #[derive(Drop)]
 struct ProfileContext<'a> {
     line: Vec<Ancestor<'a>>,
     folder: PathText,
 }
 
-/// Returns the folder of a profile's output in the target
-/// folder, if the profile's own folder has a name.
+/// Returns the folder of a profile's output in the target folder, if there is a name for this
+/// folder.
 fn folder_in(
     alloc: Global,
     workspace: &Workspace,
@@ -127,7 +128,7 @@ fn profile_context<'a>(
     }
 }
 
-/// Returns why an order is refused, as a fault of a plan.
+/// Returns the reason why there is no order of the units, as a fault of a plan.
 fn refusal(alloc: Global, workspace: &Workspace, units: &[Unit], fault: OrderFault) -> PlanFault
     ensures { (result ≡ OutOfMemory) ⊎ IsRefusal workspace.now units.now fault result }
 {
@@ -143,7 +144,7 @@ fn refusal(alloc: Global, workspace: &Workspace, units: &[Unit], fault: OrderFau
     }
 }
 
-/// Returns the order of the roots and all that they reach.
+/// Returns the order of the roots and of all units that the roots reach.
 fn order_units(
     alloc: Global,
     selected: &SelectedWorkspace<'_>,
@@ -244,21 +245,20 @@ fn all_made(
 impl Plan {
     /// Returns the plan of the selected packages under a profile (The Cargo Book, cargo build).
     ///
-    /// Its roots are the libraries and binaries of the selected packages, made for
-    /// the target. If `--lib`, `--bins` or `--bin NAME` is given, only those that
-    /// at least one of these names are roots. A binary whose required features are
-    /// not all on is left out. The plan is the roots and all that they reach:
+    /// The roots of the plan are the libraries and binaries of the selected packages, made for the
+    /// target. If `--lib`, `--bins` or `--bin NAME` is given, a library or binary is a root only if
+    /// at least one of these options selects it. A binary is left out if one of its required
+    /// features is off. The plan contains the roots and all units that the roots reach:
     ///
-    /// - a library needs those of its enabled dependencies that
-    ///   have one, and the run of its own script;
-    /// - a binary needs its own library, and what that would need;
+    /// - a library needs the libraries of its enabled dependencies, and the run of its own script;
+    /// - a binary needs its own library, and all that this library would need;
     /// - a script needs the host's libraries of its enabled build dependencies;
     /// - a run needs its script, and the runs of the enabled
     ///   dependencies with a library and `links`.
     ///
-    /// Errors, in this order: `Profile`, if the profile has no settings; `Cycle`, if
-    /// units of the plan reach themselves; `TooManyUnits`, if there are more than
-    /// 4,096; `NothingToBuild`, if there are none. Besides these, only out of memory.
+    /// Errors, in this order: `Profile`, if the profile has no settings; `Cycle`, if units of the
+    /// plan reach themselves; `TooManyUnits`, if there are more than 4,096 units; `NothingToBuild`,
+    /// if there is no unit. The only other error is `OutOfMemory`.
     pub fn plan(
         alloc: Global,
         selected: &SelectedWorkspace<'_>,
@@ -308,15 +308,15 @@ impl Plan {
         }
     }
 
-    /// Returns the units in plan order. It uses no memory.
+    /// Returns the units in plan order. No memory is used.
     pub fn units(&self) -> &[Planned]
         ensures { result.now ≡ self.now.planned }
     {
         self.planned.as_slice()
     }
 
-    /// Returns the indices of what the unit at this index needs, in plan order, or none if there is
-    /// no unit. No memory is used.
+    /// Returns the indices of the units that the unit at this index needs, in plan order. If there
+    /// is no unit at this index, the result is empty. No memory is used.
     pub fn needs(&self, place: usize) -> &[usize]
         ensures { result.now ≡ needs_in (slice_get self.now.planned place) }
     {
@@ -326,9 +326,9 @@ impl Plan {
         }
     }
 
-    /// Returns the level of the unit at this index. The level is 0 if the unit needs nothing, or
-    /// does not exist, and otherwise one more than the greatest level of what it needs. No memory
-    /// is used.
+    /// Returns the level of the unit at this index. The level is 0 if the unit needs nothing or
+    /// does not exist. Otherwise it is one more than the greatest level of the units that this unit
+    /// needs. No memory is used.
     pub fn level(&self, place: usize) -> usize
         ensures { result ≡ level_at self.now.planned place }
     {
@@ -338,8 +338,8 @@ impl Plan {
         }
     }
 
-    /// Returns the indices of all that the unit at this index reaches, in plan order, or none if
-    /// there is no unit. No memory is used.
+    /// Returns the indices of all units that the unit at this index reaches, in plan order. If
+    /// there is no unit at this index, the result is empty. No memory is used.
     pub fn reaches(&self, place: usize) -> &[usize]
         ensures { result.now ≡ reaches_in (slice_get self.now.planned place) }
     {
@@ -350,7 +350,7 @@ impl Plan {
     }
 
     /// Returns the names of the packages without a library to which enabled dependencies lead, in
-    /// byte order, each once. The plan has no unit of these packages. It uses no memory.
+    /// byte order, each once. The plan has no unit of these packages. No memory is used.
     pub fn without_library(&self) -> &[Text]
         ensures { result.now ≡ self.now.without_library }
     {

@@ -1,4 +1,4 @@
-//! Which units a build must make.
+//! The units that a build must make.
 
 ghost use Rattle.std.specs.Prelude.{◌≡◌, ◌↔◌, ℕ, ◌<◌, true, IfOk, All, Contains, length};
 ghost use Rattle.pb_graph.specs.Closure.{is_on};
@@ -12,7 +12,7 @@ use pb_graph::derive;
 use pb_workspace_types::{SelectedWorkspace, SettledWorkspace, Side};
 use std::alloc::{AllocError, Global};
 
-/// Returns whether it is the target's side.
+/// Returns whether a side is the target's side.
 fn is_target(side: Side) -> bool
     ensures { result ≡ is_target side }
 {

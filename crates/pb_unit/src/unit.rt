@@ -20,13 +20,14 @@ pub enum What {
     Run,
 }
 
-/// A unit of a build: one thing that is made of a package on a side (The Cargo Book, cargo build).
-/// What is made for the host is never shared with what is made for the target (our own choice).
+/// A unit of a build: one thing that the build makes of a package for a side (The Cargo Book, cargo
+/// build). What is made for the host is never shared with what is made for the target (our own
+/// choice).
 #[derive(Drop)]
 pub struct Unit {
     /// The index of its package in the workspace.
     pub owner: usize,
-    /// The side that it is made for.
+    /// The side for which it is made.
     pub side: Side,
     /// What is made.
     pub what: What,
@@ -64,7 +65,7 @@ fn side_name(side: Side) -> &'static str
     }
 }
 
-/// Returns the name of the package at an index; the empty text if there is none.
+/// Returns the name of the package at an index, or the empty text if there is no package.
 pub(crate) fn name_at(workspace: &Workspace, place: usize) -> &str
     ensures { result.now ≡ name_at workspace.now place }
 {
@@ -92,8 +93,8 @@ fn push_what(text: &mut String, what: &What) -> Result<(), AllocError>
 
 impl Unit {
     /// Returns the key of the unit in folders, records and messages: `PACKAGE.SIDE.WHAT`. SIDE is
-    /// `host` or `target`, and WHAT is `lib`, `bin-NAME`, `script` or `run` (our own choice). The
-    /// workspace is that of the plan.
+    /// `host` or `target`, and WHAT is `lib`, `bin-NAME`, `script` or `run` (our own choice).
+    /// `workspace` is the workspace of the plan.
     ///
     /// Errors: out of memory.
     pub fn key(&self, alloc: Global, workspace: &Workspace) -> Result<Text, AllocError>
@@ -108,9 +109,9 @@ impl Unit {
         Ok(Text::new(text))
     }
 
-    /// Returns the role of the unit's settings (The Cargo Book, Profiles). A build script, and all
-    /// that is made for the host, has the host's role. Any other unit has the target's role. A run
-    /// of a script has the role of its side.
+    /// Returns the role of the unit's settings (The Cargo Book, Profiles). A compile of a build
+    /// script has the host's role, and so has each unit that is made for the host. Any other unit
+    /// has the target's role. A run of a script has the role of its side.
     pub fn role(&self) -> Side
         ensures { result ≡ role_of self.now }
     {
