@@ -47,8 +47,8 @@ fn push_reads(
     Ok(())
 }
 
-/// Returns the output folders of all units that a unit reaches, in plan order: what its child may
-/// read.
+/// Returns the output folders of all units that a unit reaches, in plan order: these are the
+/// folders that its child may read.
 ///
 /// Errors: only out of memory.
 pub fn reads_of(
@@ -72,7 +72,7 @@ fn push_folder(alloc: Global, words: &mut Items<Text>, folder: &str) -> Result<(
     push_option(alloc, words, "-L", text.as_str())
 }
 
-/// Adds `-L` and the folder of the unit at an index, if it is a library.
+/// Adds `-L` and the folder of the unit at an index, if the unit is a library.
 fn push_folder_at(
     alloc: Global,
     words: &mut Items<Text>,
@@ -153,7 +153,7 @@ fn extern_text(alloc: Global, name: &str, path: &str) -> Result<String, AllocErr
     Ok(text)
 }
 
-/// Inserts a library by its name and its file, or nothing if the unit needs no such library.
+/// Inserts a library by its name and its file. If the unit needs no such library, inserts nothing.
 fn put_extern(
     alloc: Global,
     all: &mut TextMap,
@@ -304,10 +304,10 @@ fn push_externs(
     push_each_extern(alloc, words, all.as_slice())
 }
 
-/// Adds the folders of libraries, and the libraries (The Cargo Book, Specifying Dependencies). `-L
-/// dependency=FOLDER` is added for each library that the unit reaches, in plan order. `--extern
-/// NAME=FILE` is added for the library of each enabled entry, and for a binary's own library. Each
-/// library is added once, in byte order of the name and then of the file.
+/// Adds the folders of libraries, and the libraries (The Cargo Book, Specifying Dependencies). For
+/// each library that the unit reaches, `-L dependency=FOLDER` is added, in plan order. For the
+/// library of each enabled entry, and for a binary's own library, `--extern NAME=FILE` is added.
+/// Each of these libraries is added once, in byte order of the name and then of the file.
 ///
 /// Errors: only out of memory.
 pub fn push_libraries(

@@ -14,7 +14,7 @@ use pb_unit::{Planned, What};
 use pb_workspace_types::{Library, Package};
 use std::alloc::{AllocError, Global};
 
-/// Adds a directive's search folder, if it has one.
+/// Adds a directive's search folder, if the directive has a search folder.
 fn push_search(
     alloc: Global,
     words: &mut Items<Text>,
@@ -42,7 +42,7 @@ fn push_searches(
     Ok(())
 }
 
-/// Adds a directive's library to link, if it has one.
+/// Adds a directive's library to link, if the directive has such a library.
 fn push_link(
     alloc: Global,
     words: &mut Items<Text>,
@@ -66,7 +66,7 @@ fn push_links(alloc: Global, words: &mut Items<Text>, said: &[Directive]) -> Res
     Ok(())
 }
 
-/// Adds a directive's condition that is on, if it has one.
+/// Adds a directive's condition that is on, if the directive has such a condition.
 fn push_condition(
     alloc: Global,
     words: &mut Items<Text>,
@@ -94,7 +94,7 @@ fn push_conditions(
     Ok(())
 }
 
-/// Adds a directive's expected conditions, if it has some.
+/// Adds a directive's expected conditions, if the directive has such conditions.
 fn push_check(
     alloc: Global,
     words: &mut Items<Text>,
@@ -123,7 +123,7 @@ fn push_checks(alloc: Global, words: &mut Items<Text>, said: &[Directive]) -> Re
     Ok(())
 }
 
-/// Adds a directive's linker flag for all targets, if it has one.
+/// Adds a directive's linker flag for all targets, if the directive has such a flag.
 fn push_argument(
     alloc: Global,
     words: &mut Items<Text>,
@@ -151,7 +151,7 @@ fn push_arguments(
     Ok(())
 }
 
-/// Adds a directive's linker flag for all binaries, if it has one.
+/// Adds a directive's linker flag for all binaries, if the directive has such a flag.
 fn push_binaries(
     alloc: Global,
     words: &mut Items<Text>,
@@ -179,7 +179,7 @@ fn push_all_binaries(
     Ok(())
 }
 
-/// Adds a directive's linker flag for the binary of this name, if it has one.
+/// Adds a directive's linker flag for the binary of this name, if the directive has such a flag.
 fn push_binary(
     alloc: Global,
     words: &mut Items<Text>,
@@ -333,7 +333,7 @@ fn push_own(
 }
 
 /// Adds the arguments that build scripts have requested (The Cargo Book, Build Scripts). `done`
-/// contains the directives of their runs, by their index in the plan.
+/// contains the directives of the scripts' runs, by the index of each run in the plan.
 ///
 /// Errors: only out of memory.
 pub fn push_said(

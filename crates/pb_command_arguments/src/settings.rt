@@ -36,7 +36,7 @@ fn is_binary(what: &What) -> bool
     }
 }
 
-/// Returns whether there is another value, and it is equal to this value.
+/// Returns whether the other value exists and is equal to this value.
 fn is_value(other: Option<Setting>, value: Setting) -> bool
     ensures { result ≡ is_value other value }
 {
@@ -46,7 +46,7 @@ fn is_value(other: Option<Setting>, value: Setting) -> bool
     }
 }
 
-/// Returns whether a key has no option.
+/// Returns whether a key with this value adds no option.
 fn is_untold(what: &What, key: ProfileKey, value: Setting) -> bool
     ensures { result ≡ is_untold what.now key value }
 {
@@ -66,7 +66,7 @@ fn value_text(alloc: Global, shown: &str, value: Setting) -> Result<String, Allo
     }
 }
 
-/// Adds the option of a key, if it has one.
+/// Adds the option of a key, if there is such an option.
 fn push_key(
     alloc: Global,
     words: &mut Items<Text>,

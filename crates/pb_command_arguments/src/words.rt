@@ -182,7 +182,7 @@ fn push_out(alloc: Global, words: &mut Items<Text>, folder: &str) -> Result<(), 
     push_option(alloc, words, "--out-dir", folder)
 }
 
-/// Adds the arguments of the output: the crate's types, the files, the unit's folder.
+/// Adds the arguments of the output: the crate's types, the kinds of files, and the unit's folder.
 ///
 /// Errors: only out of memory.
 pub fn push_output(
@@ -239,7 +239,7 @@ fn push_active(alloc: Global, words: &mut Items<Text>, names: &[Text]) -> Result
     Ok(())
 }
 
-/// Adds names after another name, between quotes.
+/// Adds names between quotes, each after a comma.
 fn push_more_quoted(text: &mut String, more: &[Feature]) -> Result<(), AllocError>
     ensures { OnOk result (string_bytes text.new ≡ string_bytes text.old
         ++ flat_map (λ (f : Feature). codes ", " ++ quoted f.name) more.now) }
@@ -251,7 +251,7 @@ fn push_more_quoted(text: &mut String, more: &[Feature]) -> Result<(), AllocErro
     Ok(())
 }
 
-/// Adds names between quotes.
+/// Adds names between quotes, with commas between them.
 fn push_all_quoted(text: &mut String, features: &[Feature]) -> Result<(), AllocError>
     ensures { OnOk result (string_bytes text.new ≡ string_bytes text.old
         ++ join_by (λ (f : Feature). quoted f.name) (codes ", ") features.now) }

@@ -33,7 +33,7 @@ fn set_package(
     Ok(())
 }
 
-/// Sets the package's description of itself.
+/// Sets the variables that describe the package to people.
 fn set_about(alloc: Global, all: &mut TextMap, about: &About) -> Result<(), AllocError>
     ensures { OnOk result (all.new ≡ all_set all.old (about_pairs about.now)) }
 {
@@ -48,7 +48,7 @@ fn set_about(alloc: Global, all: &mut TextMap, about: &About) -> Result<(), Allo
     Ok(())
 }
 
-/// The numbers of a version as decimal texts, and its pre-release.
+/// The numbers of a version as decimal texts, and the pre-release of the version.
 #[derive(Drop)]
 struct VersionTexts {
     major: String,
@@ -267,9 +267,9 @@ fn set_own(
 }
 
 /// Returns the variables of a command (The Cargo Book, Environment Variables): each name once, in
-/// byte order, with the last value that is set. A variable that the script of the unit's package
-/// has set wins. `done` contains the directives of the runs before the unit, by their index in the
-/// plan.
+/// byte order, with the last value that is set. If the script of the unit's package has set a
+/// variable, the script's value counts. `done` contains the directives of the runs before the unit,
+/// by the index of each run in the plan.
 ///
 /// Errors: only out of memory.
 #[tactic(auto, using(pb_command_types::proofs::NamedTexts::set_laws))]

@@ -13,7 +13,7 @@ use pb_directive::texts::{after_prefix, text_of};
 use pb_profile::{Ancestor, ProfileFault, line_of};
 use std::alloc::{AllocError, Global};
 
-/// Returns a text, unless it is absent or empty.
+/// Returns a text, or none if the text is absent or empty.
 fn unless_empty(text: Option<&str>) -> Option<&str>
     ensures { option_copied result ≡ unless_empty (option_copied text.entry) }
 {
@@ -46,7 +46,7 @@ pub(crate) fn triple_of(toolchain: &[u8]) -> &str
     ""
 }
 
-/// Returns whether one of some profiles is `release`.
+/// Returns whether one of these profiles is `release`.
 fn has_release(line: &[Ancestor]) -> bool
     ensures { result ≡ list_any (λ ancestor.
         bytes_eq (seen ancestor).name (codes "release")) line.now }
@@ -54,7 +54,7 @@ fn has_release(line: &[Ancestor]) -> bool
     line.iter().any(|ancestor| ancestor.name == "release")
 }
 
-/// Returns whether one of a line of profiles is `release`.
+/// Returns whether a profile in a line of profiles is `release`.
 #[tactic(auto, using(crate::proofs::Released::released_laws))]
 fn is_released(line: &[Ancestor]) -> bool
     ensures { result ≡ is_released (map seen line.now) }
@@ -73,8 +73,8 @@ fn released_text(line: &[Ancestor]) -> &'static str
     }
 }
 
-/// Returns the word of the profile: `release` for `release` and all that inherit from it, else
-/// `debug`.
+/// Returns the word of the profile. The word is `release` for `release` and for all profiles that
+/// inherit from `release`, and `debug` for any other profile.
 pub(crate) fn profile_word(alloc: Global, project: &Project) -> Result<&'static str, AllocError>
     ensures { IfOk result (λ text. text.now ≡ profile_word project.now) }
 {

@@ -231,7 +231,7 @@ fn set_all(alloc: Global, all: &mut TextMap, pairs: &[(Text, Text)]) -> Result<(
     Ok(())
 }
 
-/// Sets the metadata of a script that links this library.
+/// Sets the metadata that the script of a package with this native library has printed.
 fn set_metadata(
     alloc: Global,
     all: &mut TextMap,
@@ -245,7 +245,8 @@ fn set_metadata(
     set_all(alloc, all, pairs.as_slice())
 }
 
-/// Sets the metadata of the script of a package, if the package links a library.
+/// Sets the metadata that the script of a package has printed, if the package links a native
+/// library.
 fn set_linked(
     alloc: Global,
     all: &mut TextMap,
@@ -265,7 +266,7 @@ fn set_linked(
     }
 }
 
-/// Sets the metadata of a unit, if it is a run.
+/// Sets the metadata of a unit, if the unit is a run.
 fn set_passed_by(
     alloc: Global,
     all: &mut TextMap,

@@ -15,7 +15,8 @@ use pb_place_types::{Command, PathFault, PathText};
 use pb_record::InputName;
 use std::alloc::{AllocError, Global};
 
-/// Adds a path, unless it has been seen. `seen` has the texts of these paths.
+/// Adds a path, unless it has been seen. `seen` contains the texts of all paths that have been
+/// seen.
 fn mention(
     alloc: Global,
     paths: &mut Items<PathText>,
@@ -35,7 +36,7 @@ fn mention(
     Ok(())
 }
 
-/// Adds paths, one after another, unless they have been seen.
+/// Adds paths, one after another, except paths that have been seen.
 fn mention_all(
     alloc: Global,
     paths: &mut Items<PathText>,
@@ -62,7 +63,7 @@ fn paths_once(alloc: Global, said: Items<PathText>) -> Result<Items<PathText>, A
     Ok(paths)
 }
 
-/// Adds the path of a text relative to a folder, if it has one.
+/// Adds the path of a text relative to a folder, if the text has a path.
 #[tactic(auto, unfolding(crate::specs::Answers::path_said))]
 fn push_said<M: Meaning>(
     alloc: Global,
@@ -115,7 +116,7 @@ pub(crate) fn paths_from<M: Meaning>(
     paths_once(alloc, said)
 }
 
-/// Returns names as mentioned one after another.
+/// Returns the set of these names, inserted one after another.
 fn all_mentioned(alloc: Global, names: &[Text]) -> Result<OrderedSet, AllocError>
     ensures { IfOk result (λ made. made ≡ mentioned_all [] names.now) }
 {
@@ -165,7 +166,7 @@ fn is_source(command: &Command, path: &PathText) -> bool
 }
 
 /// Returns the first path that is in the target folder but in no folder of a reached unit, if there
-/// is one.
+/// is such a path.
 fn first_foreign<'a>(command: &Command, paths: &'a [PathText]) -> Option<&'a PathText>
     ensures { option_map (λ path. path.now) result ≡ find (is_foreign command.now) paths.now }
 {

@@ -1,4 +1,4 @@
-//! How a reply is judged.
+//! The judgement of a reply.
 
 ghost use Rattle.std.specs.Prelude.{◌≡◌, ◌++◌, ◌∷◌, [], IsTrue, IfOk, OnOk, option_map};
 ghost use Rattle.std.specs.List.{flat_map, list_any};
@@ -18,15 +18,16 @@ use pb_record::InputName;
 use pb_unit::{Planned, What};
 use std::alloc::{AllocError, Global};
 
-/// Returns whether bytes are too long for a stream or dep-info.
+/// Returns whether there are too many bytes for a stream or dep-info.
 fn is_too_long(bytes: &Bytes) -> bool
     ensures { result ≡ is_too_long bytes.now }
 {
     bytes.as_slice().len() > MAX_STREAM_BYTES
 }
 
-/// Returns the first fault of how a child ended, or none. `OutputTooLong` comes first, if a stream
-/// has more than 4,194,304 bytes, and then `Status`, if the status is not 0. No memory is used.
+/// Returns the fault of a child's end, or none. If a stream has more than 4,194,304 bytes, the
+/// fault is `OutputTooLong`. Otherwise the fault is `Status` if the status is not 0. No memory is
+/// used.
 pub fn ended_fault(ended: &Ended) -> Option<UnitFault>
     ensures { result ≡ ended_fault ended.now }
 {
@@ -52,7 +53,8 @@ fn info_in(alloc: Global, bytes: &Bytes) -> Result<DepInfo, UnitFault>
 
 /// Returns the dep-info of a compile.
 ///
-/// Errors: `NoDepInfo`, if there is none, it is too long, or it cannot be read; `OutOfMemory`.
+/// Errors: `NoDepInfo`, if there is no dep-info, or if the dep-info is too long or cannot be read;
+/// `OutOfMemory`.
 fn read_info(alloc: Global, dep_info: Option<&Bytes>) -> Result<DepInfo, UnitFault>
     ensures { UnlessOom unit_fault.OutOfMemory (λ info.
         info) result (read_info (option_map (λ bytes. bytes.now) dep_info.entry)) }
@@ -192,8 +194,8 @@ fn folder_inputs(
     inputs_of(alloc, command, paths, Items::new(alloc))
 }
 
-/// Returns the inputs for the paths and variables in lines, or for the whole folder if there are
-/// none.
+/// Returns the inputs for the paths and variables in lines, or for the whole folder if there is no
+/// path and no variable.
 fn rerun_inputs<M: Meaning>(
     alloc: Global,
     meaning: &M,
@@ -303,7 +305,7 @@ fn run_answered<M: Meaning>(
     })
 }
 
-/// Returns what a reply yields if its end is no fault.
+/// Returns what a reply yields, if the child's end is no fault.
 fn answered_by<M: Meaning>(
     alloc: Global,
     meaning: &M,
@@ -350,18 +352,18 @@ fn answered_with<M: Meaning>(
 }
 
 /// Returns what the reply of a unit's child yields. `dep_info` is the content of the file at
-/// `dep_info_path` of `pb_command_types`, or none if no file is there; for a run it has no effect.
+/// `dep_info_path` of `pb_command_types`, or none if there is no such file. For a run, `dep_info`
+/// has no effect.
 ///
-/// The inputs of a compile are the paths and variables of its dep-info (The Cargo Book, Build
-/// Cache), without the variables that the command sets. The inputs of a run are the paths and
-/// variables of its lines `rerun-if-changed` and `rerun-if-env-changed`. Without these lines, the
-/// folder of its package is the input (The Cargo Book, Build Scripts). Paths in the folder of a
-/// reached unit are left out, since that unit covers them. A text means the path of
-/// `PathText::join`.
+/// The inputs of a compile are the paths and variables of its dep-info, without the variables that
+/// the command sets (The Cargo Book, Build Cache). The inputs of a run are the paths and variables
+/// of its lines `rerun-if-changed` and `rerun-if-env-changed`. Without these lines, the folder of
+/// its package is the input (The Cargo Book, Build Scripts). Paths in the folder of a reached unit
+/// are left out, since the reached unit covers them. A text means the path of `PathText::join`.
 ///
-/// Errors, of which the first is returned:
+/// Errors (the first that occurs is returned):
 ///
-/// - `OutputTooLong` and `Status`, by `ended_fault`.
+/// - `OutputTooLong` and `Status`, as `ended_fault` determines.
 /// - For a run: `Directive`, if a line of its output has a fault; `ScriptError`, if a line is
 ///   `cargo::error`.
 /// - For a compile: `NoDepInfo`, if its dep-info does not exist, cannot be read, or has more than

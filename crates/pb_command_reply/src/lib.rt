@@ -1,5 +1,5 @@
-//! What a child's reply yields: its directives and inputs, or why it is bad (The Cargo Book, Build
-//! Scripts; the limits are our own choice).
+//! What a child's reply yields: directives and inputs, or the reason why the reply is bad (The
+//! Cargo Book, Build Scripts; the limits are our own choice).
 #![tactic(auto)]
 
 mod input_names;

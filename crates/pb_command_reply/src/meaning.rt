@@ -10,8 +10,8 @@ use std::alloc::Global;
 
 /// Determines the path of a text relative to a folder.
 pub(crate) trait Meaning {
-    /// Whether it is the normalised path, as `PathText::join` returns it. On a machine with links
-    /// it may be another path. Contracts promise nothing about that path.
+    /// Whether the result is the normalised path, as `PathText::join` returns it. On a machine with
+    /// links the result may be another path. Contracts promise nothing about such a path.
     ghost joins: { Bool };
 
     /// Returns the path of a text relative to a folder.
@@ -22,7 +22,7 @@ pub(crate) trait Meaning {
             UnlessOom path_fault.OutOfMemory (λ path. path) result (joined folder.now text.now) };
 }
 
-/// The path is determined by the text alone.
+/// The text alone determines the path.
 #[derive(Drop)]
 pub(crate) struct ByText {}
 
@@ -41,7 +41,7 @@ impl Meaning for ByText {
     }
 }
 
-/// The path is determined by a place.
+/// A place determines the path.
 #[derive(Drop)]
 pub(crate) struct ByPlace<'a, P> {
     /// The place that determines it.

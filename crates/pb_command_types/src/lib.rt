@@ -1,4 +1,4 @@
-//! What a build knows once it is planned: the project and its settings, what a unit produces and
+//! What a build knows after it is planned: the project and its settings, what a unit produces and
 //! where, what it needs, the directives of build scripts, what a good answer contains, and why an
 //! answer is bad. The crates that make the commands of units use this crate, as do the other crates
 //! about units.

@@ -17,21 +17,21 @@ pub fn unit_at(project: &Project, place: usize) -> Option<&Planned>
     project.plan.planned.as_slice().get(place)
 }
 
-/// Returns whether it is a library.
+/// Returns whether a unit is a library.
 pub fn is_library(what: &What) -> bool
     ensures { result ≡ is_library what.now }
 {
     matches!(what, What::Lib)
 }
 
-/// Returns whether it is a script.
+/// Returns whether a unit is a script.
 fn is_script(what: &What) -> bool
     ensures { result ≡ is_script what.now }
 {
     matches!(what, What::Script)
 }
 
-/// Returns whether it is the run of a script.
+/// Returns whether a unit is the run of a script.
 pub fn is_run(what: &What) -> bool
     ensures { result ≡ is_run what.now }
 {

@@ -6,7 +6,7 @@ use pb_feature_types::Features;
 use pb_unit::Plan;
 use pb_workspace_types::Workspace;
 
-/// All that a build knows about its workspace once it is planned.
+/// All that a build knows about its workspace after it is planned.
 #[derive(Drop)]
 pub struct Project {
     /// The workspace.
@@ -19,7 +19,7 @@ pub struct Project {
     pub profile: Text,
 }
 
-/// How things are compiled, by the variables and the options.
+/// How things are compiled, as the variables and the options determine it.
 #[derive(Drop)]
 pub struct Setup {
     /// The value of the variable `CARGO` of a child.
@@ -28,13 +28,13 @@ pub struct Setup {
     pub rustc: Text,
     /// The arguments in `RUSTFLAGS`.
     pub flags: Items<Text>,
-    /// The arguments before the path of a build script: a program and its arguments. Empty: the
-    /// script itself is started.
+    /// The arguments before the path of a build script: a program and its arguments. If they are
+    /// empty, the script itself is started.
     pub runner: Items<Text>,
     /// The compiler's output about its version: the standard output of `-vV`.
     pub toolchain: Bytes,
 }
 
-/// What the runs of build scripts have said, by the index of each unit in the plan. A run that
-/// succeeded has its directives, any other unit has none.
+/// The directives of the runs of build scripts, by the index of each unit in the plan. A run that
+/// succeeded has its directives. Any other unit has no directives.
 pub type Done<'a> = &'a [Option<Directives>];

@@ -28,8 +28,8 @@ pub fn folder_of<'a>(project: &'a Project, unit: &Planned) -> &'a PathText
     }
 }
 
-/// Returns the crate name of the library of the package at an index, or an empty name if it has
-/// none.
+/// Returns the crate name of the library of the package at an index, or an empty name if the
+/// package has no library.
 pub fn library_name(project: &Project, place: usize) -> &str
     ensures { result.now ≡ library_name
         (library_in (slice_get project.now.workspace.packages place)) }
@@ -59,7 +59,8 @@ pub fn crate_name_of(alloc: Global, project: &Project, unit: &Planned) -> Result
     }
 }
 
-/// Returns the path of the source of a package's library, or an empty path if it has none.
+/// Returns the path of the source of a package's library, or an empty path if the package has no
+/// library.
 fn library_source(owner: &Package) -> &str
     ensures { result.now ≡ library_source owner.now.library }
 {
@@ -69,8 +70,8 @@ fn library_source(owner: &Package) -> &str
     }
 }
 
-/// Returns the path of the source of a package's binary, or an empty path if it has none of this
-/// name.
+/// Returns the path of the source of a package's binary, or an empty path if the package has no
+/// binary of this name.
 fn source_of_binary<'a>(owner: &'a Package, name: &Text) -> &'a str
     ensures { result.now ≡ binary_source (binary_named name.now owner.now.binaries) }
 {
@@ -80,7 +81,7 @@ fn source_of_binary<'a>(owner: &'a Package, name: &Text) -> &'a str
     }
 }
 
-/// Returns the path of the source that a unit compiles, or an empty path if there is none.
+/// Returns the path of the source that a unit compiles, or an empty path if there is no source.
 pub fn source_by<'a>(owner: &'a Package, what: &What) -> &'a str
     ensures { result.now ≡ source_by owner.now what.now }
 {
@@ -95,7 +96,7 @@ pub fn source_by<'a>(owner: &'a Package, what: &What) -> &'a str
     }
 }
 
-/// Returns the file of a name in a folder, if it is the name of a file.
+/// Returns the file of this name in a folder, if the name is a file name.
 fn file_in(alloc: Global, folder: &PathText, name: String) -> Result<Option<PathText>, AllocError>
     ensures { IfOk result (λ file. file ≡ file_in folder.now (string_bytes name)) }
 {
@@ -108,7 +109,7 @@ fn file_in(alloc: Global, folder: &PathText, name: String) -> Result<Option<Path
     }
 }
 
-/// Returns a text between two others.
+/// Returns the concatenation of three texts.
 fn between(alloc: Global, first: &str, text: &str, last: &str) -> Result<String, AllocError>
     ensures { IfOk result (λ made. string_bytes made ≡ first.now ++ text.now ++ last.now) }
 {
@@ -118,7 +119,7 @@ fn between(alloc: Global, first: &str, text: &str, last: &str) -> Result<String,
     Ok(made)
 }
 
-/// Returns the file to which a crate is compiled in a folder.
+/// Returns the file in a folder to which a crate is compiled.
 fn file_by(
     alloc: Global,
     what: &What,
@@ -136,7 +137,8 @@ fn file_by(
 }
 
 /// Returns the file that a compile produces in its output folder: `libC.rlib` for a library, and
-/// `C` for a binary or a script. C is the crate's name (our own choice). A run produces none.
+/// `C` for a binary or a script. C is the crate's name (our own choice). A run produces no such
+/// file.
 ///
 /// Errors: only out of memory.
 pub fn made_file(
@@ -170,7 +172,7 @@ fn dep_info_by(
 }
 
 /// Returns the file in which a compile reports what it has read: `C.d` in its output folder. C is
-/// the crate's name (our own choice). A run has none.
+/// the crate's name (our own choice). A run has no such file.
 ///
 /// Errors: only out of memory.
 pub fn dep_info_path(

@@ -18,9 +18,9 @@ fn words(rt: &HostRuntime) -> io::Result<Items<Text>> {
 /// The status of a program that could not do its work.
 const FAILED: u8 = 2;
 
-/// Carries out what this process's arguments request, over its files and variables, and returns the
-/// status with which to end. The status is 2 if the arguments cannot be read, if a read or a write
-/// fails, or if memory runs out.
+/// Carries out what this process's arguments request, over its files and variables. Returns the
+/// status with which the process must end. The status is 2 if the arguments cannot be read, if a
+/// read or a write fails, or if memory runs out.
 pub fn compiler(rt: &HostRuntime) -> u8 {
     let Ok(words) = words(rt) else {
         return FAILED;

@@ -36,7 +36,7 @@ fn takes_value(word: &str) -> bool
         || word == "-l"
 }
 
-/// Returns the option whose value the next argument is.
+/// Returns the option in an argument, if the next argument is the value of this option.
 fn waiting_after(word: &str) -> Option<Waiting>
     ensures { result ≡ waiting_after word.now }
 {
@@ -64,7 +64,7 @@ fn out_dir_in(words: &[Text]) -> Option<&Text>
     None
 }
 
-/// Returns the folder of a text, or none if it is no absolute path.
+/// Returns the folder of a text, or none if the text is no absolute path.
 fn path_of(alloc: Global, text: &str) -> Result<Option<PathText>, AllocError>
     ensures { IfOk result (λ path. path ≡ path_of text.now) }
 {
@@ -75,7 +75,7 @@ fn path_of(alloc: Global, text: &str) -> Result<Option<PathText>, AllocError>
     }
 }
 
-/// Returns the folder in the variable `OUT_DIR`, if there is one.
+/// Returns the folder in the variable `OUT_DIR`, if the variable contains a folder.
 ///
 /// Errors: those of the view.
 fn out_dir_variable<V: View>(alloc: Global, view: &V) -> Result<Option<PathText>, ViewFault>
@@ -110,8 +110,8 @@ fn asks_run(words: &[Text]) -> bool
     }
 }
 
-/// Returns the folder in which the files of a reply are put, if there is one. A compile's folder is
-/// in its arguments, a run's is in `OUT_DIR`.
+/// Returns the folder in which the files of a reply are put, if there is such a folder. A compile's
+/// folder is in the arguments. A run's folder is in `OUT_DIR`.
 ///
 /// Errors: those of the view.
 pub(crate) fn out_folder<V: View>(

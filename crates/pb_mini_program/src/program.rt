@@ -16,9 +16,10 @@ use pb_mini::answer;
 use pb_place_types::{Out, PathText, Place, PlaceFault, RelativePath, View, write_all};
 use std::alloc::Global;
 
-/// Writes files in a folder, one after another, by their paths there.
+/// Writes files in a folder, one after another, at their paths relative to the folder.
 ///
-/// Errors: `Write`; `OutOfMemory`. The files before the failing one have been written then.
+/// Errors: `Write`; `OutOfMemory`. In this case the files before the failing file have been
+/// written.
 fn write_files<P: Place>(
     alloc: Global,
     place: &mut P,
@@ -43,7 +44,7 @@ fn write_files<P: Place>(
     Ok(())
 }
 
-/// Leaves the files of a reply in its output folder, if there is one.
+/// Writes the files of a reply in its output folder, if there is an output folder.
 ///
 /// Errors: `Read`, if the view fails; `Write`, if a file cannot be written; `OutOfMemory`.
 fn leave_files<P: Place, V: View>(
@@ -53,7 +54,7 @@ fn leave_files<P: Place, V: View>(
     place: &mut P,
     files: &[(RelativePath, Bytes)],
 ) -> Result<(), Fault>
-    // All files are put in the output folder, or none if there is no folder.
+    // All files are put in the output folder. If there is no folder, no file is written.
     ensures files { IsTrue V.is_modelled → IsTrue P.is_modelled → OnOk result
         (files.now ≡ (answered words.now [] (V.shown view.now)).files → (P.at place.new).world
         ≡ put_reply (out_folder words.now (V.shown view.now)) files.now (P.at place.old).world) }
@@ -88,7 +89,7 @@ fn leave_files<P: Place, V: View>(
 /// is written after a failure; earlier writes stay.
 ///
 /// Errors:
-/// - `Read`: the view failed. Nothing was written then.
+/// - `Read`: the view failed. In this case nothing was written.
 /// - `Write`: a file or a stream could not be written.
 /// - `OutOfMemory`: memory ran out before the streams were written.
 pub fn carry_out<V: View, P: Place, O: Out, E: Out>(
