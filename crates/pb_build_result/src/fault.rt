@@ -25,14 +25,14 @@ pub enum Refusal {
     Plan(PlanFault),
 }
 
-/// Why a call on files or variables, or one for a unit's record, failed.
+/// Why a call failed. The call was about files, variables or a unit's record.
 #[derive(Clone, Copy, Debug, PartialEq, Eq, Error)]
 pub enum DeviceFault {
     /// A call of the place failed.
     #[error("{}", .0)]
     Place(PlaceFault),
-    /// No run number is left for a unit's record: a record of the profile's folder
-    /// names 18446744073709551615, or that number was given. Nothing was removed.
+    /// No run number is left for a unit's record: a record of the profile's folder names
+    /// 18446744073709551615, or this number was taken. Nothing was removed.
     #[error("no run number is left")]
     NumbersSpent,
 }
@@ -44,15 +44,15 @@ pub enum BuildFault {
     #[error("{0}")]
     Plan(Refusal),
     /// The compiler does not report its version. The query `-vV` ended with a status other than 0,
-    /// or wrote more than 4,194,304 bytes to a stream. Or its standard output is not UTF-8, or has
-    /// no line `host: TRIPLE`.
+    /// or a stream is over 4,194,304 bytes, or standard output is not UTF-8 or has no line `host:
+    /// TRIPLE`.
     #[error("the compiler did not report its version and host")]
     Toolchain,
-    /// A child gave no answer. The name is `-vV` for the query, else the unit's key.
+    /// A child did not answer. The name is `-vV` for the query, and the unit's key for a unit.
     #[error("`{}` gave no answer: {}", .unit.as_str(), .fault)]
     Child { unit: Text, fault: StartFault },
-    /// A call on files or variables failed, or no run number is left. The name is the
-    /// unit's key, or the variable's name or the path that was passed to the call.
+    /// A call on files or variables failed, or no run number is left. The name is the unit's key,
+    /// the variable's name, or the path that was passed to the call.
     #[error("a call for `{}` failed: {}", .unit.as_str(), .fault)]
     Device { unit: Text, fault: DeviceFault },
     /// The sink of the message lines failed.

@@ -1,4 +1,5 @@
-//! The answer of a build: its summary, or the fault that ended it, and the line that says so.
+//! The answer of a build: its summary, or the fault that ended the build. A line reports how the
+//! build ended.
 #![tactic(auto)]
 
 pub mod bad_unit;

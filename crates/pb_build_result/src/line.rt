@@ -17,7 +17,7 @@ use pb_unit::PlanFault;
 use pb_workspace_types::LoadFault;
 use std::alloc::{AllocError, Global};
 
-/// Returns texts one after another.
+/// Returns the concatenation of texts.
 pub(crate) fn join_texts(alloc: Global, parts: &[&str]) -> Result<String, AllocError>
     ensures { IfOk result (λ text. string_bytes text ≡ concat (map (λ part. part.now) parts.now)) }
 {
@@ -28,7 +28,7 @@ pub(crate) fn join_texts(alloc: Global, parts: &[&str]) -> Result<String, AllocE
     Ok(text)
 }
 
-/// Adds keys with a comma before each.
+/// Adds keys, each after a comma.
 fn push_keys(text: &mut String, keys: &[Text]) -> Result<(), AllocError>
     ensures { OnOk result (string_bytes text.new ≡ string_bytes text.old ++ keys_rest keys.now) }
 {
@@ -39,7 +39,7 @@ fn push_keys(text: &mut String, keys: &[Text]) -> Result<(), AllocError>
     Ok(())
 }
 
-/// Returns keys with a comma between them; a dash if there are none.
+/// Returns keys with commas between them, or a dash if there are no keys.
 fn keys_text(alloc: Global, keys: &[Text]) -> Result<String, AllocError>
     ensures { IfOk result (λ text. string_bytes text ≡ keys_text keys.now) }
 {
@@ -65,7 +65,8 @@ fn line_fault_name(fault: LineFault) -> &'static str
     }
 }
 
-/// Returns a unit's fault: its name, with the number of its status or the name of its line's fault.
+/// Returns the name of a unit's fault. The number of a status, or the name of a line's fault,
+/// follows in parentheses.
 fn unit_fault_text(alloc: Global, fault: &UnitFault) -> Result<String, AllocError>
     ensures { IfOk result (λ text. string_bytes text ≡ unit_fault_text fault.now) }
 {
@@ -126,8 +127,8 @@ fn manifest_fault_name(fault: ManifestFault) -> &'static str
     }
 }
 
-/// Returns the name of the reason for which a workspace cannot be read. For a refused manifest, it
-/// is the name of the manifest's fault.
+/// Returns the name of the reason why a workspace cannot be read. For a refused manifest, the
+/// result is the name of the manifest's fault.
 fn load_fault_name(fault: &LoadFault) -> &'static str
     ensures { result.now ≡ load_fault_name fault.now }
 {
@@ -148,7 +149,7 @@ fn load_fault_name(fault: &LoadFault) -> &'static str
     }
 }
 
-/// Returns the name of the reason for which no features are resolved.
+/// Returns the name of the reason why features are not resolved.
 fn feature_fault_name(fault: FeatureFault) -> &'static str
     ensures { result.now ≡ feature_fault_name fault }
 {
@@ -160,7 +161,7 @@ fn feature_fault_name(fault: FeatureFault) -> &'static str
     }
 }
 
-/// Returns the name of the reason for which a profile has no settings.
+/// Returns the name of the reason why a profile has no settings.
 fn profile_fault_name(fault: ProfileFault) -> &'static str
     ensures { result.now ≡ profile_fault_name fault }
 {
@@ -172,8 +173,8 @@ fn profile_fault_name(fault: ProfileFault) -> &'static str
     }
 }
 
-/// Returns the name of the reason for which there is no plan. For a profile without settings, it is
-/// the name of the profile's fault.
+/// Returns the name of the reason why there is no plan. For a profile without settings, the result
+/// is the name of the profile's fault.
 fn plan_fault_name(fault: &PlanFault) -> &'static str
     ensures { result.now ≡ plan_fault_name fault.now }
 {
@@ -197,7 +198,7 @@ fn refusal_name(refusal: &Refusal) -> &'static str
     }
 }
 
-/// Returns the name of the reason for which a child gave no answer.
+/// Returns the name of the reason why a child did not answer.
 fn start_fault_name(fault: StartFault) -> &'static str
     ensures { result.now ≡ start_fault_name fault }
 {
@@ -244,20 +245,20 @@ fn fault_line(alloc: Global, fault: &BuildFault) -> Result<String, AllocError>
     }
 }
 
-/// Returns the line that says how a build ended, without a line feed
-/// at its end, as a session prints it. The form is our own choice:
+/// Returns the line that says how a build ended, as a session prints the line. The text does not
+/// end with a line feed. The form is our own choice:
 ///
 /// - `ok started=KEYS`, if all units are good;
-/// - `bad KEY FAULT started=KEYS`, with the first bad unit in plan order and its fault's
-///   name: `Status(N)`, where N is a signed decimal number; `Directive(NAME)`, with the
-///   name of the line's fault; `ScriptError`, `NoDepInfo`, `ForeignInput`, `OutputTooLong`;
+/// - `bad KEY FAULT started=KEYS`, with the key of the first bad unit in plan order, and the name
+///   of the unit's fault: `Status(N)`, where N is a signed decimal number; `Directive(NAME)`, with
+///   the name of the line's fault; `ScriptError`, `NoDepInfo`, `ForeignInput`, `OutputTooLong`;
 /// - `refused NAME`, with the innermost fault's name without its fields;
 /// - `fault AT NAME`, with the unit's key, or the path or the variable's name, and the name
 ///   of the child's fault, `Device` for a call on files or variables, or `NumbersSpent`;
 ///   `fault -vV Toolchain`, `fault sink Sink` and `fault memory OutOfMemory`.
 ///
-/// KEYS are the keys of the units whose child was started, in order
-/// of starting, with `,` between them, or `-` if there are none.
+/// KEYS are the keys of the units whose child was started, in order of starting, with `,` between
+/// them. If no child was started, KEYS is `-`.
 ///
 /// Errors: out of memory.
 pub fn result_line(

@@ -7,7 +7,7 @@ use crate::summary::Summary;
 use pb_data::Bytes;
 use std::alloc::{AllocError, Global};
 
-/// Adds bytes, and a line feed if they do not end with one.
+/// Adds bytes, and a line feed if the bytes do not end with a line feed.
 fn push_ended(text: &mut Vec<u8>, bytes: &[u8]) -> Result<(), AllocError>
     ensures { OnOk result (text.new.items ≡ text.old.items ++ ended bytes.now) }
 {
@@ -20,9 +20,9 @@ fn push_ended(text: &mut Vec<u8>, bytes: &[u8]) -> Result<(), AllocError>
     Ok(())
 }
 
-/// Returns what the child of the bad unit wrote that no message line contains. A line with the
+/// Returns the output of the bad unit's child, except what message lines contain. A line with the
 /// unit's key comes first, and the text ends with a line feed. The text is empty if the child wrote
-/// nothing, or all units are good.
+/// nothing else, or if all units are good.
 ///
 /// Errors: out of memory.
 pub fn summary_text(alloc: Global, summary: &Summary) -> Result<Bytes, AllocError>

@@ -1,4 +1,4 @@
-//! How a start fails if it is set to fail.
+//! How a start fails if a session sets it to fail.
 
 ghost use Rattle.std.specs.Prelude.{◌≡◌, ◌≢◌};
 ghost use Rattle.pb_place_types.specs.declared.place.StartFault.TheVariants as start;
@@ -8,21 +8,22 @@ ghost use Rattle.pb_build_session.specs.Faults.{UnlessOom};
 use crate::fault::BadSession;
 use pb_place_types::StartFault;
 
-/// How a start fails if it is set to fail (our own choice). Out of memory is not among these ways,
-/// since it is not a failure of the outside world.
+/// How a start fails if a session sets it to fail (our own choice). Out of memory is not among
+/// these ways, since it is not a failure of the outside world.
 #[derive(Clone, Copy)]
 pub enum Death {
-    /// The program could not be started. It leaves no file.
+    /// The program could not be started. No file remains.
     CannotStart,
-    /// The child ended without a status. The first half of its reply's files remains, in byte
-    /// order; the half's length is rounded down.
+    /// The child ended without a status. The first half of the files of its reply remains, in byte
+    /// order. The number of these files is rounded down.
     Died,
-    /// The child's output could not be captured. It leaves the same half.
+    /// The child's output could not be captured. The same half of the files remains.
     Capture,
 }
 
 impl Death {
-    /// Returns the fault of a start that is set to fail in this way. The fault has the same name.
+    /// Returns the fault of a start that is set to fail in this way. The fault and the way have the
+    /// same name.
     pub fn fault(&self) -> StartFault
         ensures fault { result ≡ fault_of self.now }
         ensures real { result ≢ start.OutOfMemory }
@@ -35,7 +36,7 @@ impl Death {
     }
 }
 
-/// Returns the way to fail that has this name.
+/// Returns the way of failing with this name.
 pub(crate) fn death_named(name: &str) -> Result<Death, BadSession>
     ensures { UnlessOom result (death_named name.now) }
 {

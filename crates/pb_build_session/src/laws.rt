@@ -9,16 +9,17 @@ pub fn steps_stand_in_order()
     ensures { StepsJoin }
 {}
 
-/// A law: a build without options has the manifest `/w/Cargo.toml` and the profile `dev`, and is
-/// made by `cargo`. It selects and narrows nothing. At most one unit is in flight, and the first of
-/// the units that may begin begins.
+/// A law: a build without options has the manifest `/w/Cargo.toml` and the profile `dev`, and its
+/// builder is `cargo`. Such a build neither selects packages or features nor restricts the targets.
+/// At most one unit is in flight. Among the units that may begin, the first unit begins.
 pub fn options_have_defaults()
     ensures { OptionsHaveDefaults }
 {}
 
-/// A law: a session accepts only numerals of JSON that consist of digits, as the numbers that they
-/// denote, up to 18446744073709551615. A greater number makes the session bad, and so does a
-/// numeral with a minus (`-0`), with a point (`1.0`) or with an exponent (`1e1`).
+/// A law: a session accepts only numerals of JSON that consist of digits, up to
+/// 18446744073709551615. Each numeral means the number that it denotes. A greater number makes the
+/// session bad, and so does a numeral with a minus (`-0`), with a point (`1.0`) or with an exponent
+/// (`1e1`).
 pub fn numbers_are_digits()
     ensures digits { DigitsAreTaken }
     ensures minus { MinusIsBad }

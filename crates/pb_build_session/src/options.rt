@@ -183,7 +183,7 @@ struct Targeted {
     jobs: u64,
 }
 
-/// The programs that a build starts: what runs the build scripts, and the builder itself.
+/// The programs of a build: the program that runs the build scripts, and the builder itself.
 #[derive(Drop)]
 struct Tools {
     runner: Items<Text>,
@@ -236,7 +236,7 @@ fn targeted_in(alloc: Global, value: &Value) -> Result<Targeted, BadSession>
     })
 }
 
-/// Returns the programs that a build starts.
+/// Returns the programs of a build.
 fn default_tools(alloc: Global) -> Result<Tools, AllocError>
     ensures { IfOk result (λ tools. tools ≡ record {
       runner = codes "mini" ∷ codes "--run" ∷ [];
@@ -313,7 +313,8 @@ fn pick_of(value: &Value) -> Result<PickBy, BadSession>
     }
 }
 
-/// Returns which unit begins, of those that may begin: the first if the key `pick` is absent.
+/// Returns the choice among the units that may begin. If the key `pick` is absent, the first unit
+/// begins.
 pub(crate) fn pick_in(value: &Value) -> Result<PickBy, BadSession>
     ensures { UnlessOom result (pick_or_first (get (codes "pick") (view value.now))) }
 {

@@ -1,16 +1,16 @@
-//! Which unit begins, of those that may begin.
+//! The choice among the units that may begin.
 
 ghost use Rattle.pb_build_session.specs.Faults.{UnlessOom};
 ghost use Rattle.pb_build_session.specs.Picks.{pick_named};
 
 use crate::fault::BadSession;
 
-/// Which unit begins, of those that may begin (our own choice).
+/// The choice among the units that may begin (our own choice).
 #[derive(Clone, Copy)]
 pub enum PickBy {
-    /// The first of them in the order of the plan.
+    /// The first of these units, in plan order.
     First,
-    /// The last of them.
+    /// The last of these units, in plan order.
     Last,
 }
 

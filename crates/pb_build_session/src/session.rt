@@ -125,16 +125,16 @@ fn document_in(alloc: Global, bytes: &[u8]) -> Result<Value, BadSession>
 /// object with one key.
 ///
 /// - `{"write":[PATH,TEXT]}` writes a file; `{"remove":PATH}` removes a file and all below it.
-/// - `{"set":[NAME,VALUE]}` sets a variable; `{"unset":NAME}` removes it.
-/// - `{"die":[KEY,KIND]}` makes the next start fail whose output folder has the name KEY, in the
-///   way KIND: `CannotStart`, `Died` or `Capture`.
-/// - `{"fuse":N}` makes the Nth call of the next build to the outside world fail; 0 removes the
-///   fuse.
+/// - `{"set":[NAME,VALUE]}` sets a variable; `{"unset":NAME}` removes a variable.
+/// - `{"die":[KEY,KIND]}` makes a start fail: the next start whose output folder has the name KEY.
+///   The way of failing, KIND, is `CannotStart`, `Died` or `Capture`.
+/// - `{"fuse":N}` makes a call fail: the Nth call to the outside world in the next build. 0 removes
+///   the fuse.
 /// - `{"build":OPTIONS}` builds. OPTIONS is an object with any of these keys: `manifest`, the path
 ///   of the root manifest (default `/w/Cargo.toml`); `profile`, a text (default `dev`); `packages`,
 ///   `features` and `bin`, lists of texts; `workspace`, `all_features`, `no_default_features`,
 ///   `lib` and `bins`, truth values; `jobs`, how many units may be in flight at a time (default 1);
-///   `pick`, which unit begins, of those that may begin: `first` (the default) or `last`. The
+///   `pick`, the choice among the units that may begin: `first` (the default) or `last`. The
 ///   builder is called `cargo`, and build scripts are run by `mini --run`.
 ///
 /// A path is an absolute text without byte 0. A number consists of digits only, and is at most

@@ -17,11 +17,11 @@ pub enum SessionStep {
     Set(Text, Text),
     /// The variable of this name is not set from now on.
     Unset(Text),
-    /// A build, and which unit begins, of those that may begin.
+    /// A build, and the choice among the units that may begin.
     Build(Options, PickBy),
     /// The next start whose output folder has this name fails in this way. Any name is accepted.
     Die(Text, Death),
-    /// Of the calls that the next build makes to the outside world, the one with this number,
-    /// counted from 1, fails. 0: no call fails.
+    /// One call to the outside world in the next build fails: the call with this number, counted
+    /// from 1. If the number is 0, no call fails.
     Fuse(u64),
 }

@@ -28,7 +28,8 @@ use std::alloc::{AllocError, Global};
 pub struct RunningUnit {
     /// Its index in plan order.
     pub unit: usize,
-    /// How the unit has begun. Here no difference is noted, because the executor's reasons contain it.
+    /// How the unit has begun. No difference is noted here, because the executor's reasons contain
+    /// the difference.
     pub begun: Begun,
 }
 
@@ -42,14 +43,14 @@ pub struct UnitExecutor {
     /// The records of the profile's folder.
     pub store: Store,
     /// For each unit, the directives of its run. A unit that has not answered, is bad, or is not a
-    /// run has none.
+    /// run has no directives.
     pub done: Vec<Option<Directives>>,
     /// The units in flight, in the order in which they began.
     pub running: Vec<RunningUnit>,
     /// The units for which a child was started, in order.
     pub started: Vec<usize>,
-    /// For each unit, the note of its first difference: none if it has not begun. The note of any
-    /// other unit is a difference, or that nothing differed.
+    /// For each unit, the note of its first difference. A unit that has not begun has no note. The
+    /// note of any other unit contains the difference, or says that nothing differed.
     pub reasons: Vec<Option<Option<Difference>>>,
 }
 
@@ -64,7 +65,7 @@ fn put<T: Drop>(items: &mut Vec<T>, item: T)
     }
 }
 
-/// Makes space for one more unit in flight, and for one more that was started.
+/// Makes space for one more unit in flight, and for one more started unit.
 fn make_room(running: &mut Vec<RunningUnit>, started: &mut Vec<usize>) -> Result<(), AllocError>
     ensures running { running.new.items ≡ running.old.items }
     ensures started { started.new.items ≡ started.old.items }
@@ -136,7 +137,7 @@ fn begin_at<P: Place>(
         (moment (P.at place.new) heard) (P.at place.new).still
         (Began unit spawned ∷ es)) }
 {
-    // Room is made before the spawn, so that a child in flight is always noted.
+    // Space is made before the spawn, so that a child in flight is always noted.
     match make_room(&mut crew.running, &mut crew.started) {
         Ok(()) => {}
         Err(_) => return Err(BuildFault::OutOfMemory),
@@ -174,7 +175,7 @@ fn bytes_of(text: Text) -> Bytes
     Bytes::new(text.into_string().into_bytes())
 }
 
-/// Notes what came of a unit, and returns its answer.
+/// Notes the result of a unit, and returns its answer.
 fn note_answer(done: &mut Vec<Option<Directives>>, unit: usize, outcome: Outcome) -> Answer<BadUnit>
     requires within { unit < length done.old.items }
     ensures done { done.new.items ≡ slice_set done.old.items unit outcome.directives }
@@ -186,8 +187,8 @@ fn note_answer(done: &mut Vec<Option<Directives>>, unit: usize, outcome: Outcome
     Answer { fault, lines }
 }
 
-/// Takes the answer of a unit in flight. The index is its index among the units in flight.
-/// Afterwards the unit is no longer in flight, even after a fault.
+/// Takes the answer of a unit in flight. `index` is the position of the unit among the units in
+/// flight. Afterwards the unit is no longer in flight, even after a fault.
 fn answer_at<P: Place>(
     alloc: Global,
     crew: &mut UnitExecutor,
@@ -230,7 +231,7 @@ fn answer_at<P: Place>(
     Ok(note_answer(&mut crew.done, unit, outcome))
 }
 
-/// The places of the units in flight.
+/// Returns the plan indices of the units in flight.
 fn places_of(alloc: Global, running: &[RunningUnit]) -> Result<Vec<usize>, AllocError>
     ensures { IfOk result (λ places. places.items ≡ places_of running.now) }
 {

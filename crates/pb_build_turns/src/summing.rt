@@ -165,7 +165,7 @@ fn fault_of(state: State<BadUnit>) -> Option<BadUnit>
     }
 }
 
-/// Returns a key with a fault, if there is one.
+/// Returns a key with a fault, if there is a fault.
 fn with_key(
     alloc: Global,
     key: &Text,
@@ -208,8 +208,8 @@ fn told_apart(alloc: Global, bad: Option<(Text, BadUnit)>) -> (Option<(Text, Uni
     }
 }
 
-/// Returns how many units are reported, from the start of plan order: all, or all up to and
-/// including the first bad one.
+/// Returns the number of reported units, from the start of plan order. These are all units, or all
+/// units up to and including the first bad unit.
 fn count_told(units: usize, bad: Option<usize>) -> usize
     requires { IfSome bad (λ place. place < units) }
     ensures { result ≡ count_told units bad }
@@ -220,9 +220,9 @@ fn count_told(units: usize, bad: Option<usize>) -> usize
     }
 }
 
-/// Returns the summary of units that have ended. `states` and `done` have the states of the units
-/// and the directives of their runs. `started` and `first_bad` are indices of units, and `reasons`
-/// has the differences.
+/// Returns the summary of units that have ended. `states` contains the states of the units, and
+/// `done` contains the directives of their runs. `started` and `first_bad` are indices of units,
+/// and `reasons` contains the differences.
 ///
 /// Errors: only out of memory.
 pub(crate) fn summary_of(

@@ -40,7 +40,7 @@ pub fn query(alloc: Global, rustc: &Text, workspace: &Workspace) -> Result<Comma
     })
 }
 
-/// Adds the arguments for what is compiled, and how.
+/// Adds the arguments that say what is compiled and how.
 fn push_crate_part(
     alloc: Global,
     words: &mut Items<Text>,
@@ -94,7 +94,7 @@ fn words_of(
     Ok(words)
 }
 
-/// What a unit's child is started with.
+/// The program, arguments, folder and variables with which a unit's child is started.
 #[derive(Drop)]
 struct Asking {
     program: Text,
@@ -103,7 +103,7 @@ struct Asking {
     pairs: Items<(Text, Text)>,
 }
 
-/// The folder into which a unit's child writes, and what it may read.
+/// The folders that a unit's child writes and may read, the target folder, and the compiler's version.
 #[derive(Drop)]
 struct Surroundings {
     out: PathText,
@@ -112,7 +112,8 @@ struct Surroundings {
     reads: Items<PathText>,
 }
 
-/// Returns the folder into which a unit's child writes, and what it may read.
+/// Returns the folders that a unit's child writes and may read, the target folder, and the compiler's
+/// version.
 fn surroundings_of(
     alloc: Global,
     setup: &Setup,
@@ -163,7 +164,7 @@ fn command_of_parts(asking: Asking, surroundings: Surroundings) -> Command
     }
 }
 
-/// Returns what a compile is started with.
+/// Returns the program, arguments, folder and variables of a compile.
 fn compile_asking(
     alloc: Global,
     setup: &Setup,
@@ -209,7 +210,7 @@ fn compile_of(
     Ok(command_of_parts(asking, surroundings))
 }
 
-/// Returns the path of the script that a run starts; it is empty if there is no script.
+/// Returns the path of the script that a run starts, or an empty path if there is no script.
 fn script_path(alloc: Global, project: &Project, unit: &Planned) -> Result<Text, AllocError>
     ensures { IfOk result (λ path. path ≡ script_path project.now unit.now) }
 {
@@ -229,7 +230,8 @@ fn run_program(alloc: Global, runner: &[Text], script: &Text) -> Result<Text, Al
     }
 }
 
-/// Returns the arguments of that program: the runner's other words and the script's path.
+/// Returns the arguments of the program that starts a script: the runner's own arguments and the
+/// script's path.
 fn run_words(alloc: Global, runner: &[Text], script: &Text) -> Result<Items<Text>, AllocError>
     ensures { IfOk result (λ words. words ≡ run_words runner.now script.now) }
 {
@@ -244,7 +246,7 @@ fn run_words(alloc: Global, runner: &[Text], script: &Text) -> Result<Items<Text
     Ok(words)
 }
 
-/// Returns what the run of a script is started with.
+/// Returns the program, arguments, folder and variables of a script's run.
 fn run_asking(
     alloc: Global,
     setup: &Setup,
@@ -292,7 +294,7 @@ fn run_of(
     Ok(command_of_parts(asking, surroundings))
 }
 
-/// Returns the command of a unit of a package, by what the unit makes.
+/// Returns the command of a unit of a package. What the unit makes determines the command.
 fn command_by(
     alloc: Global,
     setup: &Setup,
@@ -310,7 +312,7 @@ fn command_by(
     }
 }
 
-/// Returns a filler for the command of a unit whose package does not exist.
+/// Returns a placeholder for the command of a unit whose package does not exist.
 fn nothing_of(alloc: Global, setup: &Setup, project: &Project) -> Result<Command, AllocError>
     ensures { IfOk result (λ command. command ≡ nothing_of setup.now project.now) }
 {
@@ -330,15 +332,15 @@ fn nothing_of(alloc: Global, setup: &Setup, project: &Project) -> Result<Command
     })
 }
 
-/// Returns the command of a unit of the plan. `done` contains the directives of earlier runs. At
-/// the index of a run in the plan it has the directives of the run's lines, and at the index of a
-/// compile none. An index past the end of `done` counts as none.
+/// Returns the command of a unit of the plan. `done` contains the directives of earlier runs, by
+/// the index of each run in the plan. At the index of a compile, `done` contains no directives. An
+/// index past the end of `done` counts as an index without directives.
 ///
 /// A compile starts the compiler in the workspace's root. The first arguments are the crate's name,
-/// edition and source. Then come its types and where it is written, its settings, the features that
-/// are on, and those that exist. The folders of the libraries that it reaches follow, and the
-/// libraries under the names that the source uses. What build scripts request, and the user's
-/// flags, come last.
+/// edition and source. The crate's types and output come next, and then its settings, the features
+/// that are on, and the features that exist. The folders of the libraries that the unit reaches
+/// follow, and then the libraries under the names that the source uses. The requests of build
+/// scripts, and the user's flags, come last.
 ///
 /// A run starts the build script in its package's folder, after the runner if there is one. The
 /// variables are those of The Cargo Book, Environment Variables, and those that the package's

@@ -14,18 +14,18 @@ pub fn last_values_count()
 {}
 
 /// The libraries of a compile are sorted by their names and then by their paths, in byte order.
-/// This is so if names have no byte 0.
+/// This law is about names without byte 0.
 pub fn libraries_in_order()
     ensures { LibrariesInOrder }
 {}
 
-/// The paths of a command are normalised and absolute, if the paths of its project are.
+/// If the paths of a project are normalised and absolute, so are the paths of its commands.
 pub fn commands_are_absolute()
     ensures { CommandsAreAbsolute }
 {}
 
 /// The inputs found in a reply to the command of a planned unit depend only on the command and the
-/// reply. So a record can be judged whichever plan its unit was in.
+/// reply. So a record can be judged, whichever plan contained its unit.
 pub fn judges_as_answered()
     ensures { JudgesAsAnswered }
 {}

@@ -1,5 +1,5 @@
-//! Commands of units, what their answers mean, and why an answer is bad (The Cargo Book,
-//! Build Scripts, Environment Variables, Profiles; the compiler's own command line).
+//! Commands of units, the meaning of their answers, and the reasons why an answer is bad (The Cargo
+//! Book, Build Scripts, Environment Variables, Profiles; the compiler's own command line).
 #![tactic(auto)]
 
 mod commands;

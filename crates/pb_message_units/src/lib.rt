@@ -1,5 +1,5 @@
-//! The messages of a unit, which come from its child's answer, and their
-//! lines, with the unit's package and target (The Cargo Book, External Tools).
+//! The messages of a unit, made from the answer of its child, and the lines of these messages. The
+//! lines contain the unit's package and target (The Cargo Book, External Tools).
 #![tactic(auto)]
 
 mod messages;

@@ -1,4 +1,4 @@
-//! The messages of a unit, which come from its child's answer.
+//! The messages of a unit, made from the answer of its child.
 
 ghost use Rattle.std.specs.Prelude.{◌≡◌, ◌++◌, ◌∷◌, [], if◌then◌else◌, IfOk, OnOk, map};
 ghost use Rattle.pb_directive.specs.Directives.{directives_of};
@@ -72,7 +72,7 @@ fn add_artifact(
     Ok(())
 }
 
-/// Returns the note in a directive, if it is one.
+/// Returns the note in a directive, if the directive is a note.
 fn note_in(alloc: Global, directive: &Directive) -> Result<Option<Message>, AllocError>
     ensures { IfOk result (λ made. made ≡ note_in directive.now) }
 {
@@ -128,7 +128,7 @@ fn libraries_in(alloc: Global, directives: &[Directive]) -> Result<Items<Text>, 
     Ok(made)
 }
 
-/// Returns the folder of a directive that names a folder for the search of libraries.
+/// Returns the search folder for libraries in a directive.
 fn search_in(alloc: Global, directive: &Directive) -> Result<Option<Text>, AllocError>
     ensures { IfOk result (λ made. made ≡ search_in directive.now) }
 {
@@ -138,7 +138,7 @@ fn search_in(alloc: Global, directive: &Directive) -> Result<Option<Text>, Alloc
     }
 }
 
-/// Returns the folders in which libraries are looked for.
+/// Returns the search folders for libraries.
 fn searches_in(alloc: Global, directives: &[Directive]) -> Result<Items<Text>, AllocError>
     ensures { IfOk result (λ made. made ≡ filter_map search_in directives.now) }
 {
@@ -219,8 +219,8 @@ fn script_message(
     }))
 }
 
-/// Returns the messages of a unit whose child's answer is good.
-/// A script's run has directives, a compile has none.
+/// Returns the messages of a unit whose child's answer is good. A script's run has directives. A
+/// compile has no directives.
 ///
 /// Errors: out of memory.
 pub fn good_messages(
@@ -257,7 +257,7 @@ fn gives_diagnostics(what: &What, fault: &UnitFault) -> bool
     }
 }
 
-/// Returns the notes of a script's output; none if the output is malformed.
+/// Returns the notes of a script's output. If the output is malformed, there are no notes.
 fn notes_of(alloc: Global, stdout: &Bytes) -> Result<Items<Message>, AllocError>
     ensures { IfOk result (λ messages. messages ≡ notes_in (directives_of stdout.now)) }
 {
@@ -272,7 +272,7 @@ fn notes_of(alloc: Global, stdout: &Bytes) -> Result<Items<Message>, AllocError>
     }
 }
 
-/// Returns the diagnostics of a bad unit, if it reports them.
+/// Returns the diagnostics of a bad unit, if the unit reports diagnostics.
 fn diagnostics_by(
     alloc: Global,
     what: &What,
@@ -289,8 +289,9 @@ fn diagnostics_by(
     Ok(messages)
 }
 
-/// Returns the messages of a unit whose child's answer is bad. A compile has its diagnostics,
-/// unless a stream is too long. A script that reported an error has its notes.
+/// Returns the messages of a unit whose child's answer is bad. For a compile, the messages are its
+/// diagnostics, unless a stream is too long. For a script that reported an error, the messages are
+/// its notes.
 ///
 /// Errors: out of memory.
 pub fn bad_messages(
@@ -317,9 +318,10 @@ fn both(alloc: Global, ended: &Ended) -> Result<Bytes, AllocError>
     Ok(Bytes::new(said))
 }
 
-/// Returns what the child of a bad unit wrote, without what messages contain (our own choice). If a
-/// stream is too long, this is nothing. For a script that reported an error this is standard error,
-/// and for any other script both streams. For a compile this is the lines that are not diagnostics.
+/// Returns the output of a bad unit's child, except what messages contain (our own choice). If a
+/// stream is too long, the result is empty. For a script that reported an error, the result is
+/// standard error. For any other script, the result is both streams. For a compile, the result is
+/// the lines that are not diagnostics.
 ///
 /// Errors: out of memory.
 pub fn said_by(

@@ -12,7 +12,7 @@ use pb_unit::{Planned, What};
 use pb_workspace_types::{Library, Package};
 use std::alloc::{AllocError, Global};
 
-/// Returns the target of a package's library, if it has one.
+/// Returns the target of a package's library, if the package has a library.
 fn library_of(
     alloc: Global,
     owner: &Package,
@@ -72,7 +72,7 @@ fn script_of(
     }
 }
 
-/// Returns the target of a package that is compiled or run, if the package has it.
+/// Returns the target of a package that a unit compiles or runs, if the package has this target.
 fn target_of(alloc: Global, owner: &Package, what: &What) -> Result<Option<Target>, AllocError>
     ensures { IfOk result (λ made. made ≡ target_of owner.now what.now) }
 {
@@ -137,8 +137,8 @@ fn subject_of(
     }
 }
 
-/// Returns the message lines of a unit, one after another.
-/// `started` says whether a child was started for it.
+/// Returns the message lines of a unit, one after another. `started` says whether a child was
+/// started for the unit.
 ///
 /// Errors: out of memory.
 pub fn lines_of_unit(

@@ -11,13 +11,13 @@ use pb_store::{Difference, Replayed};
 /// A child process that was spawned for a unit.
 #[derive(Debug, Drop)]
 pub struct SpawnedChild {
-    /// The ticket with which its end is awaited.
+    /// The ticket with which the child's end is awaited.
     pub ticket: u64,
-    /// The run number of the unit's record, if its answer is good.
+    /// The run number that the unit's record gets if the unit's answer is good.
     pub number: u64,
 }
 
-/// What the answer of a unit comes from.
+/// The source of a unit's answer.
 #[derive(Drop)]
 pub enum Awaited {
     /// The end of its child.
@@ -34,8 +34,8 @@ pub struct Begun {
     pub unit: Text,
     /// Its command.
     pub command: Command,
-    /// The first difference from its record, for which its child was spawned. None if nothing
-    /// differs.
+    /// The first difference from its record, which is the reason why its child was spawned. None if
+    /// nothing differs.
     pub difference: Option<Difference>,
     /// The end of its child, or what its record replays. The record is kept here so that it is read
     /// once.
@@ -63,8 +63,8 @@ impl Begun {
         }
     }
 
-    /// Returns the run number that the unit's record gets if its answer is good, if the unit has a
-    /// child.
+    /// Returns the run number for the unit's record, if the unit has a child. The record gets this
+    /// number if the unit's answer is good.
     pub fn number(&self) -> Option<u64>
         ensures { result ≡ option_map (λ (l : SpawnedChild). l.number) (child_of self.now) }
     {

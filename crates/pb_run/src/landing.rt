@@ -1,5 +1,5 @@
-//! How a unit answers: its child ends, or its record is replayed; the answer is judged; the record
-//! is kept or renewed.
+//! How a unit answers. Its child ends, or its record is replayed. The answer is judged, and the
+//! record is kept or renewed.
 
 ghost use Rattle.std.specs.Prelude.{◌≡◌, ◌++◌, ℕ, true, List, Option, IsTrue, IsOk, IfOk, IfSome, MatchResult, OnOk, Ok, Err, Some, None, Result, slice_get};
 ghost use Rattle.std.specs.FinMap as finite;
@@ -56,7 +56,7 @@ fn finish<P: Place>(
         (λ spawned. ChangesOnlyInSome spawned.command.out (P.at place.old).world
         (P.at place.new).world) }
 
-    // The other children stay in flight and stand still.
+    // The other children stay in flight and do not change.
     ensures most { (P.at place.new).most ≡ (P.at place.old).most }
     ensures still { StaysStillBut launched.now.ticket (P.at place.old).counts.starts.flying
         (P.at place.old).world (P.at place.new).world (P.at place.old).still
@@ -95,7 +95,7 @@ fn judged_now<P: Place>(
         Ok(path) => path,
         Err(_) => return Err(OUT_OF_MEMORY),
     };
-    // Dep-info before judging: the judgement makes no counted call.
+    // The dep-info is read before the judgement, because the judgement makes no counted call.
     let dep_info = read_at(alloc, place, &path)?;
     match judge_reply(alloc, place, project.get(), unit, command, ended, &dep_info) {
         Ok(judgement) => Ok(judgement),
@@ -146,7 +146,7 @@ fn needed_keys(
     Ok(keys)
 }
 
-/// Returns what came of a unit, marked as not started.
+/// Returns the result of a unit, marked as not started.
 fn without_start(ran: Ran) -> Ran
     ensures { result ≡ unstarted ran }
 {
@@ -158,8 +158,8 @@ fn without_start(ran: Ran) -> Ran
     }
 }
 
-/// Answers a unit that has a child: waits for its end, judges the answer, and keeps the record if
-/// it is good. After the child's end only the unit's record changes.
+/// Answers a unit that has a child: waits for the child's end, judges the answer, and keeps the
+/// record if the answer is good. After the child's end only the unit's record changes.
 fn land<P: Place>(
     alloc: Global,
     place: &mut P,
@@ -181,7 +181,7 @@ fn land<P: Place>(
     requires numbers { IsTrue P.is_modelled →
         HasNumbers (records store.old.folder (P.at place.old).world) store.old.numbers }
 
-    // As `answered`.
+    // These clauses promise what `answered` promises.
     ensures answers { IfOk result (AnswersUnit P.is_modelled project.now unit.now
         (begun_with unit.now.key command.now (awaited.Child launched.now))
         store.old store.new (P.at place.old) (P.at place.new)) }
@@ -229,9 +229,9 @@ fn land<P: Place>(
     }
 }
 
-/// Answers a unit without a child, from whose record nothing differs. What the record replays is
-/// judged, and the record gets a run number if it has none. A record with a number is not read.
-/// Only the unit's record changes.
+/// Answers a unit that has no child, because nothing differs from its record. What the record
+/// replays is judged. A record without a run number gets a run number. A record with a number is
+/// not read. Only the unit's record changes.
 fn reuse<P: Place>(
     alloc: Global,
     place: &mut P,
@@ -250,7 +250,7 @@ fn reuse<P: Place>(
     requires numbers { IsTrue P.is_modelled →
         HasNumbers (records store.old.folder (P.at place.old).world) store.old.numbers }
 
-    // As `answered`.
+    // These clauses promise what `answered` promises.
     ensures answers { IfOk result (AnswersUnit P.is_modelled project.now unit.now
         (begun_with unit.now.key command.now (awaited.Record again.now))
         store.old store.new (P.at place.old) (P.at place.new)) }
@@ -274,7 +274,7 @@ fn reuse<P: Place>(
     if ran.bad.is_some() {
         return Ok(ran);
     }
-    // A record with a number stays as it is.
+    // A record with a number is not changed.
     if again.numbered {
         return Ok(ran);
     }

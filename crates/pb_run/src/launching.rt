@@ -87,9 +87,9 @@ fn spawn_anew<P: Place>(
     }
 }
 
-/// Launches the child of a unit from whose record something differs. If a run number is left, the
-/// number is taken and exactly three calls are made. They remove the record, empty the output
-/// folder and spawn the child.
+/// Launches the child of a unit that differs from its record. If a run number is left, the number
+/// is taken and exactly three calls are made. They remove the record, empty the output folder and
+/// spawn the child.
 #[tactic(auto, using(crate::proofs::Spawning::launch_laws))]
 pub(crate) fn launch<P: Place>(
     alloc: Global,

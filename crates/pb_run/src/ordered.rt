@@ -5,8 +5,8 @@ use pb_data::Text;
 use pb_unit::Planned;
 use std::marker::Model;
 
-/// A project that is in order. Its workspace is settled, and its plan is a plan of that workspace.
-/// The units' folders are apart by their keys. Contracts see the project.
+/// A project that is in order. Its workspace is settled, and its plan is a plan of this workspace.
+/// Units with different keys have separate folders. Contracts see the project.
 #[derive(Drop)]
 pub struct OrderedProject {
     inside: Project,
@@ -56,8 +56,8 @@ impl OrderedProject {
         self.inside.plan.planned.as_slice()
     }
 
-    /// Returns the names of the packages without a library that enabled dependencies of its plan
-    /// name.
+    /// Returns the names of the packages without a library to which enabled dependencies of its
+    /// plan lead.
     pub fn without_library(&self) -> &[Text]
         ensures { result.now ≡ self.now.plan.without_library }
     {

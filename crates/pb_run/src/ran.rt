@@ -1,4 +1,4 @@
-//! What comes of a unit from the answer of its child.
+//! The result of a unit, from the answer of its child.
 
 ghost use Rattle.std.specs.Prelude.{◌≡◌, ◌≢◌, IfOk, IsTrue, Result, Ok, Err, true};
 ghost use Rattle.pb_command_reply.specs.Answers.{answered_of};
@@ -19,12 +19,12 @@ use pb_record::InputName;
 use pb_unit::Planned;
 use std::alloc::{AllocError, Global};
 
-/// What came of a unit.
+/// The result of a unit.
 #[derive(Drop)]
 pub struct Ran {
     /// Whether a child process was started for it.
     pub started: bool,
-    /// Why the unit is bad, and what its child printed; none if it is good.
+    /// Why the unit is bad, and what its child printed. None if the unit is good.
     pub bad: Option<BadUnit>,
     /// The directives of a build script's run that ended well.
     pub directives: Option<Directives>,
@@ -35,9 +35,9 @@ pub struct Ran {
 /// The judgement of the answer of a unit's child.
 #[derive(Drop)]
 pub struct Validated {
-    /// What came of the unit.
+    /// The result of the unit.
     pub ran: Ran,
-    /// The inputs found in its answer. A bad unit has none.
+    /// The inputs found in its answer. A bad unit has no inputs.
     pub names: Items<InputName>,
 }
 
@@ -90,7 +90,7 @@ fn bad(
 }
 
 /// Returns the judgement of the answer of a unit's child. `dep_info` is the content of the unit's
-/// dep-info file, if it has one. The place determines which paths the answer means.
+/// dep-info file, if there is such a file. The place determines which paths the answer means.
 ///
 /// Errors: only out of memory.
 pub fn judge_reply<P: Place>(

@@ -33,10 +33,10 @@ use pb_store::{Compared, Difference, Key, Store};
 use pb_unit::Planned;
 use std::alloc::{AllocError, Global};
 
-/// What came of a unit.
+/// The result of a unit.
 #[derive(Drop)]
 pub struct Outcome {
-    /// Why the unit is bad, and what its child printed; none if it is good.
+    /// Why the unit is bad, and what its child printed. None if the unit is good.
     pub fault: Option<BadUnit>,
     /// The directives of a build script's run that ended well.
     pub directives: Option<Directives>,
@@ -67,11 +67,11 @@ fn command(
 /// differs and a run number is left, the number is taken and three calls are made. They remove the
 /// record, empty the output folder, and spawn the unit's child, in this order. The records of
 /// needed units are not read, because the store has their numbers. `done` contains, for each unit
-/// of the plan, the directives of its build script's run, if it has answered.
+/// of the plan, the directives of its build script's run, if the run has answered.
 ///
-/// Errors: each but `OutOfMemory` has the unit's key. If a call of the place failed, it was the
-/// last. After any error no new child is in flight, and the store may lack the numbers of its
-/// records.
+/// Errors: each error except `OutOfMemory` contains the unit's key. If a call of the place failed,
+/// it was the last call. After any error no new child is in flight, and the store may lack the
+/// numbers of its records.
 ///
 /// - `Device` if a file, a folder or a variable cannot be read; if something differs, also if the
 ///   record or the folder cannot be removed, or if no run number is left.
@@ -79,12 +79,13 @@ fn command(
 /// - `OutOfMemory`.
 ///
 /// Clauses and fields with the premise `P.is_modelled` are about a place whose files and variables
-/// contracts know, and say nothing about a real machine. The world that contracts see there is
-/// constant, so what `changes` says about files is empty. What the contract says about calls,
-/// starts, children in flight, errors and run numbers is true there, too.
+/// are known to contracts. They say nothing about a real machine. On a real machine, the world that
+/// contracts see is constant, so `changes` says nothing about files there. What the contract says
+/// about calls, starts, children in flight, errors and run numbers is also true on a real machine.
 ///
 /// `build` is about a build that satisfies `BuildInvariant`, and about one of its units that
-/// satisfies `CanBegin`. This unit has not begun, and all that it reaches has answered and is good.
+/// satisfies `CanBegin`. This unit has not begun, and all units that it reaches have answered and
+/// are good.
 #[tactic(auto, using(crate::proofs::Naming::naming_laws))]
 pub fn begin_unit<P: Place>(
     alloc: Global,
@@ -101,20 +102,20 @@ pub fn begin_unit<P: Place>(
     requires numbers { IsTrue P.is_modelled →
         HasNumbers (records store.old.folder (P.at place.old).world) store.old.numbers }
 
-    // The unit has a child if `begin_unit` reports a difference, which is the first one. Otherwise
-    // the unit has what its record replays.
+    // If `begin_unit` reports a difference, it is the first difference, and the unit has a child.
+    // Otherwise the unit has what its record replays.
     ensures begins { IfOk result (BeginsUnit P.is_modelled P.child project.now unit.now
         (command_of setup.now project.now unit.now done.now) store.old store.new
         (P.at place.old) (P.at place.new)) }
 
-    // The error is this unit's, or out of memory. Its cause is a call of the comparison or, if
-    // something differs, of the launch.
+    // The error contains this unit's key, or is out of memory. Its cause is a call of the
+    // comparison or, if something differs, of the launch.
     ensures named { IfErr result (IsOfUnit unit.now.key) }
     ensures fails { IfErr (bare result) (FailsToBegin P.is_modelled project.now unit.now
         (command_of setup.now project.now unit.now done.now) (P.at place.old) (P.at place.new)) }
 
-    // Over sound records, or over none, the unit has begun after a success, and the others wait as
-    // before.
+    // Suppose that the records are sound, or that there are no records. Then after a success the
+    // unit has begun, and the other units wait as before.
     ensures build { (premise : Premise) (sources : World) → IsTrue P.is_modelled →
         BeginsBuild (build_context premise P.child setup.now project.now sources) done.now index
         unit.now
@@ -127,7 +128,7 @@ pub fn begin_unit<P: Place>(
         (BeginFaults store.old.next) (bare result) (P.at place.old) (P.at place.new) }
 {
     project.is_in_order();
-    // All memory is taken before the first call, so that each child in flight has its name.
+    // All memory is taken before the first call, so that the key of each child in flight is known.
     let key = match unit.key.copy(alloc) {
         Ok(key) => Key::new(key),
         Err(_) => return Err(BuildFault::OutOfMemory),
@@ -136,7 +137,7 @@ pub fn begin_unit<P: Place>(
         Ok(command) => command,
         Err(_) => return Err(BuildFault::OutOfMemory),
     };
-    // Looked at before anything is changed.
+    // The unit is compared with its record before anything is changed.
     let compared = match store.compare(alloc, place, &key, &command) {
         Ok(compared) => compared,
         Err(fault) => {
@@ -198,16 +199,16 @@ fn outcome_of(
 /// replays is judged, and a record of format 1 gets a run number. A record names the needed units
 /// by the numbers that the store has.
 ///
-/// Whatever it returns, the unit's child is no longer in flight, and the other children stay in
-/// flight. The child's end changes only files inside the unit's folder, and the calls after it
-/// change only the unit's record. A bad unit is not an error; its record stays as it is.
+/// Whatever the function returns, the unit's child is no longer in flight, and the other children
+/// stay in flight. The child's end changes only files inside the unit's folder, and the calls after
+/// it change only the unit's record. A bad unit is not an error, and its record is not changed.
 ///
-/// Errors: each but `OutOfMemory` has the unit's key. If a call of the place failed, it was the
-/// last, and the store may lack the numbers of its records.
+/// Errors: each error except `OutOfMemory` contains the unit's key. If a call of the place failed,
+/// it was the last call, and the store may lack the numbers of its records.
 ///
 /// - `Child` if the child did not answer.
 /// - `Device` if a file, a folder or a variable cannot be read, if the record cannot be written, or
-///   if no run number is left for a record that has none.
+///   if no run number is left for a record without a run number.
 /// - `OutOfMemory`. If memory runs out only for the message lines, the record of a good unit is
 ///   kept.
 #[tactic(auto, using(crate::proofs::Naming::naming_laws))]
@@ -261,7 +262,8 @@ pub fn answer_unit<P: Place>(
     }
 }
 
-/// Waits for the end of the child of a unit that has begun, if it has one, and drops the answer.
+/// Drops the answer of a unit that has begun. If the unit has a child, the function waits for the
+/// child's end.
 ///
 /// Whatever the place answers, the child is no longer in flight, and the other children stay in
 /// flight. Only the folder into which the child writes changes. A call that fails is counted.
@@ -269,7 +271,7 @@ pub fn drop_unit<P: Place>(alloc: Global, place: &mut P, begun: &Begun)
     requires flies { IfSome (child_of begun.now)
         (λ launched. is_flying launched.ticket (P.at place.old).counts.starts.flying ≡ true) }
 
-    // What is true of a build over true records, or over none, stays true.
+    // What is true of a build stays true, if its records are true or if there are no records.
     ensures build { (b : BuildContext) (index : ℕ) (unit : Planned) (next : Option ℕ) →
         IsInOrder b.project → unit_at b.project index ≡ Some unit → IsTrue P.is_modelled →
         DropsBuild b index unit begun.now next (P.at place.old) (P.at place.new) }
@@ -292,8 +294,8 @@ pub fn drop_unit<P: Place>(alloc: Global, place: &mut P, begun: &Begun)
     let _ = place.finish(alloc, launched.ticket);
 }
 
-/// Runs the unit at an index of the plan: begins it, and answers it. Whatever it returns, the
-/// unit's child is no longer in flight.
+/// Runs the unit at an index of the plan: begins it, and answers it. Whatever the function returns,
+/// the unit's child is no longer in flight.
 ///
 /// Errors: those of `begin_unit` and `answer_unit`.
 pub fn run_unit<P: Place>(
