@@ -35,7 +35,7 @@ use pb_store::{OpenFault, Store};
 use pb_workspace_types::Options;
 use std::alloc::{AllocError, Global};
 
-/// What the units of a build start from.
+/// What must be known before the units of a build are run.
 #[derive(Drop)]
 pub struct Prepared {
     /// How the units are compiled.
@@ -117,8 +117,7 @@ fn open_store<P: Place>(
     }
 }
 
-/// Prepares what a project's units start from: queries the
-/// compiler's version and opens the records.
+/// Queries the compiler's version, and opens the records of a project.
 fn ready<P: Place>(
     alloc: Global,
     place: &mut P,
@@ -169,17 +168,17 @@ fn ready<P: Place>(
     }
 }
 
-/// A build up to its plan: nothing has been started or changed yet.
+/// A planned build. Nothing has been started or changed yet.
 #[derive(Drop)]
 pub struct BuildPlan {
-    /// What the variables and the options say.
+    /// What the variables and the options say about the build.
     pub environment: Environment,
     /// What is built.
     pub project: OrderedProject,
 }
 
 /// Plans a build. The variables `RUSTC`, `RUSTFLAGS` and `CARGO_TARGET_DIR` are read first, and
-/// then the workspace. Then its selected packages, their features and the plan are found, in this
+/// then the workspace. The selected packages, their features and the plan are found next, in this
 /// order. No child is started, no line is written, and no file is changed.
 ///
 /// Errors: `Plan`, with the first refusal; `Device`, with the
@@ -215,12 +214,12 @@ pub fn plan_build<P: Place>(
     }
 }
 
-/// Prepares what the units of a planned build start from: queries the compiler's version
-/// and opens the records of the profile's folder. If the plan failed, returns its fault.
-/// No file is changed, and no line is written.
+/// Queries the compiler's version, and opens the records of the profile's folder. If the plan
+/// failed, returns the fault of the plan. No file is changed, and no line is written.
 ///
-/// Errors: the plan's fault; `Child` with `-vV`, if the compiler gives no answer; `Toolchain`, if
-/// it does not report its host; `Device`, with the path of the failed call; `OutOfMemory`.
+/// Errors: the plan's fault; `Child` with `-vV`, if the compiler does not answer; `Toolchain`, if
+/// the compiler does not report its host; `Device`, with the path of the failed call;
+/// `OutOfMemory`.
 pub fn prepare<P: Place>(
     alloc: Global,
     place: &mut P,
@@ -275,8 +274,8 @@ pub fn prepare<P: Place>(
     }
 }
 
-/// Works through a planned build up to its finish line. If only the planning came between, the
-/// contract is about the moment before it.
+/// Runs a planned build up to its finish line. If only the planning came before this call, the
+/// contract is about the moment before the planning.
 fn work<P: Place, O: Out, T: Turn>(
     alloc: Global,
     place: &mut P,
@@ -329,7 +328,7 @@ fn close<O: Out>(out: &mut O, inner: Result<Summary, BuildFault>) -> Result<Summ
 {
     match inner {
         Ok(summary) => finish(out, summary.success, Ok(summary)),
-        // A sink that failed is not written to again.
+        // After the sink has failed, nothing is written to it.
         Err(BuildFault::Sink) => Err(BuildFault::Sink),
         Err(BuildFault::Plan(refusal)) => Err(BuildFault::Plan(refusal)),
         Err(fault) => finish(out, false, Err(fault)),
@@ -339,7 +338,7 @@ fn close<O: Out>(out: &mut O, inner: Result<Summary, BuildFault>) -> Result<Summ
 /// Builds what was planned, by the steps that a turn chooses, as `build_turns` does after its plan.
 /// If the plan failed, the build ends as `build_turns` ends after a failed plan.
 ///
-/// Suppose that only the planning came between, with no other call of the place and nothing
+/// Suppose that since the planning began no other call of the place was made and nothing was
 /// written. Then the build ends as `build_turns` promises (`builds`), from the moment before the
 /// planning.
 ///
@@ -403,26 +402,24 @@ pub fn build_plan<P: Place, O: Out>(
     build_plan_turns(alloc, place, out, options, plan, &mut jobs)
 }
 
-/// Builds the workspace of a root manifest, as `cargo build`
-/// does, by the steps that a turn chooses.
+/// Builds the workspace of a root manifest as `cargo build` does, by the steps that a turn chooses.
 ///
-/// The order is fixed. The variables `RUSTC`, `RUSTFLAGS` and `CARGO_TARGET_DIR` are read first,
-/// and then the workspace. Its selected packages, their features and the plan are found. The query
-/// `-vV` is made, and the records of the profile's folder are opened. Then the units of the plan
-/// are run, and the finish line is written.
+/// The order is fixed. The build is planned first, as by `plan_build`. Then the query `-vV` is
+/// made, and the records of the profile's folder are opened. The units of the plan are run next,
+/// and the finish line is written last.
 ///
-/// The turn chooses which unit begins or answers next, until all units have answered, or all up to
-/// and including the first bad one. A unit's child is started only if something differs from the
-/// unit's record. Message lines are written in plan order, as units answer. At the end, or after a
-/// fault, the children in flight are awaited, in the order in which they began, and their answers
-/// are dropped.
+/// The turn chooses which unit begins or answers next. The turns end when all units have answered,
+/// or all units up to and including the first bad unit. A unit's child is started only if something
+/// differs from the unit's record. Message lines are written in plan order, as units answer. At the
+/// end, or after a fault, the children in flight are awaited, in the order in which they began, and
+/// their answers are dropped.
 ///
 /// Errors: `Plan`, before a child is started, a line is written or a file is changed; `Toolchain`,
-/// if the compiler does not report its host; `Child`, if a child gives no answer; `Device`, if a
-/// call on files or variables fails, or no run number is left; `Sink`; `OutOfMemory`. After a
-/// failed call no further call is made, except to wait for children in flight. After any error but
-/// `Plan` and `Sink` the failing finish line is written. A bad unit is not an error: the summary
-/// names it.
+/// if the compiler does not report its host; `Child`, if a child does not answer; `Device`, if a
+/// call on files or variables fails, or if no run number is left; `Sink`; `OutOfMemory`. After a
+/// failed call no further call is made, except to wait for children in flight. After any error
+/// except `Plan` and `Sink`, the finish line of a failed build is written. A bad unit is not an
+/// error: the summary names the unit.
 ///
 /// However the build ends, the files outside the target folder and
 /// the variables stay as they were, and no child is in flight.
@@ -447,10 +444,9 @@ pub fn build_turns<P: Place, O: Out, T: Turn>(
     build_plan_turns(alloc, place, out, options, plan, turn)
 }
 
-/// Builds with as many units in flight at a time as the options allow. If fewer are in flight and
-/// some unit may begin, the pick chooses the unit that begins. Otherwise the unit that began first
-/// answers. The pick is borrowed. Its choices lead from its state before the build to its state
-/// after the build.
+/// Builds with as many units in flight at a time as the options allow. If fewer units are in flight
+/// and some unit may begin, the pick chooses the unit that begins. Otherwise the unit that began
+/// first answers. The pick is borrowed, and its choices change its state.
 ///
 /// Errors: those of `build_turns`.
 pub fn build_with<P: Place, O: Out, K: Pick>(

@@ -21,16 +21,16 @@ use std::alloc::{AllocError, Global};
 /// What the variables and the options say about a build.
 #[derive(Drop)]
 pub struct Environment {
-    /// The compiler: `RUSTC`, else `rustc` (The Cargo Book, Environment Variables).
+    /// The compiler: `RUSTC`, or else `rustc` (The Cargo Book, Environment Variables).
     pub rustc: Text,
     /// The words of `RUSTFLAGS`, separated by spaces.
     pub flags: Items<Text>,
-    /// The target folder: `--target-dir`, else `CARGO_TARGET_DIR`, else `target`
-    /// in the root. A relative path starts at the root (our own choice).
+    /// The target folder: `--target-dir`, or else `CARGO_TARGET_DIR`, or else `target` in the root.
+    /// A relative path starts at the root (our own choice).
     pub target: PathText,
 }
 
-/// Returns a text that is not empty; an empty one counts as absent.
+/// Returns a text, if the text is present and not empty. An empty text counts as absent.
 fn unless_empty(found: Option<Text>) -> Option<Text>
     ensures { result ≡ set_text found }
 {
@@ -46,7 +46,7 @@ fn unless_empty(found: Option<Text>) -> Option<Text>
     }
 }
 
-/// Reads a variable by one call; an empty variable counts as absent (our own choice).
+/// Reads a variable by one call. An empty variable counts as absent (our own choice).
 #[tactic(auto, using(pb_run::proofs::Calling::call_laws))]
 fn variable<P: Place>(alloc: Global, place: &mut P, name: &str) -> Result<Option<Text>, BuildFault>
     ensures ok { IsTrue P.is_modelled
@@ -67,7 +67,7 @@ fn variable<P: Place>(alloc: Global, place: &mut P, name: &str) -> Result<Option
     }
 }
 
-/// Returns the compiler: `RUSTC`, else `rustc`.
+/// Returns the compiler: `RUSTC`, or else `rustc`.
 fn rustc_of(alloc: Global, found: Option<Text>) -> Result<Text, AllocError>
     ensures { IfOk result (λ text. text ≡ rustc_of found) }
 {
@@ -106,8 +106,8 @@ fn standard_target(alloc: Global, root: &PathText) -> Result<PathText, AllocErro
     root.below(alloc, &name)
 }
 
-/// Returns the path that a text names; a relative text starts at the root. If there is no text, or
-/// it contains byte 0, this is the other path.
+/// Returns the path that a text names. A relative text starts at the root. If there is no text, or
+/// if the text contains byte 0, returns the other path.
 fn told_or(
     alloc: Global,
     root: &PathText,

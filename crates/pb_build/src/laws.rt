@@ -15,14 +15,15 @@ pub fn builds_look_at_sources()
     ensures nothing { GivesFromNothing }
 {}
 
-/// Builds of a session came before into the same target folder, however they ended. Then a build
-/// produces exactly what it would produce after the edits alone.
+/// Suppose that earlier builds of a session used the same target folder, and ended in any way. Then
+/// a build produces exactly what it would produce after the edits alone.
 pub fn earlier_builds_change_nothing()
     ensures { Unaffected }
 {}
 
-/// A world has only one result. Either the build is refused for one reason, or the compiler does
-/// not report its version. Or the same units of the same plan have ended with the same outcomes.
+/// A world has only one result. Either each build is refused for the same reason, or the compiler
+/// does not report its version in any build, or the same units of the same plan end with the same
+/// outcomes.
 pub fn worlds_have_one_result()
     ensures { HasOneResult }
 {}
@@ -33,16 +34,16 @@ pub fn units_are_of_the_result()
 {}
 
 /// Edits and builds of a session leave the records of a folder true, however the builds ended. At
-/// first the records must be true, or there must be none. Each edit must stay out of the folder or
-/// remove it as a whole. Each build must keep its records in the folder, with an honest child, or
-/// apart from it.
+/// first the records must be true, or there must be no records. Each edit must stay out of the
+/// folder or remove it as a whole. Each build must keep its records in the folder and have an
+/// honest child, or keep its records apart from the folder.
 pub fn records_stay_true()
     ensures empty { NothingIsSound }
     ensures stay { RecordsStayTrue }
 {}
 
 /// After any edits and builds, a build of a session produces what a clean build of the present
-/// workspace produces. If a fault ends it, the first of these lines were written.
+/// workspace produces. If a fault ends the build, only the first of these lines have been written.
 pub fn any_build_gives()
     ensures { AnyBuildGives }
 {}

@@ -1,5 +1,5 @@
-//! A build of a workspace: what the build is about, its units in order, its message lines and its
-//! summary. The crate also runs sessions of edits and builds in memory.
+//! A build of a workspace: what is built, the units in order, the message lines and the summary.
+//! The crate also runs sessions of edits and builds in memory.
 #![tactic(auto)]
 
 pub mod builder;

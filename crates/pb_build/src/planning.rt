@@ -1,4 +1,4 @@
-//! What a build is about: the workspace that it reads, its features and its plan.
+//! What is built: the workspace that the build reads, its features and its plan.
 
 ghost use Rattle.std.specs.Prelude.{◌≡◌, ◌⊎◌, AllPairs, IfOk, IfErr, IsTrue, Ok, Err};
 ghost use Rattle.pb_build.specs.Causes.{MayPlan, PlansInTurn, OnlyLooks};

@@ -28,8 +28,8 @@ pub struct BuildOutcome {
     pub result: Result<Summary, BuildFault>,
 }
 
-/// Builds over a place on which no call fails, and begins the
-/// units that the session picks. After it, no call has failed.
+/// Builds over a place on which no call fails, and begins the units that the session picks. After
+/// the build, no call has failed.
 fn built_unfailing<C: Child + Copy, O: Out>(
     alloc: Global,
     memory: &mut Memory<C>,
@@ -140,8 +140,8 @@ fn build_by<C: Child + Copy, O: Out>(
     }
 }
 
-/// Builds, and adds the answer to those of earlier builds. If the build did not reach a fuse, this
-/// removes the fuse.
+/// Builds, and adds the answer to the answers of earlier builds. If the build did not reach the
+/// fuse, the fuse is removed.
 fn add_build<C: Child + Copy, O: Out>(
     alloc: Global,
     memory: &mut Memory<C>,
@@ -168,7 +168,8 @@ fn add_build<C: Child + Copy, O: Out>(
     Ok(())
 }
 
-/// Takes a step. A build adds its answer to those of earlier builds; any other step has no answer.
+/// Takes a step. A build adds its answer to the answers of earlier builds. Any other step has no
+/// answer.
 fn take_step<C: Child + Copy, O: Out>(
     alloc: Global,
     memory: &mut Memory<C>,
@@ -196,7 +197,7 @@ fn take_step<C: Child + Copy, O: Out>(
     }
 }
 
-/// Makes the call of this number of the next build fail; 0 makes no call fail.
+/// Makes the call with this number in the next build fail. If the number is 0, no call fails.
 fn light<C: Child>(memory: &mut Memory<C>, number: u64) -> Result<(), AllocError>
     ensures ok { OnOk result
         (memory.new ≡ record memory.old { tally = one_setting memory.old.tally; fuse = number }) }
@@ -210,12 +211,12 @@ fn light<C: Child>(memory: &mut Memory<C>, number: u64) -> Result<(), AllocError
 /// an answer for each build. All builds write their message lines to one sink.
 ///
 /// Each build ends as `build` promises, in the world that the earlier steps left. The session
-/// reports the cause with the end. If nothing was set to fail, and nothing has failed, no call of a
-/// build fails, except if memory runs out.
+/// reports the cause of each end. If nothing was set to fail, and nothing has failed, no call of a
+/// build fails, unless memory runs out.
 ///
-/// Errors: only out of memory, and only outside of a build; within a build, out of memory is the
-/// build's answer. If memory runs out at a step, the steps before it were taken. If the step is a
-/// build, it has ended; any other step has done nothing.
+/// Errors: only out of memory, and only outside of a build. If memory runs out in a build, this is
+/// the build's answer. If memory runs out at a step, the steps before it were taken. If this step
+/// is a build, the build has ended. Any other step has done nothing.
 pub fn session<C: Child + Copy, O: Out>(
     alloc: Global,
     memory: &mut Memory<C>,

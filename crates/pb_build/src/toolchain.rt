@@ -19,7 +19,8 @@ use pb_directive::texts::text_of;
 use pb_place_types::{Command, Ended, Place, StartFault};
 use std::alloc::Global;
 
-/// Returns whether a line reports the host: it is `host: ` and something after it.
+/// Returns whether a line reports the host: whether the line is `host: ` and then a text that is
+/// not empty.
 fn is_host(line: &[u8]) -> bool
     ensures { result ≡ is_host line.now }
 {
@@ -70,7 +71,8 @@ fn childless(unit: Text, fault: StartFault) -> BuildFault
 
 /// Starts a child, by one call, and waits for its end.
 ///
-/// Errors: `Child` with this name, if the child cannot be started or gives no answer; `OutOfMemory`.
+/// Errors: `Child` with this name, if the child cannot be started or does not answer;
+/// `OutOfMemory`.
 fn start<P: Place>(
     alloc: Global,
     place: &mut P,
@@ -82,7 +84,7 @@ fn start<P: Place>(
     ensures only { ChangesOnlyInSome command.now.out (P.at place.old).world
         (P.at place.new).world }
 
-    // One more child was in flight; after a fault, one more or none.
+    // One more child was in flight. After a fault, one more child or no more child was in flight.
     ensures most { OnOk result ((P.at place.new).most
         ≡ max (P.at place.old).most (length (P.at place.old).counts.starts.flying + 1)) }
     ensures most_else { OnErr result (((P.at place.new).most ≡ (P.at place.old).most)
@@ -105,8 +107,8 @@ fn start<P: Place>(
 
 /// Queries the compiler's version.
 ///
-/// Errors: `Toolchain`, if the compiler does not report its
-/// host; `Child` with `-vV`, if it gives no answer.
+/// Errors: `Toolchain`, if the compiler does not report its host; `Child` with `-vV`, if the
+/// compiler does not answer.
 #[tactic(auto, using(crate::proofs::Called::ask_laws))]
 pub(crate) fn ask<P: Place>(
     alloc: Global,

@@ -1,5 +1,5 @@
-//! Laws of a build in words of their own: its environment, the difference of a unit's command,
-//! which unit is next, the states of units, what a unit produces and reports, and the summary.
+//! Laws of a build, stated independently of the code: its environment, the difference of a unit's
+//! command, the next unit, the states of units, what a unit produces and reports, and the summary.
 #![tactic(auto)]
 
 ghost use Rattle.pb_build_laws.specs.Calls.{CallsAreTold};
@@ -13,79 +13,82 @@ ghost use Rattle.pb_build_laws.specs.States.{EndsAreThese, RowsAreThese, StatesA
 ghost use Rattle.pb_build_laws.specs.Summaries.{SummariesSay};
 ghost use Rattle.pb_build_laws.specs.Telling.{BadUnitsTell, GoodUnitsTell, LinesAreTold};
 
-/// A law: a command is the recorded one if and only if each part is equal to the recorded part, and
-/// so are the variables.
+/// A law: a command is equal to the recorded command if and only if each part is equal to the
+/// recorded part, and the variables are equal to the recorded variables.
 pub fn asked_part_for_part()
     ensures { AskedPartForPart }
 {}
 
-/// A law: which variable is the first that is reported to differ between a record that was read and
-/// a unit's command. It is the least name, in byte order, that has another text, is missing, or is
-/// new.
+/// A law about the variable that is reported as the first difference between a record that was read
+/// and a unit's command. Its name is the least name, in byte order, that has another text, is
+/// missing, or is new.
 pub fn first_name_is_least()
     ensures { FirstNameIsLeast }
 {}
 
-/// A law: what the summary of a build contains, and for which units.
+/// This law says what the summary of a build contains, and for which units.
 pub fn summaries_say()
     ensures { SummariesSay }
 {}
 
-/// A law: the events of a build. If fewer units are in flight than there are jobs, the first unit
-/// in plan order that may begin begins. Otherwise the unit that began first answers.
+/// A law about the events of a build. If fewer units are in flight than there are jobs, the next
+/// event is the beginning of the first unit, in plan order, that may begin. Otherwise the unit that
+/// began first answers.
 pub fn builds_go_in_turn()
     ensures { BuildsGoInTurn }
 {}
 
-/// A law: what a unit reports. Its lines follow from its package and its target. The law also says
-/// which messages a good unit has, and which a bad unit has, with what else its child printed.
+/// A law about what a unit reports. The lines follow from the unit's package and target. The law
+/// also says which messages a good unit has, and which messages and other output a bad unit has.
 pub fn units_tell()
     ensures lines { LinesAreTold }
     ensures good { GoodUnitsTell }
     ensures bad { BadUnitsTell }
 {}
 
-/// A law: a list has the outcomes of a build if and only if each unit has one, which follows from
-/// the units before it.
+/// A law: a list contains the outcomes of a build if and only if it contains an outcome for each
+/// unit, and this outcome follows from the outcomes of the units before the unit.
 pub fn outcomes_are_these()
     ensures { OutcomesAreThese }
 {}
 
-/// A law: a reply to the command of a planned unit has the inputs of the good answer in this reply.
+/// A law: if a reply to the command of a planned unit yields a good answer, the inputs of the reply
+/// are the inputs of this answer.
 pub fn inputs_are_judged()
     ensures { InputsAreJudged }
 {}
 
-/// A law: what the variables and the options determine about a build; the compiler's version, and
-/// its host.
+/// A law about a build's environment: what the variables and the options determine, and which
+/// answer of the compiler reports its version and its host.
 pub fn environments_are_these()
     ensures environments { EnvironmentsAreThese }
     ensures toolchains { ToolchainsAreSaid }
     ensures hosts { HostsComeFirst }
 {}
 
-/// A law: which units are untouched, bad and good, how many units have their lines due, and when
-/// the build is finished. The law also says what the units' keys are, and which outcomes are bad.
+/// This law says which units are untouched, bad and good, for how many units the lines are due, and
+/// when the build is finished. The law also says what the units' keys are, and which outcomes are
+/// bad.
 pub fn states_are_these()
     ensures states { StatesAreThese }
     ensures ends { EndsAreThese }
     ensures rows { RowsAreThese }
 {}
 
-/// A law: what a build reports about a failed call on files or variables.
+/// This law says what a build reports about a failed call on files or variables.
 pub fn calls_are_told()
     ensures { CallsAreTold }
 {}
 
-/// A law: which record counts, and which numbers records have. The next run number is the one after
-/// the greatest that the records of a folder have or name.
+/// This law says which record counts, and which numbers records have. The next run number is one
+/// above the greatest number that the records of a folder have or name.
 pub fn next_is_above()
     ensures records { RecordsAreNumbered }
     ensures counts { RecordsCount }
     ensures next { NextIsAbove }
 {}
 
-/// A law: the first difference between a unit and its record.
+/// This law defines the first difference between a unit and its record.
 pub fn differences_are_these()
     ensures { DifferencesAreThese }
 {}

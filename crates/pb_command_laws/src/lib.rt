@@ -1,5 +1,5 @@
-//! Laws of commands in words that do not follow the code: what the arguments of a compile say,
-//! and what each variable is (The Cargo Book, cargo build, Build Scripts, Environment Variables).
+//! Laws of commands, stated independently of the code: what the arguments of a compile say, and the
+//! value of each variable (The Cargo Book, cargo build, Build Scripts, Environment Variables).
 #![tactic(auto)]
 
 ghost use Rattle.pb_command_laws.specs.Compiles.{CompilesSay};
@@ -11,60 +11,64 @@ ghost use Rattle.pb_command_laws.specs.Starts.{CompilesStart, RunsStart};
 ghost use Rattle.pb_command_laws.specs.Texts.{InfosAreRead, LinesAreTrimmed, OutputsAreRead};
 ghost use Rattle.pb_command_laws.specs.Variables.{CompilesHave, RunsHave};
 
-/// A law: the arguments of a compile are read back by the compiler's own option grammar. They say
-/// its crate, settings, conditions, folders and libraries, and then what the user's flags say.
+/// A law: the arguments of a compile are read back by the compiler's own option grammar. The
+/// arguments say the crate, settings, conditions, folders and libraries of the compile, and then
+/// what the user's flags say.
 pub fn compiles_say()
     ensures { CompilesSay }
 {}
 
-/// A law: what arguments say, read in this way, contains each argument again, so none is skipped.
+/// A law: if arguments are read in this way, the result contains each argument, so no argument is
+/// skipped.
 pub fn sayings_keep_words()
     ensures { SayingsKeepWords }
 {}
 
-/// A law: a compile has these variables, each with this value unless the run of its own package has
-/// set the variable. Apart from these, it has only the variables that this run has set.
+/// A law: a compile has the stated variables. Each has the stated value, unless the run of the
+/// compile's own package has set the variable. Apart from these variables, a compile has only
+/// variables that this run has set.
 pub fn compiles_have()
     ensures { CompilesHave }
 {}
 
-/// A law: a run has these variables, each with this value, and no others.
+/// A law: a run has the stated variables, each with the stated value, and no other variables.
 pub fn runs_have()
     ensures { RunsHave }
 {}
 
 /// A law: a compile starts the compiler in the workspace's root. A run starts its script in its
-/// package's folder, after the runner if there is one. Each writes into its unit's folder. In the
-/// target folder, each may read what its unit reaches.
+/// package's folder, after the runner if there is one. Each child writes into its unit's folder. In
+/// the target folder, each child may read the folders of the units that its unit reaches.
 pub fn commands_start()
     ensures compiles { CompilesStart }
     ensures runs { RunsStart }
 {}
 
-/// A law: in a plan, a compile gets the libraries to which its enabled entries
-/// lead, and a binary also its own. A library or a binary hears the run of its
-/// package on its side. A run starts the script of its package on its side.
+/// A law about a plan. A compile gets the libraries to which its enabled entries lead, and a binary
+/// also gets its own library. A library or a binary gets the directives of the run of its package
+/// on its side. A run starts the script of its package on its side.
 pub fn commands_follow_plans()
     ensures libraries { LibrariesAreWanted }
     ensures heard { CompilesHearRuns }
     ensures scripts { RunsStartScripts }
 {}
 
-/// A law: what all other laws say about the command of a unit in a plan. The command starts
-/// something, has variables, arguments and libraries, and may hear a run.
+/// This law applies all other laws to the command of a unit in a plan. It says what the command
+/// starts, its variables, arguments and libraries, and the run whose directives it gets, if any.
 pub fn commands_of_plans()
     ensures compiles { CompilesOfPlans }
     ensures runs { RunsOfPlans }
 {}
 
-/// A law: how the answer of a unit's child is judged, case by case, and which inputs it reports.
+/// This law says how the answer of a unit's child is judged, case by case, and which inputs the
+/// answer reports.
 pub fn answers_say()
     ensures { AnswersSay }
 {}
 
 /// A law: a whole text, the output of a script or dep-info, is read line by line. The result is
-/// what its lines say, in order, or the problem of the first line that cannot be read, with its
-/// number. The law also says what a line without its blanks is.
+/// what the lines say, in order. If a line cannot be read, the result is the problem of the first
+/// such line, with the line's number. The law also defines a line without its blanks.
 pub fn texts_are_read()
     ensures outputs { OutputsAreRead }
     ensures infos { InfosAreRead }

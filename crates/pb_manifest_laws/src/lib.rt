@@ -10,7 +10,7 @@ pub fn packages_say()
 {}
 
 /// A law: the readings of `[lib]`, of each `[[bin]]` and of each entry of `[features]` return
-/// exactly what these mean.
+/// exactly what these tables and entries mean.
 pub fn targets_say()
     ensures libraries { ReadsLibraries }
     ensures binaries { ReadsBinaries }
@@ -24,14 +24,14 @@ pub fn dependencies_say()
 {}
 
 /// A law: the readings of a profile's settings, and of each entry of `[profile]`, return exactly
-/// what these mean (The Cargo Book, Profiles).
+/// what these settings and entries mean (The Cargo Book, Profiles).
 pub fn profiles_say()
     ensures settings { ReadsSettings }
     ensures profiles { ReadsProfiles }
 {}
 
 /// A law: the readings of each entry of `[workspace.dependencies]`, and of `[workspace]`, return
-/// exactly what these mean (The Cargo Book, Workspaces).
+/// exactly what these tables and entries mean (The Cargo Book, Workspaces).
 pub fn workspaces_say()
     ensures entries { ReadsSharedDependencies }
     ensures workspaces { ReadsWorkspaces }
@@ -39,8 +39,8 @@ pub fn workspaces_say()
 
 /// A law about whole manifests.
 ///
-/// - A document is read as a manifest if and only if it means that manifest, table by table and key
-/// by key.
+/// - A document is read as a manifest if and only if the document means this manifest, table by
+///   table and key by key.
 /// - Bytes are read as a manifest if and only if they are the bytes of such a document.
 /// - A document means at most one manifest.
 /// - The written form of a manifest that was read, each key with its value, is read as the same

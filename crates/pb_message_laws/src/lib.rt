@@ -1,5 +1,5 @@
-//! Laws on message lines, and on what a compiler's lines mean. Each message line is one line and
-//! the text of one JSON object with these members (The Cargo Book, External Tools).
+//! Laws of message lines, and of the meaning of a compiler's lines. Each message line is one line,
+//! and is the text of one JSON object with given members (The Cargo Book, External Tools).
 #![tactic(auto)]
 
 ghost use Rattle.pb_message_laws.specs.Objects.{MessagesAreObjects, EndsAreObjects, DiagnosticsAreCopied, LinesFollow};
@@ -8,8 +8,8 @@ ghost use Rattle.pb_message_laws.specs.Streams.{CompilersSay};
 ghost use Rattle.pb_message_laws.specs.Told.{LinesTellMessages};
 
 /// A law: the line of each message has one line feed, its last byte. A compiler's diagnostic is
-/// copied byte for byte, so it must have no line feed. Everything else is in JSON strings, which
-/// escape line feeds.
+/// copied byte for byte, so the diagnostic must contain no line feed. Everything else is in JSON
+/// strings, which escape line feeds.
 pub fn messages_are_lines()
     ensures messages { MessagesAreLines }
     ensures end { BuildsEndInLine }
@@ -20,9 +20,9 @@ pub fn diagnostics_are_lines()
     ensures { DiagnosticsAreLines }
 {}
 
-/// A law: messages of one package and target with the same line are of the same kind. If they are
-/// diagnostics or notes, they are equal. For artifacts and executed scripts we promise no more,
-/// since their lines contain less than the messages do.
+/// A law: messages of one package and target with the same line are of the same kind. If the
+/// messages are diagnostics or notes, the messages are equal. For artifacts and executed scripts we
+/// promise no more, since the lines of these messages contain less than the messages.
 pub fn lines_tell_messages()
     ensures { LinesTellMessages }
 {}
@@ -35,12 +35,13 @@ pub fn lines_are_objects()
     ensures diagnostics { DiagnosticsAreCopied }
 {}
 
-/// A law: the lines of several messages are their lines one after another.
+/// A law: the text for several messages is the concatenation of the lines of these messages.
 pub fn lines_follow()
     ensures { LinesFollow }
 {}
 
-/// A law: which lines of a compiler's standard error are diagnostics, and which are plain text.
+/// This law says which lines of a compiler's standard error are diagnostics, and which lines are
+/// plain text.
 pub fn compilers_say()
     ensures { CompilersSay }
 {}

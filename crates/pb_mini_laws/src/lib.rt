@@ -1,5 +1,5 @@
-//! Laws on the small compiler. As a child it is honest on the commands of units. So a build with
-//! this child has the headline, and nothing is assumed about the child.
+//! Laws of the small compiler. As a child it is honest on the commands of units. So the headline is
+//! true for a build with this child, and nothing is assumed about the child.
 #![tactic(auto)]
 
 ghost use Rattle.pb_directive.specs.declared.dep_info.DepInfo.{DepInfo};
@@ -12,49 +12,51 @@ ghost use Rattle.std.specs.Prelude.{ℕ, List};
 use pb_run_flight::Turn;
 
 /// A law: if dep-info of the small compiler is read without a fault, the names include all paths
-/// and variables that were written. The output is an absolute path of one line. A path or a
-/// variable's name is one line and does not end with `\` or a carriage return. A variable's name
-/// has no `=`.
+/// and variables that were written. The law has three conditions. The output is an absolute path of
+/// one line. A path or a variable's name is one line and does not end with `\` or a carriage
+/// return. A variable's name contains no `=`.
 pub fn names_are_read_back()
     ensures { (output : List ℕ) (names : Names) (info : DepInfo) → ReadsBack output names info }
 {}
 
 /// A law: the small compiler is honest on the command of each unit of a project, whatever earlier
-/// scripts have printed. A good reply comes again in every world that agrees on two things. These
-/// are the values of the inputs that the builder finds in the reply, and the contents of the
-/// folders that the command may read.
+/// scripts have printed. The small compiler returns a good reply again in every world that agrees
+/// on two things. These things are the values of the inputs that the builder finds in the reply,
+/// and the contents of the folders that the command may read.
 ///
-/// The project was read and planned: it is settled, has its plan, and has normalised absolute
-/// paths. The user's flags name no libraries, and the small compiler runs the scripts. What is read
-/// can be expressed: its names are not empty, are one line each, and end so that they are read
-/// back.
+/// The law has these conditions. The project was read and planned: it is settled, has its plan, and
+/// has normalised absolute paths. The user's flags name no libraries, and the small compiler runs
+/// the scripts. The dep-info can express the names of what is read: each name is not empty, is one
+/// line, and ends so that it is read back.
 pub fn small_compiler_is_honest()
     ensures { SmallCompilerIsHonest }
 {}
 
-/// A law: the small compiler is an honest child of each build that satisfies the following. The
+/// A law: the small compiler is an honest child of each build that satisfies these conditions. The
 /// manifest and the files of the sources have normalised absolute paths. `RUSTFLAGS` contains no
-/// `--extern`, and the runner is `--run` after a name. On one line, the small compiler can report
-/// the name of whatever a unit reads.
+/// `--extern`, and the runner is a name and then `--run`. For everything that a unit reads, the
+/// small compiler can report the name on one line.
 pub fn small_builds_are_honest()
     ensures { SmallBuildsAreHonest }
 {}
 
-/// A law: the small compiler is the child of a build over true records, which satisfies the
+/// A law about a build over true records whose child is the small compiler. The build satisfies the
 /// conditions of `small_builds_are_honest`. Whichever turn the build uses, and however it ends, it
-/// produces what a clean build of the present workspace produces. It leaves true records.
+/// produces what a clean build of the present workspace produces. Afterwards the records are true.
 pub fn small_builds_give<T: Turn>()
     ensures { SmallBuildsGive T.turns }
 {}
 
-/// A law: edits outside of the folder of its records, and builds as in `small_builds_give`, came
-/// before. Then a build of a session with the small compiler produces what a clean build of the
-/// present workspace produces. If a fault ends the build, the first of these lines were written.
+/// A law about a build of a session with the small compiler. Suppose that before it there were only
+/// edits outside of the folder of its records, and builds as in `small_builds_give`. Then the build
+/// produces what a clean build of the present workspace produces. If a fault ends the build, only
+/// the first of these lines have been written.
 ///
-/// Each build of a session file that begins without files does so under fewer conditions. Of any
-/// two target folders, both are the same, or neither is inside the other. Edits stay out of these
-/// folders, or remove a whole folder. A profile is a name; `RUSTFLAGS` contains no `--extern`; and
-/// the compiler can report what it reads. The file itself ensures the rest.
+/// If a session file begins without files, the same is true of each of its builds under fewer
+/// conditions. Any two target folders are the same, or neither is inside the other. Edits stay out
+/// of these folders, or remove a whole folder. A profile is a name, `RUSTFLAGS` contains no
+/// `--extern`, and the compiler can report what it reads. The form of a session file ensures the
+/// other conditions.
 pub fn small_sessions_give()
     ensures records { SmallSessionsGive }
     ensures files { SessionFilesGive }

@@ -12,8 +12,8 @@ ghost use Rattle.pb_unit_laws.specs.Profiles.{LinesAreChecked, LinesAreThese};
 ghost use Rattle.pb_unit_laws.specs.Settings.{SettingsAreThese};
 ghost use Rattle.pb_unit_laws.specs.Targets.{PlansHaveTargets, RunsMakeNone, UnitsMakeTargets};
 
-/// A law: the definition of resolved features determines all features that are on: each question
-/// about them has one answer.
+/// A law: the definition of resolved features determines all features that are on. Each question
+/// about these features has one answer.
 pub fn features_are_one()
     ensures { FeaturesAreOne }
 {}
@@ -25,16 +25,16 @@ pub fn needs_are_these()
 
 /// A law: the line of a profile leads from each profile to the one from which it inherits, up to
 /// `dev` or `release`. A profile has no line if and only if one of its ancestors inherits from
-/// nothing or, after some steps, from itself. A line is good if its overrides set only what they
-/// may.
+/// nothing or, after some steps, from itself. A line is good if its overrides set only keys that
+/// overrides may set.
 pub fn lines_are_these()
     ensures lines { LinesAreThese }
     ensures checked { LinesAreChecked }
 {}
 
-/// A law: what a unit compiles and produces, for each kind of target. A run produces no file. The
-/// package of each unit of a plan has the unit's target, and the package of each run has its
-/// script.
+/// This law says what a unit compiles and produces, for each kind of target. A run produces no
+/// file. The package of each unit of a plan has the unit's target, and the package of each run has
+/// its script.
 pub fn units_make_targets()
     ensures targets { UnitsMakeTargets }
     ensures runs { RunsMakeNone }
@@ -46,7 +46,8 @@ pub fn packages_are_at_fault()
     ensures { PackagesAreAtFault }
 {}
 
-/// A law: which kinds of units there are, which role and folder a unit has, and which directives a run has.
+/// This law says which kinds of units exist, which role and folder a unit has, and which directives
+/// a run has.
 pub fn kinds_are_these()
     ensures kinds { KindsAreThese }
     ensures roles { RolesAreThese }
@@ -54,13 +55,13 @@ pub fn kinds_are_these()
     ensures said { RunsSay }
 {}
 
-/// A law: the settings of a package in a role are the first values of the keys that count for it.
+/// A law: for each key, the setting of a package in a role is the first value that counts for it.
 pub fn settings_are_these()
     ensures { SettingsAreThese }
 {}
 
-/// A law: the level above some units, the name of the package at an index, and whether this package
-/// has a library.
+/// This law states the level above some units, the name of the package at an index, and whether
+/// this package has a library.
 pub fn levels_are_these()
     ensures levels { LevelsAreThese }
     ensures packages { PackagesHaveNames }

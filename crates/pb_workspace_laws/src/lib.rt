@@ -11,27 +11,28 @@ ghost use Rattle.pb_workspace_laws.specs.Ways.{PathsAreSpelled, TextsLeadBetween
 /// - The folders of its packages are the least set that contains the root package's folder, the
 ///   members' folders, and the folder of each path dependency of a package in the set. The packages
 ///   are in byte order of these folders.
-/// - The manifest of its folder and the files there describe each package, key by key, with what a
-///   member inherits from the workspace.
-/// - This includes its binaries, if the files of the sources have normalised absolute paths.
+/// - Each package is described, key by key, by the manifest and the files in its folder, and by
+///   what a member inherits from the workspace.
+/// - This includes the binaries of the package, if the files of the sources have normalised
+///   absolute paths.
 pub fn workspaces_are_read()
     ensures { WorkspacesAreRead }
 {}
 
-/// A law: there is only one workspace as the first law describes, so the first law determines all
-/// of a workspace that was read.
+/// A law: only one workspace satisfies the first law. So the first law determines all of a
+/// workspace that was read.
 pub fn workspaces_are_one()
     ensures { WorkspacesAreOne }
 {}
 
-/// A law: whatever the files contain, a workspace that was read is settled, as `load` promises of
+/// A law: whatever the files contain, a workspace that was read is settled, as `load` promises for
 /// its result.
 pub fn all_are_settled()
     ensures { AllAreSettled }
 {}
 
-/// A law: which folders a text of `members` means, if the files of the sources have normalised
-/// absolute paths. The law also says how a path is spelled relative to a folder.
+/// This law says which folders a text of `members` means, if the files of the sources have
+/// normalised absolute paths. The law also says how a path is spelled relative to a folder.
 pub fn folders_are_meant()
     ensures meant { TextsMeanFolders }
     ensures parts { PartsMatchNames }
