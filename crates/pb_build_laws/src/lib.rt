@@ -52,8 +52,8 @@ pub fn outcomes_are_these()
     ensures { OutcomesAreThese }
 {}
 
-/// A law: if a reply to the command of a planned unit yields a good answer, the inputs of the reply
-/// are the inputs of this answer.
+/// A law: a reply to the command of a planned unit has inputs if and only if the reply yields a
+/// good answer. The inputs of the reply are the inputs of this answer.
 pub fn inputs_are_judged()
     ensures { InputsAreJudged }
 {}

@@ -55,7 +55,7 @@ pub fn kinds_are_these()
     ensures said { RunsSay }
 {}
 
-/// A law: for each key, the setting of a package in a role is the first value that counts for it.
+/// A law: for each key, the setting of a package in a role is the first value that counts for the key.
 pub fn settings_are_these()
     ensures { SettingsAreThese }
 {}
