@@ -21,9 +21,9 @@ pub fn earlier_builds_change_nothing()
     ensures { Unaffected }
 {}
 
-/// A world has only one result. Either each build is refused for the same reason, or the compiler
-/// does not report its version in any build, or the same units of the same plan end with the same
-/// outcomes.
+/// A world has only one result. The result is the reason why the build is refused, a compiler that
+/// does not report its version, or the units of a plan with their outcomes. Two results of the same
+/// world are equal in this sense.
 pub fn worlds_have_one_result()
     ensures { HasOneResult }
 {}

@@ -13,8 +13,8 @@ ghost use Rattle.pb_build_laws.specs.States.{EndsAreThese, RowsAreThese, StatesA
 ghost use Rattle.pb_build_laws.specs.Summaries.{SummariesSay};
 ghost use Rattle.pb_build_laws.specs.Telling.{BadUnitsTell, GoodUnitsTell, LinesAreTold};
 
-/// A law: a command is equal to the recorded command if and only if each part is equal to the
-/// recorded part, and the variables are equal to the recorded variables.
+/// A law: a command is equal to the recorded command if and only if its parts and variables are
+/// equal to the recorded parts and variables.
 pub fn asked_part_for_part()
     ensures { AskedPartForPart }
 {}
@@ -31,9 +31,9 @@ pub fn summaries_say()
     ensures { SummariesSay }
 {}
 
-/// A law about the events of a build. If fewer units are in flight than there are jobs, the next
-/// event is the beginning of the first unit, in plan order, that may begin. Otherwise the unit that
-/// began first answers.
+/// A law about the events of a build. If fewer units are in flight than there are jobs, a unit
+/// begins: the first unit, in plan order, that may begin. Otherwise the unit that began first
+/// answers.
 pub fn builds_go_in_turn()
     ensures { BuildsGoInTurn }
 {}
@@ -46,8 +46,8 @@ pub fn units_tell()
     ensures bad { BadUnitsTell }
 {}
 
-/// A law: a list contains the outcomes of a build if and only if it contains an outcome for each
-/// unit, and this outcome follows from the outcomes of the units before the unit.
+/// A law about the outcomes of a build. A list contains these outcomes if and only if each unit has
+/// its outcome in the list. The outcome of a unit follows from the outcomes of the units before it.
 pub fn outcomes_are_these()
     ensures { OutcomesAreThese }
 {}

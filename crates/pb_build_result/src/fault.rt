@@ -44,8 +44,8 @@ pub enum BuildFault {
     #[error("{0}")]
     Plan(Refusal),
     /// The compiler does not report its version. The query `-vV` ended with a status other than 0,
-    /// or a stream is over 4,194,304 bytes, or standard output is not UTF-8 or has no line `host:
-    /// TRIPLE`.
+    /// or a stream is over 4,194,304 bytes. Another reason is that standard output is not UTF-8, or
+    /// has no line `host: TRIPLE`.
     #[error("the compiler did not report its version and host")]
     Toolchain,
     /// A child did not answer. The name is `-vV` for the query, and the unit's key for a unit.

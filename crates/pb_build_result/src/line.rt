@@ -253,9 +253,9 @@ fn fault_line(alloc: Global, fault: &BuildFault) -> Result<String, AllocError>
 ///   of the unit's fault: `Status(N)`, where N is a signed decimal number; `Directive(NAME)`, with
 ///   the name of the line's fault; `ScriptError`, `NoDepInfo`, `ForeignInput`, `OutputTooLong`;
 /// - `refused NAME`, with the innermost fault's name without its fields;
-/// - `fault AT NAME`, with the unit's key, or the path or the variable's name, and the name
-///   of the child's fault, `Device` for a call on files or variables, or `NumbersSpent`;
-///   `fault -vV Toolchain`, `fault sink Sink` and `fault memory OutOfMemory`.
+/// - `fault AT NAME`. AT is the unit's key, the path, or the variable's name. NAME is the name of
+///   the child's fault, `Device` for a call on files or variables, or `NumbersSpent`; `fault -vV
+///   Toolchain`, `fault sink Sink` and `fault memory OutOfMemory`.
 ///
 /// KEYS are the keys of the units whose child was started, in order of starting, with `,` between
 /// them. If no child was started, KEYS is `-`.

@@ -11,8 +11,8 @@ use thiserror::Error;
 /// Why a session file is refused.
 #[derive(Clone, Copy, Debug, PartialEq, Eq, Error)]
 pub enum BadSession {
-    /// The bytes are not UTF-8 or not JSON, the JSON is not a session, or a text that must be a
-    /// path is not a path.
+    /// The bytes are not UTF-8 or not JSON, or the JSON is not a session, or a path in it is
+    /// invalid.
     #[error("bad session")]
     BadForm,
     /// Memory ran out.

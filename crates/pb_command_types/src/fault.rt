@@ -21,7 +21,7 @@ pub enum UnitFault {
     /// The compiler wrote no dep-info, or its dep-info cannot be read or is over 4,194,304 bytes.
     #[error("the compiler left no dep-info that can be read")]
     NoDepInfo,
-    /// A path at or below the target folder is named as an input, but the path is in no folder of a
+    /// A path at or below the target folder is named as an input. This path is in no folder of a
     /// unit that this unit reaches.
     #[error("the input `{}` is in the target folder", .0.as_str())]
     ForeignInput(PathText),

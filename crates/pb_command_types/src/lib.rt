@@ -1,7 +1,7 @@
-//! What a build knows after it is planned: the project and its settings, what a unit produces and
-//! where, what it needs, the directives of build scripts, what a good answer contains, and why an
-//! answer is bad. The crates that make the commands of units use this crate, as do the other crates
-//! about units.
+//! What a build knows after it is planned. This includes the project and its settings, what a unit
+//! produces and where, and what a unit needs. It also includes the directives of build scripts, the
+//! contents of a good answer, and the faults of a bad answer. The crates that make the commands of
+//! units use this crate, as do the other crates about units.
 #![tactic(auto)]
 
 pub mod checked_reply;

@@ -465,7 +465,7 @@ pub fn lines_of(
     Ok(Text::new(lines))
 }
 
-/// Returns the last line of a build, with its line feed. It takes no memory.
+/// Returns the last line of a build, with its line feed. No memory is used.
 pub fn finish_line(success: bool) -> &'static str
     ensures { result.now ≡ finish_line success }
 {

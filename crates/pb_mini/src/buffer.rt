@@ -21,7 +21,7 @@ impl Model for Buffer {
 }
 
 impl Buffer {
-    /// Returns an empty buffer. It takes no memory.
+    /// Returns an empty buffer. No memory is used.
     pub(crate) fn new(alloc: Global) -> Buffer
         ensures { result ≡ [] }
     {
@@ -45,7 +45,7 @@ impl Buffer {
         self.inside.as_slice()
     }
 
-    /// Returns the bytes. It takes no memory.
+    /// Returns the bytes. No memory is used.
     pub(crate) fn into_bytes(self) -> Bytes
         ensures { result ≡ self }
     {

@@ -94,9 +94,10 @@ fn with_variables(alloc: Global, text: Vec<u8>, names: Names) -> Result<Vec<u8>,
     Ok(text)
 }
 
-/// Returns the dep-info of a compile, which The Cargo Book ("Build Cache") compares to a makefile:
-/// the output, a colon, and the paths, with `\ ` for each space. Then, as real compilers write it,
-/// a line `# env-dep:NAME=VALUE` for each variable, without `=VALUE` if it is not set.
+/// Returns the dep-info of a compile. The first line contains the output, a colon, and the paths,
+/// with `\ ` for each space. The Cargo Book ("Build Cache") compares this form to a makefile. As in
+/// the dep-info of real compilers, each variable follows on a line `# env-dep:NAME=VALUE`. If a
+/// variable is not set, its line has no `=VALUE`.
 pub(crate) fn dep_info_text(
     alloc: Global,
     output: &PathText,

@@ -24,7 +24,7 @@ pub struct Effects {
 }
 
 impl Effects {
-    /// Returns no effects. It takes no memory.
+    /// Returns no effects. No memory is used.
     pub(crate) fn new(alloc: Global) -> Effects
         ensures { result ≡ no_effects }
     {

@@ -1,6 +1,6 @@
-//! The small compiler: a compiler of one file that replaces a real one in every session and test.
-//! It is a child like any other, so its contract shows that a child can be honest. The language
-//! that it compiles is our own.
+//! The small compiler. It compiles one file, and replaces a real compiler in every session and
+//! test. It is a child like any other, so its contract shows that a child can be honest. The
+//! language that it compiles is our own.
 #![tactic(auto)]
 
 mod buffer;

@@ -67,8 +67,8 @@ fn reply_to<V: View>(
 
 /// Returns the reply of the small compiler to the arguments of a command line.
 ///
-/// - `-vV` alone prints the version: the status is 0, and standard output has a line with name and
-///   number and a line `host:` with the platform.
+/// - `-vV` alone prints the version. The status is 0. Standard output has a line with name and
+///   number, and a line `host:` with the platform.
 /// - `--run PATH` runs an image.
 /// - Other arguments are a compile: `--crate-name NAME` and `--out-dir FOLDER` once each,
 ///   `--crate-type TYPE` at least once, and one source. The first `--crate-type` counts. There may

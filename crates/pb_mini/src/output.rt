@@ -19,7 +19,7 @@ pub struct Output {
 }
 
 impl Output {
-    /// Returns no output. It takes no memory.
+    /// Returns no output. No memory is used.
     pub(crate) fn new(alloc: Global) -> Output
         ensures { result ≡ no_output }
     {

@@ -25,7 +25,7 @@ pub struct Scope {
     pub pairs: Table<Text>,
 }
 
-/// Adds a library with its file, unless there is one with this name.
+/// Adds a library with its file, unless there is already a library with this name.
 fn add_library(alloc: Global, libraries: &mut Table<Text>, written: &str) -> Result<(), AllocError>
     ensures { OnOk result (libraries.new ≡ with_first libraries.old (library_of written.now)) }
 {

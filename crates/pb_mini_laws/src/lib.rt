@@ -21,12 +21,12 @@ pub fn names_are_read_back()
 
 /// A law: the small compiler is honest on the command of each unit of a project, whatever earlier
 /// scripts have printed. The small compiler returns a good reply again in every world that agrees
-/// on two things. These things are the values of the inputs that the builder finds in the reply,
-/// and the contents of the folders that the command may read.
+/// on two things. The first is the values of the inputs that the builder finds in the reply. The
+/// second is the contents of the folders that the command may read.
 ///
 /// The law has these conditions. The project was read and planned: it is settled, has its plan, and
 /// has normalised absolute paths. The user's flags name no libraries, and the small compiler runs
-/// the scripts. The dep-info can express the names of what is read: each name is not empty, is one
+/// the scripts. The dep-info can express the names of what is read. Each name is not empty, is one
 /// line, and ends so that it is read back.
 pub fn small_compiler_is_honest()
     ensures { SmallCompilerIsHonest }

@@ -73,8 +73,8 @@ fn command(
 /// it was the last call. After any error no new child is in flight, and the store may lack the
 /// numbers of its records.
 ///
-/// - `Device` if a file, a folder or a variable cannot be read; if something differs, also if the
-///   record or the folder cannot be removed, or if no run number is left.
+/// - `Device` if a file, a folder or a variable cannot be read. If something differs, the error is
+///   also `Device` if the record or the folder cannot be removed, or if no run number is left.
 /// - `Child` if the child cannot be spawned.
 /// - `OutOfMemory`.
 ///

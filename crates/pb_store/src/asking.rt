@@ -1,4 +1,4 @@
-//! What differs between a command and the recorded one: the first part, and the first variable.
+//! What differs between a command and the recorded command: the first part, and the first variable.
 
 ghost use Rattle.std.specs.Prelude.{◌≡◌, ◌&&◌, Decides, IfOk, MatchOption, Some, option_map};
 ghost use Rattle.std.specs.Str.{bytes_eq};
@@ -49,7 +49,7 @@ fn has_out(out: &PathText, other: &Option<PathText>) -> bool
     }
 }
 
-/// Returns whether a part of a command is equal to the recorded one.
+/// Returns whether a part of a command is equal to the recorded part.
 fn is_same_part(asked: &RecordedCommand, command: &Command, part: CommandPart) -> bool
     ensures { Decides result (SamePart asked.now command.now part) }
 {
@@ -65,7 +65,7 @@ fn is_same_part(asked: &RecordedCommand, command: &Command, part: CommandPart) -
 }
 
 /// Returns the first part of a command, apart from its variables, that differs from the recorded
-/// one. It takes no memory.
+/// part. No memory is used.
 pub fn first_part(asked: &RecordedCommand, command: &Command) -> Option<CommandPart>
     ensures { MatchOption result (AsksAs asked.now command.now)
         (IsFirst (SamePart asked.now command.now) (λ part. part) parts) }
@@ -92,7 +92,7 @@ fn is_same_variable(pair: &(Text, Text), other: &(Text, Text)) -> bool
     pair.0.as_bytes() == other.0.as_bytes() && pair.1.as_bytes() == other.1.as_bytes()
 }
 
-/// Returns the first name at which two rows of variables differ. It takes no memory.
+/// Returns the first name at which two rows of variables differ. No memory is used.
 fn first_name<'a>(pairs: &'a [(Text, Text)], others: &'a [(Text, Text)]) -> Option<&'a Text>
     ensures { option_map (λ name. name.now) result ≡ first_name pairs.now others.now }
 {

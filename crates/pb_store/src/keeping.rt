@@ -268,8 +268,8 @@ impl Store {
     ///
     /// `needs` are the keys of the units that the unit needs, in plan order. `names` are the inputs
     /// found in its answer: their present values are read and recorded. After an error the unit has
-    /// no record, its old one, or the new one. The contract then promises nothing about the run
-    /// numbers in the store.
+    /// no record, its old record, or the new record. The contract then promises nothing about the
+    /// run numbers in the store.
     ///
     /// Errors: `Place` if an input cannot be read or the record cannot be written; `OutOfMemory`.
     ///
@@ -295,7 +295,8 @@ impl Store {
         requires numbers { IsTrue P.is_modelled →
             HasNumbers (records self.old.folder (P.at place.old).world) self.old.numbers }
 
-        // The unit has the new record. After an error it has the new record, its old one, or none.
+        // The unit has the new record. After an error it has the new record, its old record, or no
+        // record.
         ensures record { IsTrue P.is_modelled →
             KeepsRecord P.child key.now command.now needs.now names.now ended.now number result
             self.old self.new (P.at place.old).world (P.at place.new).world }

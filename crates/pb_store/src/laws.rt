@@ -4,7 +4,7 @@ ghost use Rattle.pb_store.specs.Asking.{FirstNameIsFirst};
 ghost use Rattle.pb_store.specs.Differences.{DifferencesAreOne, UnchangedIsSame};
 ghost use Rattle.pb_store.specs.Looking.{TestsDecide};
 
-/// States that the world determines the first difference of a unit: if two calls of `differs` in
+/// States that the world determines the first difference of a unit. If two calls of `differs` in
 /// the same world return no error, both return the same.
 pub fn differences_are_one()
     ensures { DifferencesAreOne }

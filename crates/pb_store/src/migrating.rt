@@ -97,9 +97,9 @@ impl Store {
     /// Gives a unit's record of format 1 the next run number, names the needed units by their
     /// numbers, and rewrites the record in format 2. If the record is of format 2, or no record
     /// counts, the function changes nothing. `needs` are the keys of the units that the unit needs,
-    /// in plan order. After an error the unit has its old record, none, or the new one. If the
-    /// write failed, the number is taken; after any other error it may be taken. The contract then
-    /// promises nothing about the run numbers in the store.
+    /// in plan order. After an error the unit has its old record, no record, or the new record. If
+    /// the write failed, the number is taken; after any other error it may be taken. The contract
+    /// then promises nothing about the run numbers in the store.
     ///
     /// Errors: `NumbersSpent` only if the record is of format 1 and no number is left, and then
     /// nothing changes; `Place` if the record cannot be read or written; `OutOfMemory`.
@@ -113,8 +113,8 @@ impl Store {
         requires numbers { IsTrue P.is_modelled →
             HasNumbers (records self.old.folder (P.at place.old).world) self.old.numbers }
 
-        // A record without a number gets the next one. After an error the record has the number, is
-        // unchanged, or is gone.
+        // A record without a number gets the next number. After an error the record has the number,
+        // is unchanged, or is gone.
         ensures record { IsTrue P.is_modelled →
             MigratesRecord P.child key.now needs.now result self.old self.new
             (P.at place.old).world (P.at place.new).world }

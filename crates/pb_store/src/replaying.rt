@@ -13,8 +13,8 @@ use pb_record::Record;
 pub struct Replayed {
     /// The status 0, which each kept answer has, and the two streams.
     pub ended: Ended,
-    /// Whether the record has a run number. A record of format 1 has none, and `migrate` gives it
-    /// one.
+    /// Whether the record has a run number. A record of format 1 has no run number, and `migrate`
+    /// adds a run number.
     pub numbered: bool,
 }
 

@@ -27,7 +27,7 @@ impl<V> Model for ByFolder<V> {
 }
 
 impl<V: Drop> ByFolder<V> {
-    /// Returns a map without entries. It takes no memory.
+    /// Returns a map without entries. No memory is used.
     pub fn new(alloc: Global) -> ByFolder<V>
         ensures { result ≡ [] }
     {
@@ -44,7 +44,7 @@ impl<V: Drop> ByFolder<V> {
         Ok(())
     }
 
-    /// Returns the value of a folder, if it has one.
+    /// Returns the value of a folder, if the folder has a value.
     pub fn get(&self, folder: &PathText) -> Option<&V>
         ensures { option_copied result ≡ value_of folder.now self.now }
     {

@@ -10,9 +10,9 @@ pub fn rounds_are_enough()
     ensures { FuelIsEnough }
 {}
 
-/// A glob matches a name if and only if the name is a sequence of pieces, one for each byte of the
-/// glob, and each byte matches its piece. `*` matches any text, `?` matches one character, and
-/// every other byte matches itself (The Cargo Book, Workspaces).
+/// A glob matches a name if and only if the name is a sequence of pieces that the bytes of the glob
+/// match, in order. `*` matches any text, `?` matches one character, and every other byte matches
+/// itself (The Cargo Book, Workspaces).
 pub fn globs_stand_for_names()
     ensures { DecidesGlobs }
 {}

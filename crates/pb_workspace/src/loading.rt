@@ -70,7 +70,7 @@ fn at_root(alloc: Global, frame: &WorkspaceRoot) -> Result<PackageLocation, Allo
     })
 }
 
-/// Returns a reading without packages. It takes no memory.
+/// Returns a reading without packages. No memory is used.
 fn nothing_read(alloc: Global) -> LoadState
     ensures { result ≡ nothing_read }
 {
@@ -284,7 +284,7 @@ fn workspace_in<P: Place>(
 /// - `TooMany`: a 257th package would be read.
 /// - `Place`: a call failed. It contains the path of that call.
 /// - `SameName`, `NameMismatch`, `VersionMismatch`, `LinksTwice`, `LinksWithoutScript`,
-///   `SameBinary`, in this order, once all packages are read.
+///   `SameBinary`, in this order, after all packages are read.
 /// - `OutOfMemory`, at any time.
 #[tactic(auto, unfolding(crate::specs::Loaded::workspace_of))]
 pub fn load<P: Place>(

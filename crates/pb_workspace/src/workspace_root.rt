@@ -49,7 +49,7 @@ fn no_keys() -> WorkspacePackage
     }
 }
 
-/// Returns nothing to inherit. It takes no memory.
+/// Returns nothing to inherit. No memory is used.
 pub fn nothing(alloc: Global) -> Given
     ensures { result ≡ nothing }
 {
@@ -70,7 +70,7 @@ fn keys_or_none(written: Option<WorkspacePackage>) -> WorkspacePackage
 }
 
 /// Returns the workspace of a root manifest. Without `[workspace]`, the workspace is the root
-/// package only (The Cargo Book, Workspaces). It takes no memory.
+/// package only (The Cargo Book, Workspaces). No memory is used.
 pub fn frame_of(
     alloc: Global,
     root: PathText,

@@ -8,9 +8,9 @@ ghost use Rattle.pb_workspace_laws.specs.Ways.{PathsAreSpelled, TextsLeadBetween
 
 /// A law: a workspace that was read is determined by its manifests and their folders.
 ///
-/// - The folders of its packages are the least set that contains the root package's folder, the
-///   members' folders, and the folder of each path dependency of a package in the set. The packages
-///   are in byte order of these folders.
+/// - The folders of its packages are the least set that contains the root package's folder and the
+///   members' folders. For each package in the set, the set also contains the folder of each path
+///   dependency. The packages are in byte order of these folders.
 /// - Each package is described, key by key, by the manifest and the files in its folder, and by
 ///   what a member inherits from the workspace.
 /// - This includes the binaries of the package, if the files of the sources have normalised

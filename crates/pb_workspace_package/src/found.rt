@@ -41,9 +41,9 @@ pub fn found_readme(
     Text::from_str(alloc, "")
 }
 
-/// Returns the source of a package's build script, if it has one (The Cargo Book, Build Scripts).
-/// Unless `build` says otherwise, the source is `build.rs` if the package's folder has this file.
-/// If `build` writes a path, the source is this path, unchanged.
+/// Returns the source of a package's build script, if the package has a build script (The Cargo
+/// Book, Build Scripts). Unless `build` says otherwise, the source is `build.rs` if the package's
+/// folder has this file. If `build` writes a path, the source is this path, unchanged.
 ///
 /// Errors: out of memory.
 pub fn script_of(

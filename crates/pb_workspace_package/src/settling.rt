@@ -127,7 +127,8 @@ fn discover_binaries(
 }
 
 /// Returns what a package with these keys is built into: its library, its binaries and its build
-/// script, each if it is written or found (The Cargo Book, Cargo Targets and Build Scripts).
+/// script. A part that is neither written nor found is absent (The Cargo Book, Cargo Targets and
+/// Build Scripts).
 ///
 /// Errors: out of memory.
 pub fn targets_of(

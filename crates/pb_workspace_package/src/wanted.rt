@@ -21,7 +21,7 @@ use std::alloc::{AllocError, Global};
 /// package has not been looked for yet.
 #[derive(Drop)]
 pub struct Wanted {
-    /// The name that the manifest gives it.
+    /// The name of the entry in the manifest.
     pub key: Text,
     /// The table that contains it.
     pub kind: DependencyKind,
