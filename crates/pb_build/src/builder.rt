@@ -421,8 +421,8 @@ pub fn build_plan<P: Place, O: Out>(
 /// except `Plan` and `Sink`, the finish line of a failed build is written. A bad unit is not an
 /// error: the summary names the unit.
 ///
-/// However the build ends, the files outside the target folder and
-/// the variables stay as they were, and no child is in flight.
+/// However the build ends, the files outside the target folder and the variables do not change.
+/// Afterwards no child is in flight.
 pub fn build_turns<P: Place, O: Out, T: Turn>(
     alloc: Global,
     place: &mut P,

@@ -8,7 +8,7 @@ ghost use Rattle.pb_build.specs.Session.{Unaffected};
 use pb_run_flight::Turn;
 
 /// A build does not see what exists in the target folder. Two worlds with the same variables and
-/// the same files outside this folder give the same results. So a build produces what it would
+/// the same files outside this folder lead to the same results. So a build produces what it would
 /// produce over an empty target folder.
 pub fn builds_look_at_sources()
     ensures sources { LooksAtSources }
@@ -21,9 +21,9 @@ pub fn earlier_builds_change_nothing()
     ensures { Unaffected }
 {}
 
-/// A world has only one result. The result is the reason why the build is refused, a compiler that
-/// does not report its version, or the units of a plan with their outcomes. Two results of the same
-/// world are equal in this sense.
+/// A world has only one result. The result is a refusal with its reason, a compiler without a
+/// reported version, or the units of a plan with their outcomes. Two results of the same world are
+/// equal in this sense.
 pub fn worlds_have_one_result()
     ensures { HasOneResult }
 {}

@@ -46,14 +46,14 @@ fn is_of_targets(name: &str) -> bool
     name == "lib" || name == "bins" || name == "bin" || name == "pick" || name == "jobs"
 }
 
-/// Returns whether the options of a build may have a key.
+/// Returns whether a key is a known key of the options of a build.
 fn is_known(name: &str) -> bool
     ensures { result ≡ is_known name.now }
 {
     is_of_packages(name) || is_of_features(name) || is_of_targets(name)
 }
 
-/// Returns whether the options of a build have only keys that they may have.
+/// Returns whether the options of a build have only known keys.
 fn are_known(map: &Map<String, Value>) -> bool
     ensures { result ≡ are_known (members_view map.now.entries) }
 {

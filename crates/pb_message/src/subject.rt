@@ -23,7 +23,8 @@ pub struct Target {
     pub source: PathText,
     /// The edition.
     pub edition: Edition,
-    /// The features that a binary requires. If there are none, the line has no member for them.
+    /// The features that a binary requires. If there are no required features, the line has no
+    /// member for them.
     pub required_features: Items<Text>,
 }
 

@@ -84,8 +84,8 @@ fn reply_to<V: View>(
 ///
 /// - A line that is empty or begins with `#` does nothing.
 /// - `use NAME` adds the line to the image, and after it each line of the library's file with `> `
-///   in front. The library is that of the first `--extern NAME=PATH`. If there is no such argument,
-///   the error is `no library NAME`.
+///   in front. The first `--extern NAME=PATH` names the file of the library. If there is no such
+///   argument, the error is `no library NAME`.
 /// - `include PATH` adds each line of the file with `| ` in front. A relative path begins at the
 ///   source's folder. If its first part is `$VAR`, the variable's value replaces this part. If
 ///   there is no file, the error is `no file PATH`.

@@ -103,7 +103,7 @@ impl Store {
         ensures calls { CallsOnce (call.Remove (place_of self.old.folder key.now)) result
             (P.at place.old).counts (P.at place.new).counts }
     {
-        // The number comes first: if none is left, nothing is removed.
+        // The number comes first: if no number is left, nothing is removed.
         let number = match self.next {
             None => return Err(StoreFault::NumbersSpent),
             Some(number) => number,

@@ -63,7 +63,7 @@ pub fn first_number(
     Ok(None)
 }
 
-/// Returns a number, or 0 if there is none.
+/// Returns a number, or 0 if there is no number.
 fn or_zero(found: Option<u64>) -> u64
     ensures { result ≡ or_zero found }
 {

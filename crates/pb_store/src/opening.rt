@@ -28,7 +28,7 @@ fn greater(number: u64, other: u64) -> u64
     number.max(other)
 }
 
-/// Returns the greatest of the numbers by which units are named, or 0 if there is none.
+/// Returns the greatest of the numbers by which units are named, or 0 if there is no number.
 #[tactic(auto, using(crate::proofs::Ahead::most_step))]
 fn greatest_among(needs: &[(Text, u64)]) -> u64
     ensures { result ≡ fold (λ g pair. max g pair.1) 0 needs.now }

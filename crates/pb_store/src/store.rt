@@ -97,7 +97,7 @@ fn read_text(alloc: Global, text: &Option<Bytes>) -> Result<Option<Record>, Allo
     }
 }
 
-/// Returns a record if it has this key.
+/// Returns a record if the record has this key.
 fn if_of_key(found: Option<Record>, key: &Key) -> Option<Record>
     ensures { result ≡ if_of_key key.now found }
 {

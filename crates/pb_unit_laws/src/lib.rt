@@ -23,8 +23,8 @@ pub fn needs_are_these()
     ensures { NeedsAreThese }
 {}
 
-/// A law: the line of a profile leads from each profile to the one from which it inherits, up to
-/// `dev` or `release`. A profile has no line if and only if one of its ancestors inherits from
+/// A law: the line of a profile leads from each profile to the profile from which it inherits, up
+/// to `dev` or `release`. A profile has no line if and only if one of its ancestors inherits from
 /// nothing or, after some steps, from itself. A line is good if its overrides set only keys that
 /// overrides may set.
 pub fn lines_are_these()

@@ -101,7 +101,8 @@ fn looked_for_main(
 ///
 /// If no path is written, the source is the first of these paths that is a file. The paths are
 /// `src/main.rs` (only if the binary is named as its package), `src/bin/NAME.rs` and
-/// `src/bin/NAME/main.rs`. If no path is that of a file, the source is the first of these paths.
+/// `src/bin/NAME/main.rs`. If no file exists at these paths, the source is the first of these
+/// paths.
 ///
 /// Errors: out of memory.
 pub fn binary_source(
