@@ -361,7 +361,7 @@ fn answered_with<M: Meaning>(
 /// its package is the input (The Cargo Book, Build Scripts). Paths in the folder of a reached unit
 /// are left out, since the reached unit covers them. A text means the path of `PathText::join`.
 ///
-/// Errors (the first that occurs is returned):
+/// Errors: the first of these that occurs.
 ///
 /// - `OutputTooLong` and `Status`, as `ended_fault` determines.
 /// - For a run: `Directive`, if a line of its output has a fault; `ScriptError`, if a line is

@@ -1,5 +1,5 @@
-//! The present value of an input is compared with the recorded value. Both values are never in
-//! memory at the same time.
+//! The present value of an input is compared with the recorded value. Only one file of the present
+//! value is in memory at a time.
 
 ghost use Rattle.std.specs.Prelude.{◌≡◌, ◌∷◌, ◌&&◌, [], map, IsTrue, IfOk, Decides};
 ghost use Rattle.std.specs.FinMap as finite;

@@ -76,7 +76,8 @@ fn links_twice(alloc: Global, drafts: &[UnresolvedPackage]) -> Result<bool, Allo
     again
 }
 
-/// Returns whether a version matches a requirement, if there is one.
+/// Returns whether a version matches a requirement. If there is no requirement, every version
+/// matches.
 fn matches_if(requirement: &Option<Requirement>, version: &Version) -> bool
     ensures { result ≡ matches_if requirement.now version.now }
 {

@@ -272,7 +272,7 @@ fn workspace_in<P: Place>(
 /// the same byte order. No package is read twice, and nothing at or below the target folder is
 /// looked at. No child process is started, and no file is changed.
 ///
-/// Errors (the first that occurs is returned):
+/// Errors: the first of these that occurs.
 /// - `NoManifest`: the file does not exist, is not named `Cargo.toml`, or is at or below the target
 ///   folder.
 /// - `Manifest`: the manifest reader refuses the file.
