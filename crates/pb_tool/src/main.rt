@@ -8,8 +8,8 @@
 //! no such name.
 //!
 //! `pb_tool session FILE` runs a session in memory with the small compiler. It prints all message
-//! lines and then one result line for each build. The status is 0, or 1 for a bad command line and
-//! for a bad session.
+//! lines and then one result line for each build. The status is 0. For a bad command line or a bad
+//! session, it is 1.
 #![tactic(auto)]
 
 use pb_tool_program::tool;

@@ -1,4 +1,4 @@
-//! What is needed, besides its words, to read a command line.
+//! What the reader of a command line needs besides the words.
 
 use pb_place_types::PathText;
 
@@ -7,10 +7,10 @@ use pb_place_types::PathText;
 pub struct Here {
     /// The current folder, at which relative paths start.
     pub folder: PathText,
-    /// How many processors it may use.
+    /// How many processors the program may use.
     pub processors: u64,
     /// Whether standard error is a terminal.
     pub is_terminal: bool,
-    /// Whether colours are used on standard error if no option says so.
+    /// Whether standard error has colours if no option decides this.
     pub shows_colors: bool,
 }

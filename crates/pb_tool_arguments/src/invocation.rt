@@ -20,7 +20,7 @@ use std::alloc::{AllocError, Global};
 pub enum Invocation {
     /// The session of the file at this path.
     Session(PathText),
-    /// A build, and what is shown of it besides its lines.
+    /// A build, and what is shown of the build besides its message lines.
     Build { options: Options, shown: Shown },
     /// What a build of these options would start. Nothing is built.
     Preview(Options),
@@ -28,16 +28,16 @@ pub enum Invocation {
     Explain(Text),
     /// The plan of a build of these options, in a form. Nothing is built.
     Plan { options: Options, form: PlanForm },
-    /// The removal of what builds with these options made. Only their packages are removed, or all
-    /// packages if the options name none. Only the profile that the options name counts, or all
-    /// profiles if they name none.
+    /// The removal of what builds with these options made. If the options name packages, only the
+    /// files of these packages are removed. If `one_profile` is true, only the profile of the
+    /// options counts, else all profiles.
     Clean { options: Options, one_profile: bool },
 }
 
 /// The form in which a plan is printed.
 #[derive(Clone, Copy, PartialEq, Eq)]
 pub enum PlanForm {
-    /// A line for each unit: its key, and the keys of what it needs.
+    /// A line for each unit: the unit's key, and the keys of what the unit needs.
     Lines,
     /// One JSON list.
     Json,
@@ -56,7 +56,7 @@ pub struct Shown {
     pub verbose: bool,
     /// Which unit begins, on one line; each new text overwrites the old one.
     pub progress: bool,
-    /// At the end, how many units were built and kept, and how long that took.
+    /// At the end, how many units were built and kept, and how long the build took.
     pub counts: bool,
     /// Words such as `warning` at the start of a line of standard error, in colours.
     pub colors: bool,
@@ -65,9 +65,9 @@ pub struct Shown {
 /// Why a command line requests nothing that is done.
 #[derive(Drop)]
 pub enum ArgumentsError {
-    /// Help or the version was requested, or there were no words: its text.
+    /// Help or the version was requested, or there were no words. The field is the text to print.
     Help(Text),
-    /// The words are wrong: the text that says what is wrong with them.
+    /// The words are wrong. The field is the text that says what is wrong.
     Wrong(Text),
     /// Memory ran out.
     OutOfMemory,
@@ -90,8 +90,8 @@ fn is_help(kind: ErrorKind) -> bool
         || kind == ErrorKind::DisplayHelpOnMissingArgumentOrSubcommand
 }
 
-/// Returns what the reader of the words reports: its text goes to the
-/// output if help was requested, and otherwise to standard error.
+/// Returns what the reader of the words reports. The text is for the output if help was requested,
+/// and otherwise for standard error.
 pub(crate) fn unasked_of(alloc: Global, error: &Error) -> ArgumentsError
     ensures { TellsKind (kind_of error.now) result }
 {

@@ -1,6 +1,5 @@
-//! The command line of the program `pb_tool`: the options of a build,
-//! as The Cargo Book has them for `cargo build`, or the file of a
-//! session. `clap` reads the words, and none of its types is passed on.
+//! The command line of the program `pb_tool`. The options of a build are those that The Cargo Book
+//! describes for `cargo build`. `clap` reads the words, and no caller sees a type of `clap`.
 #![tactic(auto)]
 
 mod description;

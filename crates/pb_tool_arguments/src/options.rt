@@ -8,13 +8,13 @@ pub(crate) struct Described {
     pub(crate) name: &'static str,
     /// What follows one hyphen, if the option has a letter.
     pub(crate) short: Option<char>,
-    /// What each use of the option does, if it does more than store one value.
+    /// What each use of the option does, if a use does more than store one value.
     pub(crate) action: Option<ArgAction>,
-    /// What help calls its value; empty if it takes no value.
+    /// What help calls the option's value; empty if the option takes no value.
     pub(crate) value: &'static [&'static str],
-    /// The values that it may have, if only some texts are allowed.
+    /// The texts that the option's value may be, if only some texts are allowed.
     pub(crate) among: Option<&'static [&'static str]>,
-    /// What it is for.
+    /// What the option is for.
     pub(crate) help: &'static str,
 }
 
@@ -175,7 +175,7 @@ pub(crate) static TELLING: [Described; 8] = [
     },
 ];
 
-/// The options for what a command reads, and for the folder of all that is made.
+/// The options for the manifest that a command reads, and for the target folder.
 pub(crate) static PLACES: [Described; 2] = [
     Described {
         name: "manifest-path",
@@ -195,7 +195,7 @@ pub(crate) static PLACES: [Described; 2] = [
     },
 ];
 
-/// The options for the form of messages and for children, and options of cargo that need no work
+/// The options for the form of messages, for children, and the options of cargo that have no effect
 /// here.
 pub(crate) static CHILDREN: [Described; 6] = [
     Described {

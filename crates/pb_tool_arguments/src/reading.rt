@@ -1,4 +1,4 @@
-//! From the words of a command line to what it requests.
+//! The reading of a command line: which request its words make.
 
 ghost use Rattle.std.specs.Prelude.{◌≡◌, Ok, IfOk, IfErr, Some, [], codes, map, unwrap_or};
 ghost use Rattle.clap.specs.Matches.{found_of};
@@ -25,7 +25,7 @@ use pb_workspace_types::Options;
 use std::alloc::{AllocError, Global};
 use std::convert::AsStr;
 
-/// The options of a build that may be wrong.
+/// The options of a build whose values may be wrong.
 #[derive(Drop)]
 struct Judged {
     manifest: PathText,
@@ -33,7 +33,7 @@ struct Judged {
     jobs: u64,
 }
 
-/// The options of a build that name something, each by any number of texts.
+/// The options of a build that name something. Each has any number of texts.
 #[derive(Drop)]
 struct Named {
     packages: Items<Text>,
@@ -60,8 +60,8 @@ struct Flags {
     bins: bool,
 }
 
-/// Returns those options of a build that may be wrong. A relative path of the manifest starts at
-/// the folder.
+/// Returns the options of a build whose values may be wrong. A relative path of the manifest starts
+/// at the current folder.
 fn judged_of(alloc: Global, here: &Here, matches: &ArgMatches<'_>) -> Result<Judged, ArgumentsError>
     ensures manifest { IfOk result (λ judged.
         joined here.now.folder (manifest_of (rows_of (found_of matches.now)))
@@ -158,7 +158,7 @@ fn flags_of(matches: &ArgMatches<'_>) -> Flags
     }
 }
 
-/// Returns options, made of their parts.
+/// Returns the options that consist of these parts.
 fn joined_of(judged: Judged, named: Named, tools: Tools, flags: Flags) -> Options
     ensures { result ≡ record {
       manifest = judged.manifest;
@@ -259,7 +259,7 @@ fn shown_of(here: &Here, matches: &ArgMatches<'_>) -> Shown
     }
 }
 
-/// Returns what `pb_tool build` requests: a build, or a look at what it would start.
+/// Returns what `pb_tool build` requests: a build, or a look at what a build would start.
 fn build_of(
     alloc: Global,
     tool: &str,
@@ -388,8 +388,8 @@ fn asked_by(
     }
 }
 
-/// Returns the words as the description of the command line
-/// reads them, or why it does not accept them.
+/// Returns the words as the description of the command line reads them. If the description does not
+/// accept the words, returns why.
 fn matches_of<'a, S: AsStr>(alloc: Global, words: &'a [S]) -> Result<ArgMatches<'a>, ArgumentsError>
     ensures matches { IfOk result (λ matches. (choices : Choices) × AreChoices choices
         × IsTaken choices (map S.text words.now)
@@ -403,7 +403,7 @@ fn matches_of<'a, S: AsStr>(alloc: Global, words: &'a [S]) -> Result<ArgMatches<
     }
 }
 
-/// Returns the first word; it is empty if there is none.
+/// Returns the first word, or an empty text if there is no word.
 fn tool_of<S: AsStr>(words: &[S]) -> &str
     ensures { result.now ≡ tool_of (map S.text words.now) }
 {
@@ -416,9 +416,9 @@ fn tool_of<S: AsStr>(words: &[S]) -> &str
 /// Returns what a command line requests. The words are the words of the whole command line, with
 /// the program's own name first.
 ///
-/// Errors: `Help`, if help or the version is requested, or there are no words;
-/// `Wrong`, with its text, if the words are not a command line, two profiles
-/// are given, `--jobs` is wrong, or a path has byte 0; `OutOfMemory`.
+/// Errors: `Help`, if help or the version is requested, or if there are no words; `Wrong`, with its
+/// text, if the words are not a command line, two profiles are given, `--jobs` is wrong, or a path
+/// has byte 0; `OutOfMemory`.
 pub fn read_command_line<S: AsStr>(
     alloc: Global,
     words: &[S],

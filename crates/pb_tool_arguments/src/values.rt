@@ -23,7 +23,7 @@ pub(crate) fn is_given(matches: &ArgMatches<'_>, name: &str) -> bool
     matches.get_flag(name)
 }
 
-/// Returns the first value of an option, if it was given.
+/// Returns the first value of an option, if the option was given.
 pub(crate) fn first<'m>(matches: &ArgMatches<'m>, name: &str) -> Option<&'m str>
     ensures { option_map (λ text. text.now) result
         ≡ first_of name.now (rows_of (found_of matches.now)) }
@@ -31,7 +31,7 @@ pub(crate) fn first<'m>(matches: &ArgMatches<'m>, name: &str) -> Option<&'m str>
     matches.get_str(name)
 }
 
-/// Returns the first value of an option, or another text if it was not given.
+/// Returns the first value of an option, or another text if the option was not given.
 pub(crate) fn first_or<'m>(matches: &ArgMatches<'m>, name: &str, other: &'m str) -> &'m str
     ensures { result.now ≡ unwrap_or
         (first_of name.now (rows_of (found_of matches.now))) other.now }
@@ -67,7 +67,7 @@ pub(crate) fn values_of(
     }
 }
 
-/// Returns the value of an option, if it was given.
+/// Returns the value of an option, if the option was given.
 pub(crate) fn value_of(
     alloc: Global,
     matches: &ArgMatches<'_>,
@@ -101,8 +101,8 @@ pub(crate) fn profile_of(alloc: Global, matches: &ArgMatches<'_>) -> Result<Text
     }
 }
 
-/// Returns the number of a text that consists of digits; `None` if the text has anything else, or
-/// if the number is too great.
+/// Returns the number that a text of digits represents. Returns `None` if the text has another
+/// character, or if the number is too great.
 fn number_in(text: &str) -> Option<u64>
     ensures { MatchOption result ((n : ℕ) → ¬ IsNumber text.now n) (IsNumber text.now) }
 {

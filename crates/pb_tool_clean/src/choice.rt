@@ -1,4 +1,4 @@
-//! What is chosen of a target folder.
+//! Which part of a target folder is chosen.
 
 ghost use Rattle.std.specs.Prelude.{◌≡◌, ◌++◌, ◌&&◌, IfOk, OnOk, map, option_copied};
 ghost use Rattle.pb_tool_clean.specs.Cleaning.{chosen_of, is_whole};
@@ -10,18 +10,18 @@ use pb_data::{Items, Text, TryCopy};
 use pb_place_types::PathText;
 use std::alloc::{AllocError, Global};
 
-/// What is chosen of a target folder.
+/// Which part of a target folder is chosen.
 #[derive(Drop)]
 pub struct Choice {
     /// The target folder.
     pub target: PathText,
-    /// The names of the packages; if there are none, all are chosen.
+    /// The names of the chosen packages; if there are no names, all packages are chosen.
     pub packages: Items<Text>,
-    /// The folder of the profile; `None` if all are chosen.
+    /// The folder of the chosen profile; `None` if all profiles are chosen.
     pub profile: Option<PathText>,
 }
 
-/// Returns whether there is no folder, or a path is below it.
+/// Returns whether a path is below a folder, or there is no folder.
 fn is_within(folder: &Option<PathText>, path: &PathText) -> bool
     ensures { result ≡ is_within folder.now path.now }
 {
@@ -105,7 +105,7 @@ pub fn choose(
     Ok(chosen)
 }
 
-/// Returns whether all is chosen.
+/// Returns whether everything is chosen.
 pub(crate) fn is_whole(choice: &Choice) -> bool
     ensures { result ≡ is_whole choice.now }
 {

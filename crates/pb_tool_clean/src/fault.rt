@@ -8,15 +8,15 @@ use pb_data::Text;
 use pb_place_types::{PathText, PlaceFault};
 use std::alloc::AllocError;
 
-/// What a removal looks for in a target folder: any record or unit's folder, or one that the
+/// What a removal looks for in a target folder: any record or unit's folder, or those that the
 /// options name.
 #[derive(Clone, Copy, PartialEq, Eq)]
 pub enum Wanted {
-    /// Any.
+    /// Any record or unit's folder.
     All,
-    /// Under the profile that is named.
+    /// A record or a unit's folder of the named profile.
     OfProfile,
-    /// Of the packages that are named, under that profile if one is named.
+    /// A record or a unit's folder of the named packages, and of the named profile if there is one.
     OfPackages,
 }
 

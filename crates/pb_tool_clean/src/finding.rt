@@ -1,4 +1,4 @@
-//! What a removal removes: the target folder, and what is chosen of it.
+//! What a removal removes: the target folder, and which part of this folder is chosen.
 
 ghost use Rattle.std.specs.Prelude.{◌≡◌, ◌⊎◌, [], IfOk, IfErr, true, false, Decides};
 ghost use Rattle.pb_place_types.specs.Paths.{below, is_relative};
@@ -17,7 +17,7 @@ use pb_profile::folder_of;
 use pb_workspace_types::Options;
 use std::alloc::{AllocError, Global};
 
-/// Returns the choice of all that is in a target folder.
+/// Returns the choice of everything in a target folder.
 fn all_of(alloc: Global, target: &PathText) -> Result<Choice, AllocError>
     ensures { IfOk result (λ choice. choice ≡ all_of target.now) }
 {
@@ -59,14 +59,14 @@ fn looked_in(choice: Choice) -> PathText
     }
 }
 
-/// Returns whether nothing of what was listed is chosen.
+/// Returns whether a choice contains nothing that was listed.
 fn has_nothing(alloc: Global, choice: &Choice, listed: &Listed) -> Result<bool, AllocError>
     ensures { IfOk result (λ nothing. Decides nothing (chosen_of choice.now listed.now ≡ [])) }
 {
     Ok(choose(alloc, choice, listed)?.is_empty())
 }
 
-/// Returns what a choice needs but was not listed, if there is something.
+/// Returns what a choice wants and the list does not contain, if there is such a thing.
 fn missing_in(alloc: Global, choice: &Choice, listed: &Listed) -> Result<Option<Wanted>, AllocError>
     ensures { IfOk result (ReportsMissing choice.now listed.now) }
 {
@@ -82,7 +82,7 @@ fn missing_in(alloc: Global, choice: &Choice, listed: &Listed) -> Result<Option<
     Ok(None)
 }
 
-/// Returns a choice, if something of it was listed.
+/// Returns a choice, if the list contains a chosen thing.
 ///
 /// Errors: `Nothing`, with the folder in which the choice looks; `OutOfMemory`.
 fn require_listed(alloc: Global, choice: Choice, listed: &Listed) -> Result<Choice, CleanFault>
@@ -137,7 +137,7 @@ fn profile_of(
     }
 }
 
-/// Returns what is chosen of a target folder.
+/// Returns which part of a target folder is chosen.
 fn choice_in(
     alloc: Global,
     target: PathText,
@@ -164,9 +164,9 @@ fn choice_in(
     }
 }
 
-/// Returns what the options of a removal choose: the target folder; the packages that are named, or
-/// all; the folder of the profile, if a profile is named. Something of this choice exists. Nothing
-/// is changed.
+/// Returns what the options of a removal choose: the target folder, the named packages or all
+/// packages, and the folder of the named profile, if any. At least one chosen record or unit's
+/// folder exists. The function changes nothing.
 ///
 /// Errors:
 ///

@@ -2,8 +2,8 @@
 
 ghost use Rattle.pb_tool_clean.specs.Laws.{ChosenAreMade};
 
-/// Whatever a place lists, all that is chosen of it is below the target folder. The last part of
-/// each chosen path is the name of a record or of a unit's folder.
+/// Everything that is chosen from a place's list is below the target folder. The last part of each
+/// chosen path is the name of a record or of a unit's folder.
 pub fn chosen_are_made()
     ensures { ChosenAreMade }
 {}

@@ -13,9 +13,9 @@ use std::alloc::{AllocError, Global};
 /// What is in the folders of the profiles of a target folder.
 #[derive(Drop)]
 pub struct Listed {
-    /// The files directly in one of them.
+    /// The files directly in one of these folders.
     pub files: Items<PathText>,
-    /// The folders directly in one of them.
+    /// The folders directly in one of these folders.
     pub folders: Items<PathText>,
 }
 

@@ -7,7 +7,7 @@ ghost use Rattle.pb_tool_clean.specs.Names.{words_in, is_side, is_binary, is_wha
 use pb_data::Text;
 use std::alloc::{AllocError, Global};
 
-/// Returns the words of a name, between its dots.
+/// Returns the words of a name, which dots separate.
 pub(crate) fn words_in(alloc: Global, name: &str) -> Result<Vec<&str>, AllocError>
     ensures { IfOk result (λ words. map (λ word. word.now) words.items ≡ words_in name.now) }
 {
@@ -57,7 +57,7 @@ pub(crate) fn is_record(words: &[&str]) -> bool
     }
 }
 
-/// Returns the first word; empty if there is none.
+/// Returns the first word, or an empty text if there is no word.
 pub(crate) fn package_in<'a>(words: &[&'a str]) -> &'a str
     ensures { result.now ≡ package_in (map (λ word. word.now) words.now) }
 {
@@ -67,7 +67,7 @@ pub(crate) fn package_in<'a>(words: &[&'a str]) -> &'a str
     }
 }
 
-/// Returns whether no packages are named, or this is one of the names.
+/// Returns whether a word is one of the names of packages, or there are no such names.
 pub(crate) fn is_named(packages: &[Text], word: &str) -> bool
     ensures { result ≡ is_named packages.now word.now }
 {

@@ -32,7 +32,8 @@ fn remove_one<P: Place>(alloc: Global, place: &mut P, path: &PathText) -> Result
     }
 }
 
-/// Removes what is at some paths and below them, one after another. The first fault ends it.
+/// Removes what is at some paths and below them, one path after another. The first fault ends the
+/// removal.
 fn remove_each<P: Place>(alloc: Global, place: &mut P, paths: &[PathText]) -> Result<(), CleanFault>
     ensures { RemovesEach P.is_modelled paths.now result
         (moment_of (P.at place.old)) (moment_of (P.at place.new)) }
@@ -120,7 +121,7 @@ fn has_bare_profiles<P: Place>(
     }
 }
 
-/// Returns whether only its tag is left of a target folder.
+/// Returns whether a target folder contains only its tag.
 fn is_emptied<P: Place>(alloc: Global, place: &mut P, target: &PathText) -> Result<bool, CleanFault>
     ensures ok { IsTrue P.is_modelled → IfOk result
         (λ emptied. emptied ≡ is_emptied target.now (P.at place.old).world) }
@@ -133,7 +134,7 @@ fn is_emptied<P: Place>(alloc: Global, place: &mut P, target: &PathText) -> Resu
     }
 }
 
-/// Removes a target folder if only its tag is left in it.
+/// Removes a target folder if it contains only its tag.
 fn remove_rest<P: Place>(alloc: Global, place: &mut P, target: &PathText) -> Result<(), CleanFault>
     ensures { RemovesRest P.is_modelled target.now result
         (moment_of (P.at place.old)) (moment_of (P.at place.new)) }
@@ -162,7 +163,8 @@ fn remove_chosen<P: Place>(
     }
 }
 
-/// Removes the rest, if the chosen part was removed and all was chosen. A fault ends the removal.
+/// Removes the rest of the target folder, if everything was chosen and the chosen part was removed.
+/// A fault ends the removal.
 fn go_on<P: Place>(
     alloc: Global,
     place: &mut P,
@@ -185,8 +187,8 @@ fn go_on<P: Place>(
 }
 
 /// Removes the chosen part of what was listed, and nothing else: records first, then the folders of
-/// units. If all is chosen and only its tag is left of the target folder, the whole folder is
-/// removed.
+/// units. If everything is chosen and the target folder then contains only its tag, the target
+/// folder is removed, too.
 ///
 /// Errors: those of `clean`.
 fn remove<P: Place>(
@@ -202,12 +204,12 @@ fn remove<P: Place>(
     go_on(alloc, place, choice, first)
 }
 
-/// Lists the folders of the profiles of a target folder now, and removes exactly the chosen part of
-/// the list. Records are removed first, and then the folders of units. If all is chosen and only
-/// its tag is left of the target folder, the whole folder is removed.
+/// Lists the folders of the profiles in a target folder, and removes exactly the chosen part of
+/// this list. Records are removed first, and then the folders of units. If everything is chosen and
+/// the target folder then contains only its tag, the target folder is removed, too.
 ///
-/// Errors: `Call`, with the path of the call that failed; `OutOfMemory`. What it removed before the
-/// error stays removed.
+/// Errors: `Call`, with the path of the call that failed; `OutOfMemory`. What was removed before
+/// the error stays removed.
 pub fn clean<P: Place>(alloc: Global, place: &mut P, choice: &Choice) -> Result<(), CleanFault>
     ensures { CleansNow P.is_modelled choice.now result
         (moment_of (P.at place.old)) (moment_of (P.at place.new)) }

@@ -31,7 +31,7 @@ fn unless_empty(found: Option<Text>) -> Option<Text>
     }
 }
 
-/// Returns what the variable says, by one call.
+/// Returns the value of the variable, by one call.
 fn variable<P: Place>(alloc: Global, place: &mut P) -> Result<Option<Text>, CleanFault>
     ensures ok { IsTrue P.is_modelled → IfOk result (λ found. found ≡ set_text
         (finite.get (P.at place.old).world.variables (codes "CARGO_TARGET_DIR"))) }
@@ -48,7 +48,7 @@ fn variable<P: Place>(alloc: Global, place: &mut P) -> Result<Option<Text>, Clea
 }
 
 /// Returns the path that a text means; a relative text starts at the root. If there is no text, or
-/// it has byte 0, this is the other path.
+/// the text has byte 0, returns the other path.
 fn told_or(
     alloc: Global,
     root: &PathText,
@@ -75,7 +75,7 @@ fn standard(alloc: Global, root: &PathText) -> Result<PathText, AllocError>
     root.below(alloc, &name)
 }
 
-/// Returns the target folder, from the options and what the variable says.
+/// Returns the target folder, from the options and the value of the variable.
 fn target_by(
     alloc: Global,
     options: &Options,

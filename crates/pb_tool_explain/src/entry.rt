@@ -7,7 +7,7 @@ use crate::refused::REFUSED;
 pub struct Entry {
     /// The name, without what follows it in brackets.
     pub name: &'static str,
-    /// What the page says below it.
+    /// What the page says below the name.
     pub text: &'static str,
 }
 

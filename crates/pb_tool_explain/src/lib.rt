@@ -1,5 +1,5 @@
-//! What the names of result lines mean, as `docs/ERRORS.md` says it, and which name is near a word.
-//! `bench/pages/explained.py` writes the tables from that page.
+//! What the names of result lines mean, in the words of `docs/ERRORS.md`, and which name is similar
+//! to a word. `bench/pages/explained.py` writes the tables from that page.
 #![tactic(auto)]
 
 pub mod entry;

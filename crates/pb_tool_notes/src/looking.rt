@@ -77,7 +77,7 @@ fn wants_script(page: &Page) -> bool {
     }
 }
 
-/// Adds a package that links a native library and has no build script, if this is one.
+/// Adds a package, if it links a native library and has no build script.
 fn tell_script<P: Place>(
     alloc: Global,
     place: &mut P,
@@ -118,7 +118,7 @@ fn tell_scripts<P: Place>(
     Ok(())
 }
 
-/// Adds what is known about a refusal of the loader without a further call of the place.
+/// Adds what is known about a refusal of the loader. It makes no further call of the place.
 fn tell_load(
     alloc: Global,
     notes: &mut Notes,
@@ -240,7 +240,7 @@ fn tell_all_unused(alloc: Global, notes: &mut Notes, pages: &Pages) -> Result<()
     Ok(())
 }
 
-/// Adds that a workspace above lists the root package, if it is built alone.
+/// Adds that a workspace in a folder above lists the root package, if this package is built alone.
 fn tell_root_above<P: Place>(
     alloc: Global,
     place: &mut P,
@@ -273,8 +273,9 @@ fn tell_passed_over<P: Place>(
 
 /// Returns notes on a workspace that the loader refuses, or in which nothing is selected.
 ///
-/// Like the other three, it only reads manifests again, lists folders, and checks whether files
-/// exist. If a call fails or memory runs out, it returns the notes that it has until then.
+/// Each of the four functions that return notes only reads manifests again, lists folders, and
+/// checks whether files exist. If a call fails or memory runs out, the function returns the notes
+/// that it has so far.
 pub fn notes_on_load<P: Place>(
     alloc: Global,
     place: &mut P,
@@ -326,8 +327,8 @@ pub fn notes_on_plan<P: Place>(
 }
 
 /// Returns notes on what a build ignores: keys of manifests that nothing reads, requested binaries
-/// that are missing, patterns of `members` that match no package, a workspace above that lists the
-/// package.
+/// that are missing, patterns of `members` that match no package, and a workspace in a folder
+/// above, if it lists the package.
 pub fn notes_on_build<P: Place>(alloc: Global, place: &mut P, options: &Options) -> Notes
     ensures { LooksAgain (P.at place.old) (P.at place.new) }
 {

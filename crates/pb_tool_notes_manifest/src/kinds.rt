@@ -7,7 +7,7 @@ use pb_tool_notes_pages::{
 use std::alloc::{AllocError, Global};
 use toml::{Table, Value};
 
-/// Adds each value of a table that is not allowed at its key.
+/// Adds each value of a table, if the value is not allowed at its key.
 fn tell_values(
     alloc: Global,
     notes: &mut Notes,
@@ -58,12 +58,13 @@ pub fn tell_bad_kinds(
     Ok(())
 }
 
-/// Returns whether a profile exists without being written.
+/// Returns whether a profile is built in.
 fn is_built_in(name: &str) -> bool {
     matches!(name, "dev" | "release" | "test" | "bench")
 }
 
-/// Returns what is wrong with a profile apart from its values, or an empty text if nothing is.
+/// Returns what is wrong with a profile apart from its values, or an empty text if nothing is
+/// wrong.
 fn wrong_with(name: &str, profile: &Table) -> &'static str {
     if is_built_in(name) {
         return "";

@@ -1,4 +1,4 @@
-//! Notes on one manifest: what its text, its keys and their values break.
+//! Notes on one manifest: which rules its text, its keys and their values break.
 #![tactic(auto)]
 
 mod kinds;

@@ -10,7 +10,7 @@ use toml::{Table, Value};
 /// The characters that a name may have.
 const NAME: &str = "ASCII letters, digits, - and _";
 
-/// Adds a name that is not allowed, if it is one.
+/// Adds a name, if it is not allowed.
 fn tell_name(
     alloc: Global,
     notes: &mut Notes,
@@ -43,7 +43,7 @@ fn tell_own_name(
     tell_name(alloc, notes, page, spot, "name", is_right, NAME)
 }
 
-/// Adds each key of entries that is not a name.
+/// Adds each key of dependency entries, if the key is not an allowed name.
 fn tell_entry_keys(
     alloc: Global,
     notes: &mut Notes,
@@ -66,7 +66,7 @@ fn tell_entry_keys(
     Ok(())
 }
 
-/// Adds each name of a table that is not allowed.
+/// Adds each name of a table, if the name is not allowed.
 fn tell_names_of(
     alloc: Global,
     notes: &mut Notes,
@@ -136,7 +136,7 @@ fn wrong_version(text: &str) -> &'static str {
     }
 }
 
-/// Adds what is wrong with the version of a package, if it is refused.
+/// Adds what is wrong with the version of a package, if the version is refused.
 fn tell_version(
     alloc: Global,
     notes: &mut Notes,
@@ -160,7 +160,7 @@ fn tell_version(
     Ok(())
 }
 
-/// Adds that a text at a key is not a requirement, if it is refused.
+/// Adds that a text at a key is not a requirement, if the text is refused.
 fn tell_requirement(
     alloc: Global,
     notes: &mut Notes,
@@ -226,7 +226,7 @@ fn is_item(text: &str) -> bool {
     }
 }
 
-/// Adds each item of a feature that has none of these forms.
+/// Adds each item of a feature, if the item has none of the four forms.
 fn tell_items(
     alloc: Global,
     notes: &mut Notes,

@@ -4,8 +4,7 @@ use pb_tool_notes_pages::{Kind, Notes, Page, near, spots_of, tell_key, tell_page
 use std::alloc::{AllocError, Global};
 use toml::Table;
 
-/// Returns the names of the profiles of a root manifest, and of those that exist without being
-/// written.
+/// Returns the names of the profiles that a root manifest writes, and of the built-in profiles.
 fn names_of(alloc: Global, page: &Page) -> Result<Vec<&str>, AllocError> {
     let mut names = Vec::new(alloc);
     for name in ["dev", "release", "test", "bench"] {
@@ -108,7 +107,7 @@ pub fn tell_inherits_cycle(
     tell_page(alloc, notes, page, text.as_str())
 }
 
-/// Adds each key of an override that it may not set.
+/// Adds each key of an override, if no override may set this key.
 pub fn tell_not_in_override(
     alloc: Global,
     notes: &mut Notes,

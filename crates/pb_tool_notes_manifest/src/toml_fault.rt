@@ -27,7 +27,7 @@ fn start_of(fault: &toml::de::Error) -> usize {
     }
 }
 
-/// Adds the position at which TOML's reader stops, and its message.
+/// Adds the position at which TOML's reader stops, and the reader's message.
 fn tell_reader(alloc: Global, notes: &mut Notes, page: &Page) -> Result<(), AllocError> {
     let text = page.text();
     let fault = match toml::table_from_str(alloc, text) {

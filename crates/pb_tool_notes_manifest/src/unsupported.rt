@@ -6,7 +6,8 @@ use pb_tool_notes_pages::{
 use std::alloc::{AllocError, Global};
 use toml::{Table, Value};
 
-/// Returns why the source of an entry is not supported, or an empty text if it is.
+/// Returns why the source of an entry is not supported, or an empty text if the source is
+/// supported.
 fn wrong_source(value: &Value) -> &'static str {
     let Some(entry) = value.as_table() else {
         return "it has no path";
@@ -82,7 +83,7 @@ pub fn tell_resolver(
     Ok(())
 }
 
-/// Adds each crate type of a list that is not supported.
+/// Adds each unsupported crate type of a list.
 fn tell_types(
     alloc: Global,
     notes: &mut Notes,
@@ -138,7 +139,7 @@ fn keys_of(alloc: Global, rows: &'static str) -> Result<Vec<&'static str>, Alloc
     Ok(keys)
 }
 
-/// Adds each key of a table that nothing reads.
+/// Adds each key of a table, if nothing reads this key.
 fn tell_unread(
     alloc: Global,
     notes: &mut Notes,
