@@ -1,4 +1,4 @@
-//! Why each manifest is read: what names it.
+//! Why each manifest is read: what names the manifest.
 
 use crate::page::{Page, text_at};
 use crate::rules::is_taken;
@@ -10,28 +10,28 @@ use toml::{Table, Value};
 /// Why a manifest is requested.
 #[derive(Clone, Copy, PartialEq, Eq)]
 pub enum Role {
-    /// `--manifest-path` names it, or the current folder.
+    /// The manifest is that of `--manifest-path` or of the current folder.
     Root,
-    /// The root's `members` names its folder.
+    /// The root's `members` names the manifest's folder.
     Member,
-    /// An entry names it.
+    /// A dependency entry names the manifest.
     Entry,
 }
 
 /// The fact that a manifest is requested.
 #[derive(Drop)]
 pub struct Ask {
-    /// Why.
+    /// Why the manifest is requested.
     pub role: Role,
-    /// The path of the manifest that asks.
+    /// The path of the manifest that makes the request.
     pub by: PathText,
     /// The table of the entry.
     pub table: Text,
     /// The entry's key.
     pub key: Text,
-    /// The name that the package must have: the key, if no other is written.
+    /// The name that the package must have: the key, if the entry has no other name.
     pub name: Text,
-    /// What its version must match; empty if nothing is written.
+    /// The requirement that the package's version must match; empty if the entry has none.
     pub version: Text,
     /// The path of the manifest that is requested.
     pub path: PathText,
@@ -72,8 +72,8 @@ pub(crate) fn is_asked(asks: &[Ask], by: &PathText, path: &PathText) -> bool {
     asks.iter().any(|ask| ask.by.as_str() == by.as_str() && ask.path.as_str() == path.as_str())
 }
 
-/// Returns the path of the manifest in a folder that is named in a manifest, or none if the text is
-/// not a path.
+/// Returns the path of the manifest in a folder that another manifest names. Returns `None` if the
+/// text is not a path.
 fn manifest_in(
     alloc: Global,
     from: &PathText,
@@ -92,8 +92,8 @@ fn manifest_in(
     }
 }
 
-/// Returns the manifest that an entry asks for, by its own path or by that of the root's entry that
-/// it inherits.
+/// Returns the ask of an entry, if the entry has a path. An entry that inherits has the path of the
+/// root's entry.
 fn ask_of(
     alloc: Global,
     page: &Page,
@@ -133,7 +133,7 @@ pub fn shared_entry<'a>(root: &'a Page, key: &str) -> Option<&'a Table> {
         .and_then(Value::as_table)
 }
 
-/// Adds what the entries of a table ask for.
+/// Adds the asks of the entries of a table.
 fn push_asks(
     alloc: Global,
     asks: &mut Vec<Ask>,
@@ -165,7 +165,7 @@ fn push_asks(
     Ok(())
 }
 
-/// Returns what a manifest asks for by its entries. Without a root, the manifest is the root
+/// Returns the asks of the entries of a manifest. If no root is given, the manifest is the root
 /// itself.
 pub(crate) fn asks_of(
     alloc: Global,

@@ -9,8 +9,8 @@ use pb_place_types::{PathText, Place, PlaceFault};
 use std::alloc::{AllocError, Global};
 use toml::Value;
 
-/// Returns the next row of the match table, for one more byte of a pattern: for each n, whether the
-/// pattern so far matches the first n bytes of a name.
+/// Returns the next row of the match table, after one more byte of a pattern. Entry n of a row says
+/// whether the pattern so far matches the first n bytes of a name.
 fn next_row(alloc: Global, row: &[bool], byte: u8, name: &str) -> Result<Vec<bool>, AllocError> {
     let mut next = Vec::new(alloc);
     let mut corner = row.first().copied().unwrap_or(false);
@@ -47,7 +47,7 @@ pub fn is_glob(part: &str) -> bool {
     part.contains('*') || part.contains('?')
 }
 
-/// Adds those of some folders whose names match a part.
+/// Adds the folders whose names match a part of a pattern.
 fn push_matching(
     alloc: Global,
     folders: &mut Vec<PathText>,
@@ -62,7 +62,7 @@ fn push_matching(
     Ok(())
 }
 
-/// Returns the folders in some folders that match a part of a pattern.
+/// Returns the folders inside some folders, if their names match a part of a pattern.
 fn folders_by<P: Place>(
     alloc: Global,
     place: &mut P,
@@ -125,7 +125,7 @@ pub fn texts_of<'a>(alloc: Global, page: &'a Page, key: &str) -> Result<Vec<&'a 
     Ok(texts)
 }
 
-/// Returns whether a folder is at or below one of some folders that are written out.
+/// Returns whether a folder is one of the excluded folders, or is below one of them.
 fn is_excluded(
     alloc: Global,
     root: &PathText,

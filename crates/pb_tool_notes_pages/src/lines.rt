@@ -9,7 +9,7 @@ struct Reading {
     header: String,
     /// How many headers `[[bin]]` have been read.
     binaries: usize,
-    /// If the next line begins inside a text of several lines, the quotation marks that end this
+    /// The quotation marks that end a text of several lines, if the next line begins inside such a
     /// text; else empty.
     quotes: &'static str,
 }
@@ -81,7 +81,7 @@ fn way_of_line(alloc: Global, reading: &mut Reading, line: &str) -> Result<Strin
     Ok(way)
 }
 
-/// Returns whether a key path begins another.
+/// Returns whether a long key path begins with a short one.
 fn begins(short: &str, long: &str) -> bool {
     match long.strip_prefix(short) {
         Some(rest) => rest.starts_with('.') || rest.starts_with('['),
@@ -89,9 +89,9 @@ fn begins(short: &str, long: &str) -> bool {
     }
 }
 
-/// Returns the line, counted from 1, in which the value at a key path, or a part of it, is written.
-/// If there is no such line, it returns the line of the table or list that contains the value, or
-/// 0.
+/// Returns the line, counted from 1, that writes the value at a key path or a part of this value.
+/// If there is no such line, returns the line of the table or list that contains the value. If
+/// there is no such line either, returns 0.
 pub(crate) fn line_of(alloc: Global, text: &str, way: &str) -> Result<usize, AllocError> {
     let mut reading = Reading {
         header: String::new(alloc),

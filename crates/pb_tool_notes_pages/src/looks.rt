@@ -1,4 +1,4 @@
-//! The calls of a place that a second look makes.
+//! The calls that a second look makes of a place.
 
 ghost use Rattle.pb_tool_notes_pages.specs.Looks.{LooksAgain};
 
@@ -6,8 +6,8 @@ use pb_data::{Bytes, Items, MAX_MANIFEST_BYTES};
 use pb_place_types::{PathText, Place, PlaceFault};
 use std::alloc::Global;
 
-/// Returns the first bytes of a file, one more than a manifest may have, or none if no file is
-/// there.
+/// Returns the first bytes of a file: at most one byte more than a manifest may have. Returns none
+/// if no file is there.
 pub(crate) fn read<P: Place>(
     alloc: Global,
     place: &mut P,
@@ -36,7 +36,7 @@ pub fn files_in<P: Place>(
     place.list_directly(alloc, folder)
 }
 
-/// Returns the paths of the folders directly in a folder, but for one.
+/// Returns the paths of the folders directly in a folder, except one of them.
 pub fn folders_in<P: Place>(
     alloc: Global,
     place: &mut P,

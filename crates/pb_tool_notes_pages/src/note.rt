@@ -13,14 +13,14 @@ pub const MOST_NOTES: usize = 9;
 /// The greatest number of bytes of a note.
 const LONGEST: usize = 400;
 
-/// A fact about a refusal, and its position.
+/// A fact about a refusal, and the fact's position.
 #[derive(Drop)]
 pub struct Note<'a> {
-    /// The path of a manifest; empty if the fact is not about one.
+    /// The path of a manifest; empty if the fact is not about a manifest.
     pub path: &'a str,
-    /// The line, from 1; 0 if it is not known.
+    /// The line, from 1; 0 if the line is not known.
     pub line: usize,
-    /// The column, from 1; 0 if it is not known.
+    /// The column, from 1; 0 if the column is not known.
     pub column: usize,
     /// The whole key path, as `dependencies.util.path`; empty if the fact is not about a key.
     pub key: &'a str,
@@ -57,8 +57,8 @@ fn whole(alloc: Global, note: &Note) -> Result<String, AllocError> {
     Ok(out)
 }
 
-/// Returns a text with `?` for each control character, and `..` for what exceeds the greatest
-/// length.
+/// Returns a text in which `?` replaces each control character. If the text exceeds the greatest
+/// length, `..` replaces the rest.
 fn plain_text(alloc: Global, text: &str) -> Result<String, AllocError> {
     let mut out = String::new(alloc);
     for letter in text.chars() {
@@ -100,7 +100,7 @@ impl Model for Notes {
 impl Notes {
     ghost use Rattle.pb_tool_notes_pages.specs.Notes.{AreNotes};
 
-    /// Returns no notes. It takes no memory.
+    /// Returns an empty list of notes. This takes no memory.
     pub fn new(alloc: Global) -> Notes
         ensures { result ≡ [] }
     {

@@ -12,7 +12,7 @@ pub struct Page {
     pub path: PathText,
     /// Its bytes.
     pub bytes: Bytes,
-    /// Their document; none if they are not TOML, or too many.
+    /// The document that the bytes contain; `None` if the bytes are not TOML, or are too many.
     pub table: Option<Table>,
 }
 
@@ -48,7 +48,7 @@ impl Page {
         Ok(Page { path, bytes, table })
     }
 
-    /// Returns its text, or an empty text if its bytes are not UTF-8.
+    /// Returns the manifest's text, or an empty text if the bytes are not UTF-8.
     pub fn text(&self) -> &str {
         text_in(self.bytes.as_slice())
     }

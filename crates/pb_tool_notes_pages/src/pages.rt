@@ -17,7 +17,7 @@ const MOST_PAGES: usize = MAX_PACKAGES + 1;
 /// The greatest number of asks that are followed.
 const MOST_ASKS: usize = 1024;
 
-/// The manifests that were read again, and why each is read.
+/// The manifests that were read again, and why each manifest is read.
 #[derive(Drop)]
 pub struct Pages {
     /// The manifests, the root's first.
@@ -45,7 +45,7 @@ impl Pages {
     }
 }
 
-/// Adds a manifest, and what it asks for by its dependencies.
+/// Adds a manifest, and the asks of its dependencies.
 fn take_in(alloc: Global, pages: &mut Pages, page: Page) -> Result<(), AllocError> {
     let asks = asks_of(alloc, pages.pages.first(), &page)?;
     for ask in asks {
@@ -155,7 +155,7 @@ fn read_root<P: Place>(
 }
 
 /// Reads the manifests of a workspace again, as far as they exist. If a call fails or memory runs
-/// out, returns those that were read until then.
+/// out, returns the manifests that were read until then.
 pub fn pages_of<P: Place>(alloc: Global, place: &mut P, root: &PathText) -> Pages
     ensures { LooksAgain (P.at place.old) (P.at place.new) }
 {

@@ -16,7 +16,7 @@ pub enum Kind {
     Binary,
     /// `[dependencies]` or `[build-dependencies]`.
     Entries,
-    /// One of their entries, if it is a table.
+    /// One entry of `[dependencies]` or `[build-dependencies]`, if the entry is a table.
     Entry,
     /// `[features]`.
     Features,
@@ -26,11 +26,11 @@ pub enum Kind {
     Shared,
     /// `[workspace.dependencies]`.
     SharedEntries,
-    /// One of its entries, if it is a table.
+    /// One entry of `[workspace.dependencies]`, if the entry is a table.
     SharedEntry,
     /// `[profile]`.
     Profiles,
-    /// One of its profiles.
+    /// One profile of `[profile]`.
     Profile,
     /// The table `package` of a profile.
     Overrides,
@@ -38,8 +38,8 @@ pub enum Kind {
     Override,
 }
 
-/// A line for each key, with its rule. `+` after a rule: `{ workspace = true }` is allowed too.
-/// `any`: no rule reads it.
+/// A line for each key, with its rule. `+` after a rule means that `{ workspace = true }` is
+/// allowed too. `any` means that each value is allowed.
 const TOP: &str =
     "package table\nlib table\nbin tables\ndependencies table\nbuild-dependencies table\nfeatures table\nprofile table\nworkspace table\ndev-dependencies any\ntarget any\npatch any\nreplace any\nexample any\ntest any\nbench any\nbadges any\nlints any\nhints any\ncargo-features any\n";
 
@@ -126,7 +126,7 @@ fn is_tables(value: &Value) -> bool {
     }
 }
 
-/// Returns whether a value is one of these texts, separated by commas.
+/// Returns whether a value is one of these texts, which commas separate.
 fn is_word(value: &Value, words: &str) -> bool {
     match value.as_str() {
         Some(text) => words.split(',').any(|word| word == text),
@@ -185,7 +185,7 @@ fn fits_values(rule: &str, value: &Value) -> bool {
     }
 }
 
-/// Returns whether a value is allowed.
+/// Returns whether a value is allowed by a rule.
 pub fn fits(rule: &str, value: &Value) -> bool {
     match rule.strip_suffix('+') {
         Some(own) => match value.as_table() {
@@ -196,7 +196,7 @@ pub fn fits(rule: &str, value: &Value) -> bool {
     }
 }
 
-/// Returns whether a rule allows another value of a value's type.
+/// Returns whether a rule allows another value of the same type.
 pub(crate) fn has_values(rule: &str, value: &Value) -> bool {
     match rule.strip_suffix('+').unwrap_or(rule) {
         "edition" | "resolver" | "panic" => value.is_str(),
@@ -210,7 +210,7 @@ pub(crate) fn has_values(rule: &str, value: &Value) -> bool {
     }
 }
 
-/// Returns what is allowed, in words.
+/// Returns, in words, what a rule allows.
 pub(crate) fn expectation(rule: &str) -> &'static str {
     match rule.strip_suffix('+').unwrap_or(rule) {
         "text" => "a text",

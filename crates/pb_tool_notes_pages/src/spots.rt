@@ -23,7 +23,7 @@ pub(crate) fn way_to(alloc: Global, way: &str, key: &str) -> Result<String, Allo
     format!(in alloc; "{way}.{key}")
 }
 
-/// Adds the value at a key, if it is a table.
+/// Adds the value at a key, if the value is a table.
 fn push_at<'a>(
     alloc: Global,
     spots: &mut Vec<Spot<'a>>,
@@ -43,7 +43,7 @@ fn push_at<'a>(
     Ok(())
 }
 
-/// Adds each value of the table at a key that is a table itself.
+/// Adds each value of the table at a key, if the value is a table itself.
 fn push_each<'a>(
     alloc: Global,
     spots: &mut Vec<Spot<'a>>,
@@ -151,8 +151,8 @@ fn push_workspace<'a>(
     Ok(())
 }
 
-/// Returns the tables of a manifest that a build reads, in the order in which it reads them, after
-/// the manifest itself.
+/// Returns the tables of a manifest that a build reads, in the order in which the build reads them.
+/// The manifest itself comes first.
 pub fn spots_of(alloc: Global, table: &Table) -> Result<Vec<Spot<'_>>, AllocError> {
     let mut spots = Vec::new(alloc);
     spots.push(Spot {

@@ -54,7 +54,8 @@ pub fn tell_page(
     )
 }
 
-/// Returns a value as it is written, or `it` if it is none of a few characters.
+/// Returns a text, a whole number or a truth value as a manifest writes it. For any other value,
+/// returns the word `it`.
 fn as_written(alloc: Global, value: &Value) -> Result<String, AllocError> {
     match value {
         Value::String(text) => format!(in alloc; "\"{}\"", text.as_str()),
@@ -65,7 +66,7 @@ fn as_written(alloc: Global, value: &Value) -> Result<String, AllocError> {
     }
 }
 
-/// Returns of which type a value is.
+/// Returns the type of a value, in words.
 fn type_of(value: &Value) -> &'static str {
     match value {
         Value::String(_) => "a text",
@@ -77,8 +78,9 @@ fn type_of(value: &Value) -> &'static str {
     }
 }
 
-/// Returns why a value is not allowed by a rule: `2021 is a number; it must be a text`. If another
-/// value of its type is allowed, the type is not what is wrong: `5 is not allowed; it must be ..`.
+/// Returns why a rule does not allow a value: `2021 is a number; it must be a text`. If the rule
+/// allows another value of this type, the reason does not name the type: `5 is not allowed; it must
+/// be ..`.
 pub fn wrong_value(alloc: Global, rule: &str, value: &Value) -> Result<String, AllocError> {
     let written = as_written(alloc, value)?;
     let what = if has_values(rule, value) {

@@ -6,7 +6,7 @@ use pb_place_types::{PathText, Place, PlaceFault};
 use pb_tool_notes_pages::{Notes, Page, matches_part, page_at, tell_key, texts_of};
 use std::alloc::{AllocError, Global};
 
-/// The greatest number of folders above that are examined.
+/// The greatest number of folders above a package that are examined.
 const MOST_FOLDERS: usize = 16;
 
 /// Returns whether `members` of a root manifest matches a folder. Here a `*` matches slashes too.
@@ -22,7 +22,7 @@ fn lists(alloc: Global, page: &Page, folder: &PathText) -> Result<bool, AllocErr
     Ok(false)
 }
 
-/// Adds that a manifest above lists a package, if it does.
+/// Adds that a manifest above lists a package, if the manifest lists it.
 fn tell_if_listed(
     alloc: Global,
     notes: &mut Notes,

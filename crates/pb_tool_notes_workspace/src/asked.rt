@@ -50,7 +50,7 @@ fn near_among(alloc: Global, name: &str, folders: &[PathText]) -> Result<String,
     near(alloc, name, names.as_slice())
 }
 
-/// Returns the other folders in the folder that contains a folder.
+/// Returns the folders beside a folder, which are in the same parent folder.
 fn folders_beside<P: Place>(
     alloc: Global,
     place: &mut P,
@@ -62,7 +62,7 @@ fn folders_beside<P: Place>(
     folders_in(alloc, place, &above, folder)
 }
 
-/// Returns ` (near: NAME)` for another folder in the folder of a missing one.
+/// Returns ` (near: NAME)` for a folder beside a missing folder.
 fn near_folder<P: Place>(
     alloc: Global,
     place: &mut P,
@@ -78,7 +78,7 @@ fn near_folder<P: Place>(
     }
 }
 
-/// Adds that a path is a folder with a manifest in it, if it is one.
+/// Adds that a path is a folder with a manifest in it, if this is so.
 fn tell_folder<P: Place>(
     alloc: Global,
     place: &mut P,

@@ -18,7 +18,7 @@ struct Step<'a> {
     before: usize,
 }
 
-/// Returns whether one of some steps, except the very first, has a name.
+/// Returns whether a step after the very first has a name.
 fn is_reached(steps: &[Step], name: &str) -> bool {
     match steps.split_first() {
         Some((_, rest)) => rest.iter().any(|step| step.name == name),
@@ -31,7 +31,8 @@ fn is_among(names: &[Text], name: &str) -> bool {
     names.iter().any(|one| one.as_str() == name)
 }
 
-/// Adds the packages of a cycle that the entries of a manifest name, unless they were reached.
+/// Adds each package of a cycle that an entry of a manifest names, unless the package was reached
+/// before.
 fn push_next<'a>(
     pages: &'a Pages,
     names: &[Text],
@@ -53,7 +54,7 @@ fn push_next<'a>(
     Ok(())
 }
 
-/// Returns the names on the path to the last of some steps, the last first.
+/// Returns the names on the path to the last step, in reverse order.
 fn way_back<'a>(
     alloc: Global,
     steps: &[Step<'a>],

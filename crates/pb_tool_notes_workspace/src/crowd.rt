@@ -35,7 +35,7 @@ pub fn tell_too_many(alloc: Global, notes: &mut Notes, pages: &Pages) -> Result<
     tell_key(alloc, notes, root, "workspace", "members", text.as_str())
 }
 
-/// Returns how many names there are, each counted once.
+/// Returns how many different names there are.
 ///
 /// Errors: out of memory.
 fn count_once(mut names: Vec<Text>) -> Result<usize, AllocError> {
@@ -57,9 +57,9 @@ fn binaries_in<P: Place>(alloc: Global, place: &mut P, page: &Page) -> Result<us
 /// How many binaries some packages have.
 #[derive(Drop)]
 struct Counted<'a> {
-    /// All of them.
+    /// How many binaries all packages have together.
     all: usize,
-    /// Those of the package that has the most.
+    /// How many binaries the package with the most binaries has.
     most: usize,
     /// The manifest of that package.
     page: Option<&'a Page>,
@@ -89,7 +89,8 @@ fn count_all<'a, P: Place>(
     Ok(counted)
 }
 
-/// Adds how many binaries the packages have, and which has the most, if a plan has too many units.
+/// Adds how many binaries the packages have, and which package has the most, if a plan has too many
+/// units.
 ///
 /// Errors: those of its calls; out of memory.
 pub fn tell_too_many_units<P: Place>(

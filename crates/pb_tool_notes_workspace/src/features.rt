@@ -8,7 +8,7 @@ use toml::{Table, Value};
 /// The greatest number of features of a package, or of an entry, that are examined.
 const MOST_FEATURES: usize = 256;
 
-/// Returns the keys of the table at a key of a manifest.
+/// Adds the keys of the table at a key of a manifest.
 fn keys_at<'a>(keys: &mut Vec<&'a str>, page: &'a Page, table: &str) -> Result<(), AllocError> {
     if let Some(entries) = page.table_at(table) {
         for (key, _value) in entries {
@@ -78,7 +78,8 @@ fn features_of(alloc: Global, page: &Page) -> Result<Vec<&str>, AllocError> {
     Ok(names)
 }
 
-/// Returns ` (near: KEY)` for a dependency of a package, unless no note is added any more.
+/// Returns ` (near: KEY)` for a dependency of a package. If the notes are full, returns an empty
+/// text.
 fn near_entry(alloc: Global, notes: &Notes, page: &Page, key: &str) -> Result<String, AllocError> {
     if notes.is_full() {
         return Ok(String::new(alloc));
@@ -87,7 +88,8 @@ fn near_entry(alloc: Global, notes: &Notes, page: &Page, key: &str) -> Result<St
     near(alloc, key, keys.as_slice())
 }
 
-/// Returns ` (near: NAME)` for a feature of a package, unless no note is added any more.
+/// Returns ` (near: NAME)` for a feature of a package. If the notes are full, returns an empty
+/// text.
 fn near_feature(
     alloc: Global,
     notes: &Notes,
@@ -295,7 +297,7 @@ fn all_features(alloc: Global, pages: &Pages) -> Result<Vec<&str>, AllocError> {
     Ok(names)
 }
 
-/// Adds which package has a requested feature, or that none has.
+/// Adds which package has a requested feature, or that no package has it.
 fn tell_asked(
     alloc: Global,
     notes: &mut Notes,

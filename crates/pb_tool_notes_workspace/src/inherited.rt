@@ -12,7 +12,7 @@ fn takes(value: &Value) -> bool {
     }
 }
 
-/// Returns whether the root has a key of a package.
+/// Returns whether `[workspace.package]` of the root has a key.
 fn gives_key(root: &Page, key: &str) -> bool {
     root.table_at("workspace")
         .and_then(|table| table.get("package"))
@@ -21,7 +21,7 @@ fn gives_key(root: &Page, key: &str) -> bool {
         .is_some()
 }
 
-/// Returns whether the root has an entry.
+/// Returns whether `[workspace.dependencies]` of the root has an entry.
 fn gives_entry(root: &Page, key: &str) -> bool {
     root.table_at("workspace")
         .and_then(|table| table.get("dependencies"))

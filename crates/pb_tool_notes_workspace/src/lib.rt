@@ -1,4 +1,5 @@
-//! Notes on what the manifests of a workspace, and the options of a build, say of each other.
+//! Notes that compare the manifests of a workspace with one another, and with the options of a
+//! build.
 #![tactic(auto)]
 
 mod above;

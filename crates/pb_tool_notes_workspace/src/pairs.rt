@@ -6,7 +6,8 @@ use pb_tool_notes_pages::{Ask, Notes, Page, Pages, Role, tell_key, text_at};
 use std::alloc::{AllocError, Global};
 use toml::{Table, Value};
 
-/// Returns the version of a package, its own or the one that it inherits from the root.
+/// Returns the version of a package: its own version, or the version that it inherits from the
+/// root.
 fn version_of<'a>(pages: &'a Pages, page: &'a Page) -> &'a str {
     let own = page.package_text("version");
     if !own.is_empty() {
@@ -26,7 +27,8 @@ fn version_of<'a>(pages: &'a Pages, page: &'a Page) -> &'a str {
     }
 }
 
-/// Returns a version or a requirement that was read, or that memory ran out.
+/// Returns the version or the requirement that was read. Returns `None` if the text is not one of
+/// these.
 fn read<T: Drop>(found: Result<T, ManifestFault>) -> Result<Option<T>, AllocError> {
     match found {
         Ok(found) => Ok(Some(found)),
@@ -35,7 +37,8 @@ fn read<T: Drop>(found: Result<T, ManifestFault>) -> Result<Option<T>, AllocErro
     }
 }
 
-/// Returns whether a version does not match a requirement. What cannot be read counts as a match.
+/// Returns whether a version does not match a requirement. A text that cannot be read counts as a
+/// match.
 fn is_mismatch(alloc: Global, requirement: &str, version: &str) -> Result<bool, AllocError> {
     let requirement = read(Requirement::read(alloc, Text::from_str(alloc, requirement)?))?;
     let version = read(Version::read(alloc, Text::from_str(alloc, version)?))?;
@@ -102,7 +105,7 @@ pub fn tell_names(alloc: Global, notes: &mut Notes, pages: &Pages) -> Result<(),
     Ok(())
 }
 
-/// Adds each manifest among some that has the same text at a key of `[package]` as another.
+/// Adds each other manifest that has the same text at a key of `[package]` as this manifest.
 fn tell_twins(
     alloc: Global,
     notes: &mut Notes,
@@ -143,7 +146,7 @@ pub fn tell_same(
 /// The greatest number of binaries that are compared.
 const MOST_BINARIES: usize = 256;
 
-/// Returns the index, from 1, of the first of some binaries with a name, or 0 if there is none.
+/// Returns the index, from 1, of the first binary with a name, or 0 if there is no such binary.
 fn first_named(binaries: &[Value], name: &str) -> usize {
     let mut number = 0usize;
     for one in binaries {

@@ -50,7 +50,7 @@ fn tell_requested(
     Ok(())
 }
 
-/// Returns whether the manifest of a folder that is named in the root is requested.
+/// Returns whether an ask requests the manifest of a folder that the root names.
 fn is_known(alloc: Global, asks: &[Ask], root: &PathText, written: &str) -> bool {
     match root.join(alloc, written) {
         Ok(folder) => match folder.join(alloc, "Cargo.toml") {
@@ -139,7 +139,7 @@ fn required_by(alloc: Global, binary: &Table) -> Result<String, AllocError> {
     }
 }
 
-/// Adds each `[[bin]]` of a name in a package that requires features.
+/// Adds each `[[bin]]` of this name, if the `[[bin]]` requires features.
 fn tell_required(
     alloc: Global,
     notes: &mut Notes,

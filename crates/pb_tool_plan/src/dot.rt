@@ -59,8 +59,8 @@ fn push_units(text: &mut String, units: &[Planned]) -> Result<(), AllocError>
     Ok(())
 }
 
-/// Returns a plan as a graph for Graphviz, a statement a line. For each unit, in plan order, it has
-/// a node, and an arrow to each unit that this unit needs.
+/// Returns a plan as a graph for Graphviz, with one statement on each line. Each unit, in plan
+/// order, has a node, and an arrow to each unit that it needs.
 ///
 /// Errors: out of memory.
 pub fn plan_dot(alloc: Global, plan: &Plan) -> Result<String, AllocError>

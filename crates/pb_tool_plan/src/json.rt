@@ -108,8 +108,8 @@ fn push_all(alloc: Global, text: &mut String, units: &[Planned]) -> Result<(), A
     }
 }
 
-/// Returns a plan as one JSON list, one object a line. For each unit, in plan order, the object
-/// contains the unit's key, its level, and the keys of what it needs.
+/// Returns a plan as one JSON list, with one object on each line. For each unit, in plan order, the
+/// object contains the unit's key, its level, and the keys of what it needs.
 ///
 /// Errors: out of memory.
 pub fn plan_json(alloc: Global, plan: &Plan) -> Result<String, AllocError>

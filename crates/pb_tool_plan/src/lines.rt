@@ -19,7 +19,7 @@ fn push_spaced(text: &mut String, units: &[Planned], needs: &[usize]) -> Result<
     Ok(())
 }
 
-/// Adds a colon and the keys of the units at some indexes; nothing if there are none.
+/// Adds a colon and the keys of the units at some indexes. If there are no indexes, adds nothing.
 fn push_needed(text: &mut String, units: &[Planned], needs: &[usize]) -> Result<(), AllocError>
     ensures { OnOk result
         (string_bytes text.new ≡ string_bytes text.old ++ needed units.now needs.now) }

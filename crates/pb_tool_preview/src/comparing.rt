@@ -23,8 +23,8 @@ use pb_store::{Compared, Key, Store, StoreFault};
 use pb_unit::Planned;
 use std::alloc::Global;
 
-/// Returns a fault of the store as the build's fault, with the unit's key. Out of memory has no
-/// key.
+/// Returns a fault of the store as the build's fault, with the unit's key. The fault `OutOfMemory`
+/// has no key.
 fn unit_fault(unit: Text, fault: StoreFault) -> BuildFault
     ensures { result ≡ named unit (step.Store fault) }
 {
@@ -41,7 +41,7 @@ fn unit_fault(unit: Text, fault: StoreFault) -> BuildFault
     }
 }
 
-/// Returns the fate of a unit, from its record, and its directives, if the record replays some.
+/// Returns the fate of a unit, by its record. If the record replays directives, returns them too.
 fn compare_record<P: Place>(
     alloc: Global,
     place: &mut P,
@@ -70,8 +70,8 @@ fn compare_record<P: Place>(
     }
 }
 
-/// Returns the fate of a unit that reaches only units that are kept, and its directives, if its
-/// record replays some. `done` contains the directives of the units before it.
+/// Returns the fate of a unit that reaches only kept units. If the unit's record replays
+/// directives, returns them too. `done` contains the directives of the units before this unit.
 ///
 /// Errors: `Device` with the unit's key, if a file, a folder or a variable cannot be read;
 /// `OutOfMemory`.

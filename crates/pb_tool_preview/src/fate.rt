@@ -5,15 +5,15 @@ use pb_store::Difference;
 /// What a build would do with a unit, as far as the present records say.
 #[derive(Drop)]
 pub enum Fate {
-    /// Its child would be started: this is the first difference from its record.
+    /// The unit's child would be started. The field is the first difference from the unit's record.
     Starts(Difference),
     /// Nothing differs from its record, and what the record replays is good.
     Kept,
     /// Nothing differs from its record, and what the record replays is bad.
     Bad,
-    /// It reaches the unit at this index, whose child a build would start first. Only after that
-    /// can the build compare this unit.
+    /// The unit reaches the unit at this index. A build would first start the child of that unit,
+    /// and could compare this unit only then.
     Waits(usize),
-    /// It reaches the unit at this index, which would be bad.
+    /// The unit reaches the unit at this index, which would be bad.
     Unreached(usize),
 }

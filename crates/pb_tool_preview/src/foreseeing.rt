@@ -72,9 +72,9 @@ fn append(
 
 /// Returns what a build would do with each unit of a prepared build, in plan order.
 ///
-/// If all that a unit reaches is kept, the unit is compared with its record, as a build compares it
-/// when it begins. What the comparison reads is read and, if nothing differs, the unit's dep-info.
-/// No child is started, and nothing is changed.
+/// If all units that a unit reaches are kept, the unit is compared with its record, as a build
+/// compares it. The function reads what this comparison reads. If nothing differs, the function
+/// reads the unit's dep-info, too. No child is started, and nothing is changed.
 ///
 /// Errors: `Device` with a unit's key, if a file, a folder or a variable cannot be read;
 /// `OutOfMemory`.
@@ -95,7 +95,8 @@ pub fn foresee<P: Place>(
         (done : List (Option (List Directive))) × Foresees setup.now project.now
         (P.at place.old).world project.now.plan.planned fates done) }
 
-    // It only looks. A call that failed is the last one, and the fault names one of the units.
+    // The function only looks. A call that failed is the last call, and the fault names one of the
+    // units.
     ensures quiet { Looks result (P.at place.old) (P.at place.new) }
     ensures fault { IfErr result (LooksAtSome project.now) }
 {

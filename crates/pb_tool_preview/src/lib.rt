@@ -1,5 +1,5 @@
-//! What a build would start, and why, without starting it: the units of a project are
-//! compared with their records.
+//! What a build would start, and why. Nothing is started: the units of a project are only compared
+//! with their records.
 #![tactic(auto)]
 
 mod comparing;

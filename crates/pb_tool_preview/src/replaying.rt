@@ -18,7 +18,7 @@ use pb_store::StoreFault;
 use pb_unit::Planned;
 use std::alloc::Global;
 
-/// Returns the fault of a call of the place as one of the store.
+/// Returns the fault of a call of the place as a fault of the store.
 fn store_fault(fault: PlaceFault) -> StoreFault
     ensures { result ≡ stored fault }
 {
@@ -60,8 +60,8 @@ fn fate_of(ran: Ran) -> (Fate, Option<Directives>)
     }
 }
 
-/// Returns the fate of a unit whose record replays this end of a child, and its directives. The
-/// unit's dep-info is read, if it has one.
+/// Returns the fate and the directives of a unit whose record replays this end of a child. If the
+/// unit has a dep-info, the function reads it.
 pub(crate) fn replay_record<P: Place>(
     alloc: Global,
     place: &mut P,

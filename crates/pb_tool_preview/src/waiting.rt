@@ -32,7 +32,7 @@ pub(crate) fn first_unkept(fates: &[Fate], reached: &[usize]) -> Option<usize>
         .find(|index| !is_kept_at(fates, *index))
 }
 
-/// Returns whether nothing that reaches a unit of this fate begins.
+/// Returns whether a unit that reaches a unit of this fate never begins.
 fn ends_badly(fate: Option<&Fate>) -> bool
     ensures { result ≡ ends_badly (option_map (λ fate. fate.now) fate.entry) }
 {
@@ -43,8 +43,8 @@ fn ends_badly(fate: Option<&Fate>) -> bool
     }
 }
 
-/// Returns the fate of a unit that reaches a unit that is not kept. The first unit that is not kept
-/// is at this index.
+/// Returns the fate of a unit that reaches a unit that is not kept. The index is that of the first
+/// such unit.
 pub(crate) fn waits_for(fates: &[Fate], index: usize) -> Fate
     ensures { result ≡ waits_for fates.now index }
 {
