@@ -126,7 +126,7 @@ pub(crate) fn take<P: Place, G: Guard<P, E>, E: Out>(
     }
 }
 
-/// Takes the target folder of a build's plan. If there is no plan, it asks for no folder.
+/// Takes the target folder of a build's plan. If there is no plan, it requests no folder.
 fn hold<P: Place, G: Guard<P, E>, E: Out>(
     guard: &mut G,
     place: &P,
@@ -175,8 +175,8 @@ fn units_if(explain: bool, plan: &Result<BuildPlan, BuildFault>) -> Option<usize
     }
 }
 
-/// Writes what the child of a build's bad unit printed that no message line contains, if anything.
-/// If memory runs out for that, it writes a line that needs no memory.
+/// If a build has a bad unit, writes what its child printed, as far as no message line contains
+/// this. If memory runs out for that, it writes a line that needs no memory.
 fn repeat_to<E: Out>(alloc: Global, err: &mut E, answer: &Result<Summary, BuildFault>)
     ensures { TellsSaid answer.now (E.heard err.old) (E.heard err.new) }
 {
@@ -232,8 +232,8 @@ fn look_at_refusal<P: Place>(
     }
 }
 
-/// Looks again at the workspace of a build that was refused or ended without a fault, for notes on
-/// it. After any other fault it makes no call of the place.
+/// Looks again at the workspace of a build that was refused or ended without a fault, for notes.
+/// After any other fault it makes no call of the place.
 pub(crate) fn look<P: Place>(
     alloc: Global,
     place: &mut P,
@@ -264,7 +264,7 @@ fn tell_notes<E: Out>(alloc: Global, err: &mut E, notes: &Notes)
     };
 }
 
-/// Writes what is written after a build, and returns its status.
+/// Writes everything that is written after a build, and returns the build's status.
 pub(crate) fn conclude<E: Out>(
     alloc: Global,
     err: &mut E,
@@ -292,14 +292,14 @@ pub(crate) fn conclude<E: Out>(
 ///
 /// Message lines go to `out` in plan order, as they are due. These go to `err`:
 ///
-/// - Before the build, a line `note: in PATH: NAME has no library` for each package without a
-///   library that an enabled dependency names; PATH is its manifest.
-/// - After it, what was changed while a unit was built that read it; the next build builds that
-///   unit again.
-/// - If requested, why each child was started: after a fault too, as far as the place has noted it.
-/// - What the child of a bad unit printed that no message line contains.
-/// - The sentence of the fault; and where a compiler's messages are, if it failed and they were not
-///   rendered.
+/// - Before the build, a line `note: in PATH: NAME has no library` for each package that an enabled
+///   dependency names and that has no library. PATH is the package's manifest.
+/// - After the build, a line for each unit whose child read something that was changed meanwhile.
+///   The next build builds this unit again.
+/// - If requested, why each child was started. After a fault, this is what the place has noted.
+/// - What the child of a bad unit printed, as far as no message line contains this.
+/// - The sentence of the fault. If a compiler failed and its messages were not rendered, also where
+///   these messages are.
 /// - What the place reports of a fault of the outside.
 /// - The notes of a second look.
 /// - For a build that failed or was refused, `error: ` and its result line.
@@ -328,7 +328,7 @@ pub fn build_options<P: Noting + Reporting, G: Guard<P, E>, O: Out, E: Out, L: O
 {
     let plan = plan_build(alloc, place, options);
     note(alloc, err, &plan);
-    // After the plan: a refused build makes no folder.
+    // The lock comes after the plan: a refused build makes no folder.
     hold(guard, place, err, &plan);
     let units = units_if(explain, &plan);
     let answer = build_watched(alloc, place, out, line, options, plan);

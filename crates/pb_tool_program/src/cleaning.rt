@@ -46,7 +46,7 @@ fn refusal_of(wanted: Wanted) -> &'static str
     }
 }
 
-/// Returns what is written if nothing that is wanted is in a folder: a note and the result line.
+/// Returns what is written if a folder contains nothing that is wanted: a note and the result line.
 fn nothing_told(alloc: Global, wanted: Wanted, folder: &PathText) -> Result<String, AllocError>
     ensures { IfOk result (λ text. string_bytes text ≡ nothing_told wanted folder.now) }
 {
@@ -60,8 +60,8 @@ fn nothing_told(alloc: Global, wanted: Wanted, folder: &PathText) -> Result<Stri
     Ok(text)
 }
 
-/// Writes that nothing that is wanted is in a folder. If memory runs out for that, it writes a line
-/// that needs no memory.
+/// Writes that a folder contains nothing that is wanted. If memory runs out for that, it writes a
+/// line that needs no memory.
 fn tell_nothing<E: Out>(alloc: Global, err: &mut E, wanted: Wanted, folder: &PathText)
     ensures { Tells (nothing_told wanted folder.now) (E.heard err.old) (E.heard err.new)
         ⊎ Tells why_lost (E.heard err.old) (E.heard err.new) }
@@ -75,7 +75,7 @@ fn tell_nothing<E: Out>(alloc: Global, err: &mut E, wanted: Wanted, folder: &Pat
     };
 }
 
-/// Returns a fault as the fault of a build with the same name.
+/// Returns the fault of a build that has the same name as the fault of a removal.
 fn build_fault_of(fault: CleanFault) -> BuildFault
     ensures { result ≡ build_fault_of fault }
 {
@@ -115,7 +115,7 @@ fn tell_fault<P: Place + Reporting, E: Out>(
     )
 }
 
-/// Writes how a removal ended, unless all is removed, and returns the status.
+/// Writes how a removal ended, unless everything was removed, and returns the status.
 fn tell_end<P: Place + Reporting, E: Out>(
     alloc: Global,
     place: &P,
@@ -134,7 +134,7 @@ fn tell_end<P: Place + Reporting, E: Out>(
     }
 }
 
-/// Takes the target folder of what was chosen. If nothing was chosen, it asks for no folder.
+/// Takes the target folder of what was chosen. If nothing was chosen, it requests no folder.
 fn hold_found<P: Place, G: Guard<P, E>, E: Out>(
     guard: &mut G,
     place: &P,
@@ -165,11 +165,11 @@ fn clean_found<P: Place>(
     }
 }
 
-/// Removes what builds have made, and returns the status: 0, or 101 if nothing is there to remove
+/// Removes what builds have made, and returns the status: 0, or 101 if there is nothing to remove
 /// or a removal failed.
 ///
-/// With 101, `err` has notes and `error: ` with a result line. The target folder is listed first;
-/// if nothing that is wanted is there, nothing is done. Between this look and the removal, the
+/// With 101, `err` has notes and `error: ` with a result line. The target folder is listed first.
+/// If it contains nothing that is wanted, nothing is done. Between this look and the removal, the
 /// target folder is requested from the guard. If a build has the folder, a line on `err` says so,
 /// and this removal waits.
 pub fn clean_options<P: Place + Reporting, G: Guard<P, E>, E: Out>(
@@ -186,7 +186,7 @@ pub fn clean_options<P: Place + Reporting, G: Guard<P, E>, E: Out>(
         (E.heard err.old) (E.heard err.new) }
 {
     let found = find(alloc, place, options, one_profile);
-    // After the look: if there is nothing to remove, no folder is made for the lock.
+    // The lock comes after the look: if there is nothing to remove, no folder is made for the lock.
     hold_found(guard, place, err, &found);
     let answer = clean_found(alloc, place, found);
     tell_end(alloc, place, err, answer)

@@ -40,8 +40,8 @@ fn tell_reasons<E: Out>(
     }
 }
 
-/// Writes why a build of so many units that ended without a fault started what it started, with the
-/// details that were noted.
+/// Writes why a build that ended without a fault started its children, with the noted details. The
+/// build has this number of units.
 fn tell_summary<E: Out>(alloc: Global, err: &mut E, units: usize, summary: &Summary, noted: &Noted)
     ensures { TellsSummary units summary.now (E.heard err.old) (E.heard err.new) }
 {
@@ -53,7 +53,7 @@ fn tell_summary<E: Out>(alloc: Global, err: &mut E, units: usize, summary: &Summ
     tell_reasons(alloc, err, keys, differences, details, kept, units)
 }
 
-/// Writes why a build of so many units started what it started, as that was noted.
+/// Writes why a build with this number of units started its children, as this was noted.
 fn tell_started<E: Out>(alloc: Global, err: &mut E, units: usize, noted: &Noted)
     ensures { TellsStarted units noted.now.started noted.now.differences noted.now.details
         noted.now.kept (E.heard err.old) (E.heard err.new) }
@@ -64,8 +64,8 @@ fn tell_started<E: Out>(alloc: Global, err: &mut E, units: usize, noted: &Noted)
     tell_reasons(alloc, err, keys, differences, details, noted.kept, units)
 }
 
-/// Writes why a build of so many units started what it started before its fault, as that was noted.
-/// If memory ran out for a note, it writes only the line that says so.
+/// Writes why a build with this number of units started its children before its fault, as this was
+/// noted. If memory ran out for a note, it writes only the line that says so.
 fn tell_noted<E: Out>(alloc: Global, err: &mut E, units: usize, noted: &Noted)
     ensures { TellsNoted units noted.now (E.heard err.old) (E.heard err.new) }
 {
@@ -76,7 +76,8 @@ fn tell_noted<E: Out>(alloc: Global, err: &mut E, units: usize, noted: &Noted)
     }
 }
 
-/// Writes why a build of so many units started what it started, if that is requested.
+/// Writes why a build started its children, if this is requested. `explain` is then the number of
+/// the build's units.
 pub(crate) fn explain_to<E: Out>(
     alloc: Global,
     err: &mut E,

@@ -10,19 +10,19 @@ use std::io::ErrorKind;
 use std::os::unix::fs::MetadataExt;
 use std::{fs, io};
 
-/// A lock of the system on a target folder itself, which leaves no file.
+/// A lock of the operating system on a target folder itself. The lock leaves no file.
 ///
-/// The lock lasts until this is dropped or the process ends, however that happens; no child has it.
-/// A folder that does not exist is made. A folder that cannot be made or locked is not guarded: the
-/// build goes on, and reports itself what is wrong with the folder.
+/// The lock lasts until this value is dropped or the process ends in any way. No child has the
+/// lock. A folder that does not exist is made. A folder that cannot be made or locked is not
+/// guarded: the build goes on, and the build itself reports what is wrong with the folder.
 ///
 /// The locked folder is the one to which the path leads once the lock is taken. If another folder
-/// replaced the first meanwhile, that other folder is locked.
+/// has replaced the first folder meanwhile, the new folder is locked.
 ///
-/// A locked and empty folder gets the tag of a target folder, `CACHEDIR.TAG`. So programs do not
-/// back the folder up, and builds do not take it for sources. The tag of another program gets one
-/// more line. A folder with other files and without a tag gets no tag: it may be somebody's own. If
-/// the tag cannot be written, there is none.
+/// A locked and empty folder gets the tag of a target folder, `CACHEDIR.TAG`. So backup programs
+/// skip the folder, and builds do not mistake the folder for sources. The tag of another program
+/// gets one more line. A folder with other files and without a tag gets no tag: it may be
+/// somebody's own folder. If the tag cannot be written, the folder has no tag.
 #[derive(Drop)]
 pub(crate) struct FolderLock<'a> {
     runtime: &'a HostRuntime,
@@ -54,7 +54,7 @@ impl<'a> FolderLock<'a> {
         }
     }
 
-    /// Opens a folder and tries to lock it. Returns whether another process has it.
+    /// Opens a folder and tries to lock it. Returns whether another process has locked the folder.
     fn try_lock(&mut self, path: &str) -> io::Result<bool> {
         for _ in 0..u64::MAX {
             let folder = self.open(path)?;

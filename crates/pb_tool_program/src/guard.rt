@@ -1,4 +1,4 @@
-//! What keeps two builds out of one target folder.
+//! What prevents two builds from using one target folder at the same time.
 
 ghost use Rattle.std.specs.Prelude.{ℕ, List, Bool};
 ghost use Rattle.pb_place_types.specs.Counts.{Counts};
@@ -6,17 +6,17 @@ ghost use Rattle.pb_place_types.specs.Sinks.{SinkState};
 
 use pb_place_types::{Out, PathText, Place};
 
-/// Keeps target folders for one build at a time, if it can. Its contracts see the counters of the
-/// place, and what was written beside the output at the moment of the call. So these contracts say
-/// when the call comes.
+/// Reserves target folders for one build at a time, if possible. Its contracts see the counters of
+/// the place, and what `err` has received at the moment of the call. So these contracts say when
+/// the call comes.
 pub trait Guard<P: Place, E: Out> {
     /// How a folder is requested. The relation has the guard before, the folder, the place's
     /// counters, what `err` has received, whether another build has the folder, and the guard
     /// after.
     ghost asks: { Self → List ℕ → Counts → SinkState → Bool → Self → Type 0 };
 
-    /// How a folder is waited for: the guard before, the place's counters, what `err` has received,
-    /// and the guard after.
+    /// How the guard waits for a folder. The relation has the guard before, the place's counters,
+    /// what `err` has received, and the guard after.
     ghost waits: { Self → Counts → SinkState → Self → Type 0 };
 
     /// Requests a folder, takes it if it is free, and returns whether another build has the folder.

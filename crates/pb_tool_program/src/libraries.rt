@@ -1,4 +1,4 @@
-//! Notes on packages without a library that dependencies name.
+//! Notes on packages that dependencies name and that have no library.
 
 ghost use Rattle.std.specs.Prelude.{◌≡◌, ◌==◌, length, IfOk, string_bytes};
 ghost use Rattle.pb_tool_program.specs.Libraries.{NotesOf};
@@ -10,14 +10,14 @@ use pb_place_types::{Out, write_all};
 use pb_tool_sentences::notes_of;
 use std::alloc::{AllocError, Global};
 
-/// Returns whether no dependency of a plan names a package without a library.
+/// Returns whether each package that a dependency of a plan names has a library.
 fn has_libraries(plan: &BuildPlan) -> bool
     ensures { result ≡ (length plan.now.project.plan.without_library == 0) }
 {
     plan.project.without_library().is_empty()
 }
 
-/// Returns a line for each package without a library that a dependency of a plan names.
+/// Returns a line for each package that a dependency of a plan names and that has no library.
 fn plan_notes(alloc: Global, plan: &BuildPlan) -> Result<String, AllocError>
     ensures { IfOk result (λ notes. string_bytes notes
         ≡ notes_of plan.now.project.workspace.packages plan.now.project.plan.without_library) }
@@ -26,9 +26,9 @@ fn plan_notes(alloc: Global, plan: &BuildPlan) -> Result<String, AllocError>
     notes_of(alloc, packages, plan.project.without_library())
 }
 
-/// Writes which packages that are depended on have no library, by the build's plan. It writes
-/// nothing if there are none, or if there is no plan: the build then reports why. If memory runs
-/// out, it writes a line that needs no memory.
+/// Writes which packages have no library although a dependency names them, by the build's plan. If
+/// there are no such packages, it writes nothing. If there is no plan, it writes nothing, and the
+/// build reports why. If memory runs out, it writes a line that needs no memory.
 pub(crate) fn note<E: Out>(alloc: Global, err: &mut E, plan: &Result<BuildPlan, BuildFault>)
     ensures { NotesOf plan.now (E.heard err.old) (E.heard err.new) }
 {

@@ -30,8 +30,8 @@ fn folder(rt: &HostRuntime) -> io::Result<PathText> {
     }
 }
 
-/// Returns whether the variable `NO_COLOR` says that programs use no colours: it is set, and not
-/// empty.
+/// Returns whether the variable `NO_COLOR` says that programs use no colours. This is so if the
+/// variable is set and not empty.
 fn has_no_color(rt: &HostRuntime) -> bool {
     match env::var(rt, "NO_COLOR") {
         Ok(value) => !value.is_empty(),
@@ -63,7 +63,7 @@ fn seconds(rt: &HostRuntime, time: Duration) -> io::Result<String> {
     Ok(text)
 }
 
-/// Writes how many units a build has built and kept, and how long that took.
+/// Writes how many units a build has built and kept, and how long the build took.
 fn say_counts(rt: &HostRuntime, counted: Counted, start: Instant) -> io::Result<()> {
     let time = seconds(rt, start.elapsed(rt)?)?;
     let Counted { built, kept } = counted;
@@ -76,8 +76,8 @@ fn say_counts(rt: &HostRuntime, counted: Counted, start: Instant) -> io::Result<
 /// returns the exit status.
 ///
 /// The status is that of `run`. If an argument is not UTF-8, the status is 1. If the current folder
-/// is unknown, or memory runs out for these, the status is 101. Each reason is written to standard
-/// error.
+/// is unknown, or memory runs out for the arguments or the folder, the status is 101. Each reason
+/// is written to standard error.
 pub fn tool(rt: &HostRuntime) -> u8 {
     let words = match words(rt) {
         Ok(words) => words,
@@ -122,7 +122,7 @@ pub fn tool(rt: &HostRuntime) -> u8 {
         &mut Colored::new(Over::new(rt.stderr())),
         &mut line,
     );
-    // The time is taken here alone: nothing that is proved depends on it.
+    // Only this function reads the time: nothing that is proved depends on the time.
     if let (Ok(start), Some(counted)) = (start, line.last_count()) {
         let _ = say_counts(rt, counted, start);
     }

@@ -9,7 +9,7 @@ use pb_place_types::{Out, write_all};
 use pb_tool_explain::{Page, meaning, near};
 use std::alloc::{AllocError, Global};
 
-/// Returns the text that names the most similar name.
+/// Returns the text that names a similar name, if there is one.
 fn near_told(alloc: Global, near: Option<&str>) -> Result<String, AllocError>
     ensures { IfOk result
         (λ text. string_bytes text ≡ near_told (option_map (λ name. name.now) near.entry)) }
@@ -23,7 +23,7 @@ fn near_told(alloc: Global, near: Option<&str>) -> Result<String, AllocError>
     Ok(text)
 }
 
-/// Returns the line that says that a page lacks this name, with the page's most similar name.
+/// Returns the line that says that a page lacks this name, with a similar name of the page.
 fn no_such_name(alloc: Global, page: &Page, name: &str) -> Result<String, AllocError>
     ensures { IfOk result
         (λ text. string_bytes text ≡ no_such_name (near_in page.now name.now) name.now) }

@@ -107,7 +107,7 @@ pub(crate) fn fail<P: Place + Reporting, E: Out>(
 }
 
 /// Prints the plan of a build in a form, and returns the status. The status is 0, or 101 if there
-/// is no plan or it cannot be printed.
+/// is no plan or the plan cannot be printed.
 ///
 /// With 101, `err` has the notes and the result line of a build that ends with this fault. No child
 /// is started, not even for the compiler's version, and no file is changed.

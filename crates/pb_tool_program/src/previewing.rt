@@ -33,7 +33,7 @@ fn tell_fates<E: Out>(alloc: Global, err: &mut E, units: &[Planned], fates: &[Fa
     };
 }
 
-/// Looks at what would be started of prepared units, and writes it.
+/// Foresees which prepared units would be started, and writes this.
 ///
 /// Errors: those of `foresee`.
 fn look_at<P: Place, E: Out>(
@@ -65,8 +65,8 @@ fn look_at<P: Place, E: Out>(
     }
 }
 
-/// Prepares the units of a plan as those of a build are prepared, looks at what would be started,
-/// and writes it.
+/// Prepares the units of a plan as a build prepares its units, foresees which units would be
+/// started, and writes this.
 ///
 /// Errors: those of `prepare` and of `foresee`.
 fn look_ahead<P: Place, E: Out>(
@@ -91,10 +91,10 @@ fn look_ahead<P: Place, E: Out>(
     }
 }
 
-/// Writes to `err` what a build of these options would start and why, and returns the status, which
+/// Writes to `err` what a build with these options would start, and why. Returns the status, which
 /// is 0 or 101. With 101, the notes of a failed build and `error: ` with its result line are
-/// written, too. No child is started but the compiler's query, and no file or folder is changed. So
-/// the target folder is not guarded.
+/// written, too. The only child is the compiler's query, and no file or folder is changed. So the
+/// target folder is not guarded.
 pub fn preview_options<P: Place + Reporting, E: Out>(
     alloc: Global,
     place: &mut P,

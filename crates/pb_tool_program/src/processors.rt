@@ -2,7 +2,7 @@
 
 use std::fs;
 
-/// Returns how many numbers a range has: `4`, or `0-3`.
+/// Returns how many numbers a range contains. A range is written as `4` or as `0-3`.
 fn in_range(range: &str) -> Option<u64> {
     let Some((first, last)) = range.split_once('-') else {
         let _: u64 = range.parse().ok()?;
@@ -13,7 +13,7 @@ fn in_range(range: &str) -> Option<u64> {
     last.checked_sub(first)?.checked_add(1)
 }
 
-/// Returns how many numbers a list of ranges, separated by commas, has.
+/// Returns how many numbers a list of ranges contains. Commas separate the ranges.
 fn in_list(list: &str) -> Option<u64> {
     let mut count = 0u64;
     for range in list.split(',') {
@@ -29,9 +29,9 @@ fn in_status(status: &str) -> Option<u64> {
     in_list(line.trim())
 }
 
-/// Returns how many processors this process may use, by `/proc/self/status`. If that does not say,
-/// as on a system other than Linux, it returns 1. (std returns the number only to programs that may
-/// start threads.)
+/// Returns how many processors this process may use, by `/proc/self/status`. If this file does not
+/// say so, as on a system other than Linux, the function returns 1. (std returns the number only to
+/// programs that may start threads.)
 pub(crate) fn processors(rt: &HostRuntime) -> u64 {
     let Ok(status) = fs::read_to_string(rt, "/proc/self/status") else {
         return 1;

@@ -11,7 +11,7 @@ use pb_place_types::{Out, write_all};
 use std::alloc::{AllocError, Global};
 
 /// Returns what a place reports of a build that ended with a fault of the outside. After any other
-/// end this is nothing. No call of the outside is made.
+/// end, returns no text. The function makes no call of the outside.
 pub(crate) fn reports_of<'p, P: Reporting>(
     place: &'p P,
     answer: &Result<Summary, BuildFault>,

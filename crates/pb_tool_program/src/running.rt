@@ -46,7 +46,8 @@ fn run_file<P: Place, O: Out, E: Out>(
     }
 }
 
-/// Prints the text for a command line that requests nothing: help to `out`, what is wrong to `err`.
+/// Prints the text for a command line that requests nothing. Help goes to `out`, and what is wrong
+/// goes to `err`.
 fn explain<O: Out, E: Out>(unasked: &ArgumentsError, out: &mut O, err: &mut E) -> u8
     ensures { Explains unasked.now result
         (O.heard out.old) (O.heard out.new)
@@ -107,20 +108,21 @@ fn build<P: Speaking + Noting, G: Guard<P, E>, O: Screen, E: Coloring, L: Out>(
     )
 }
 
-/// The whole program: does what the arguments of the command line request, the program's own name
-/// first.
+/// The whole program: does what the arguments of the command line request. The first argument is
+/// the program's own name.
 ///
-/// A build requests its target folder from the guard once it is planned, and a removal once it has
-/// listed. What a build shows beside its lines is set at four places. Its children are named at the
-/// place, its lines are shown as text at `out`, colours are set at `err`, and the status line shows
-/// which unit begins. The page contains the meanings of the names of result lines.
+/// A build requests its target folder from the guard once the build is planned. A removal requests
+/// its target folder once the folder is listed. What a build shows besides its message lines is set
+/// in four parameters. `place` names its children, `out` shows its lines as text, `err` has
+/// colours, and `line` shows which unit begins. The page contains the meanings of the names of
+/// result lines.
 ///
 /// The status is:
 ///
 /// - that of `build_options`, `plan_options`, `clean_options` or `run_session`;
 /// - 1 for a bad command line, and for a name that the page does not have;
-/// - 0 if help or a name's meaning was requested, 1 if it cannot be written;
-/// - 101 if memory runs out before.
+/// - 0 if help or a name's meaning was requested, and 1 if this text cannot be written;
+/// - 101 if memory runs out before any of this.
 pub fn run<S: AsStr, P: Speaking + Noting, G: Guard<P, E>, O: Screen, E: Coloring, L: Out>(
     alloc: Global,
     words: &[S],

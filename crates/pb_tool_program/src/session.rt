@@ -77,8 +77,9 @@ fn carry_out<O: Out>(alloc: Global, bytes: &[u8], out: &mut O) -> Result<bool, B
 /// - memory runs out outside a build;
 /// - a result line cannot be written.
 ///
-/// `out` then has the first of the session's lines, as far as it was run and the sink took them. A
-/// build that is refused or fails does not make a session bad: its result line reports it.
+/// `out` then has the first lines of the session, as far as the session was run and the sink took
+/// its lines. A build that is refused or fails does not make a session bad: its result line reports
+/// it.
 pub fn run_session<O: Out, E: Out>(alloc: Global, bytes: &[u8], out: &mut O, err: &mut E) -> u8
     ensures status { (result ≡ 0) ⊎ (result ≡ 1) }
     ensures written { result ≡ 0 →

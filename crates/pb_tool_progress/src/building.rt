@@ -26,8 +26,8 @@ fn keys_of(alloc: Global, units: &[Planned]) -> Result<Items<Text>, AllocError> 
     Ok(keys)
 }
 
-/// Returns the keys of the units of a plan, if there is a plan and if there is memory for the keys;
-/// else no keys.
+/// Returns the keys of the units of a plan. If there is no plan, or memory runs out for the keys,
+/// returns no keys.
 fn keys_in(alloc: Global, plan: &Result<BuildPlan, BuildFault>) -> Items<Text> {
     let keys = match plan {
         Ok(plan) => keys_of(alloc, plan.project.units()),
@@ -49,8 +49,8 @@ fn note<S: Out>(line: &mut StatusLine<S>, answer: &Result<Summary, BuildFault>) 
     }
 }
 
-/// Builds what was planned, as `build_plan` does, and shows each unit that begins and whose key is
-/// among these.
+/// Builds what was planned, as `build_plan` does, and shows each unit that begins, if its key is
+/// among these keys.
 ///
 /// Errors: those of `build_plan`.
 fn build_shown<P: Place, O: Out, S: Out>(
@@ -88,10 +88,10 @@ fn build_shown<P: Place, O: Out, S: Out>(
 }
 
 /// Builds what was planned, as `build_plan` does. If the status line is on, and there is memory for
-/// all keys, the line shows each unit that begins. At the end it is erased. If the build ends
+/// all keys, the line shows each unit that begins. At the end the line is erased. If the build ends
 /// without a fault, the line notes how many units were built and kept.
 ///
-/// It has the contract of `build_plan`: a status line changes nothing else.
+/// This function has the contract of `build_plan`: a status line changes nothing else.
 ///
 /// Errors: those of `build_plan`.
 pub fn build_watched<P: Place, O: Out, S: Out>(

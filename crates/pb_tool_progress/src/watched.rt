@@ -12,11 +12,11 @@ use pb_tool_screen::StatusLine;
 /// A turn that decides as another turn does, and shows each unit that begins.
 #[derive(Drop)]
 pub(crate) struct Watched<'a, S> {
-    /// What decides.
+    /// The turn that decides.
     pub(crate) jobs: Jobs<First>,
     /// The keys of the units, in plan order.
     pub(crate) keys: Items<Text>,
-    /// Where it is shown.
+    /// The status line that shows each unit.
     pub(crate) line: &'a mut StatusLine<S>,
 }
 

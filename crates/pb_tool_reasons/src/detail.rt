@@ -1,4 +1,4 @@
-//! How something differs, beside what differs.
+//! How something differs, in addition to what differs.
 
 use pb_data::{Text, TryCopy};
 use std::alloc::{AllocError, Global};
@@ -7,15 +7,15 @@ use std::alloc::{AllocError, Global};
 /// control character below the blank, is not shown.
 #[derive(Drop)]
 pub enum Detail {
-    /// No more is known than what differs.
+    /// Only what differs is known.
     Nothing,
-    /// Something differs from the unit's record, and it is not known what.
+    /// Something differs from the unit's record, but the thing that differs is unknown.
     Unseen,
     /// The unit has no record, but its output folder is there.
     BadAnswer,
-    /// Which word of a command is new, gone or another one.
+    /// Which word of a command is new, is gone or has changed.
     Word(Text),
-    /// What has become of it, instead of `has changed`.
+    /// What has become of the thing that differs. This text replaces `has changed`.
     Became(Text),
 }
 

@@ -1,4 +1,4 @@
-//! Lines about units, and one line for many units of which the same is said.
+//! Lines about units. Many units with the same text share one line.
 
 ghost use Rattle.std.specs.Prelude.{◌≡◌, ◌++◌, ◌<◌, IfOk, OnOk, count_by, length, slice_get, string_bytes, Some, take};
 ghost use Rattle.std.specs.List.{list_any};
@@ -7,19 +7,19 @@ ghost use Rattle.pb_tool_reasons.specs.Grouping.{count_in, group_line, grouped, 
 use pb_data::Text;
 use std::alloc::{AllocError, Global};
 
-/// From how many units on there is one line for all of them.
+/// The least number of units with the same text that share one line.
 const MANY: usize = 5;
 
-/// What is said of a unit.
+/// A unit, and a text about this unit.
 #[derive(Drop)]
 pub struct Row {
     /// The unit's key.
     pub key: Text,
-    /// What is said of it.
+    /// The text about the unit.
     pub said: Text,
 }
 
-/// Returns how many of these rows say the same.
+/// Returns how many of these rows have this text.
 fn count_in(rows: &[Row], said: &Text) -> usize
     ensures { result ≡ count_in rows.now said.now }
 {
@@ -28,7 +28,7 @@ fn count_in(rows: &[Row], said: &Text) -> usize
         .count()
 }
 
-/// Returns whether one of these rows says the same.
+/// Returns whether one of these rows has this text.
 fn is_said(rows: &[Row], said: &Text) -> bool
     ensures { result ≡ is_said rows.now said.now }
 {
@@ -58,7 +58,8 @@ fn group_line(alloc: Global, count: usize, row: &Row) -> Result<String, AllocErr
     Ok(text)
 }
 
-/// Returns the line that comes at the row of an index.
+/// Returns the line for the row at an index. It is empty if an earlier row has the line of many
+/// units.
 fn line_in(alloc: Global, rows: &[Row], index: usize, row: &Row) -> Result<String, AllocError>
     requires within { index < length rows.now }
     ensures { IfOk result
@@ -74,8 +75,8 @@ fn line_in(alloc: Global, rows: &[Row], index: usize, row: &Row) -> Result<Strin
     group_line(alloc, count, row)
 }
 
-/// Returns the lines of rows, in their order: `KEY: SAID` for each. If five rows or more say the
-/// same, there is one line for them, at the first of them: `N units: SAID`.
+/// Returns the lines of rows, in their order. The line of a row is `KEY: SAID`. Five or more rows
+/// with the same text share the line `N units: SAID`, which comes where the first of these rows is.
 ///
 /// Errors: out of memory.
 pub fn group_rows(alloc: Global, rows: &[Row]) -> Result<String, AllocError>

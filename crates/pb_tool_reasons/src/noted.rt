@@ -1,4 +1,4 @@
-//! What was noted of the units of a build during it.
+//! What was noted of the units of a build during the build.
 
 use crate::detail::Detail;
 use pb_data::{Items, Text, TryCopy};
@@ -6,23 +6,23 @@ use pb_record::InputName;
 use pb_store::Difference;
 use std::alloc::Global;
 
-/// What was noted of the units of a build, so that it is known after a fault too.
+/// What was noted of the units of a build. The notes are known after a fault, too.
 #[derive(Drop)]
 pub struct Noted {
     /// The keys of the units whose child was started, in order.
     pub started: Items<Text>,
-    /// The first difference of each of them.
+    /// The first difference of each of these units.
     pub differences: Items<Difference>,
-    /// How each of them differs.
+    /// How each of these units differs.
     pub details: Items<Detail>,
-    /// How many units have begun and were kept.
+    /// How many units began and were kept.
     pub kept: usize,
     /// Whether memory ran out for a note. All other fields may then lack something.
     pub lost: bool,
 }
 
 impl Noted {
-    /// Returns notes of a build in which nothing has begun. It takes no memory.
+    /// Returns notes of a build in which nothing has begun. This takes no memory.
     pub fn new(alloc: Global) -> Noted {
         Noted {
             started: Items::new(alloc),
@@ -57,7 +57,7 @@ fn is_same(difference: &Difference, other: &Difference) -> bool {
     }
 }
 
-/// Returns whether a unit and its difference are noted at an index of those that were started.
+/// Returns whether the started unit that is noted at an index is this unit, with this difference.
 fn is_noted(noted: &Noted, index: usize, key: &Text, difference: &Difference) -> bool {
     let own_key = noted.started.as_slice().get(index);
     let own_difference = noted.differences.as_slice().get(index);
@@ -69,8 +69,8 @@ fn is_noted(noted: &Noted, index: usize, key: &Text, difference: &Difference) ->
     }
 }
 
-/// Returns the detail at an index of the units that were started, if it is noted for this unit and
-/// this difference. Returns nothing if it is not, or if memory runs out for the detail.
+/// Returns the detail of the started unit at an index, if the notes have this unit and this
+/// difference there. Otherwise, or if memory runs out for the detail, returns `Detail::Nothing`.
 fn detail_at(
     alloc: Global,
     noted: &Noted,
@@ -88,7 +88,7 @@ fn detail_at(
 }
 
 /// Returns a detail for each of these units, which were started for these differences. If memory
-/// runs out, the list is shorter. Contracts promise nothing about details: they are for people.
+/// runs out, the list is shorter. Contracts promise nothing about details, which are for people.
 pub fn details_for(
     alloc: Global,
     noted: &Noted,

@@ -47,7 +47,7 @@ fn row_with(
     }
 }
 
-/// Adds the row of a unit whose child was started, if it is known what differed.
+/// Adds the row of a unit whose child was started, if the first difference is known.
 fn push_row(
     alloc: Global,
     rows: &mut Items<Row>,
@@ -112,14 +112,14 @@ fn is_tool(difference: &Difference) -> bool
     }
 }
 
-/// Returns whether that is so of all units that were started.
+/// Returns whether the first difference of all started units is in `CARGO`.
 fn are_tools(differences: &[Difference]) -> bool
     ensures { result ≡ list_all is_tool differences.now }
 {
     differences.iter().all(is_tool)
 }
 
-/// Returns a note if that is so.
+/// Returns the note on `CARGO` if this is so.
 fn note_if(are_tools: bool) -> &'static str
     ensures { result.now ≡ note_if are_tools }
 {
@@ -130,7 +130,8 @@ fn note_if(are_tools: bool) -> &'static str
     }
 }
 
-/// Returns a note if that is so of all units that were started, and there is one.
+/// Returns the note on `CARGO` if the first difference of all started units is in `CARGO`, and at
+/// least one unit was started.
 fn tool_note(differences: &[Difference]) -> &'static str
     ensures { result.now ≡ tool_note differences.now }
 {
@@ -141,8 +142,8 @@ fn tool_note(differences: &[Difference]) -> &'static str
     }
 }
 
-/// Returns why a build of so many units started the children of the units with these keys. Each
-/// line has a unit's key, what differed first and, if it is known, how. The lines are in order of
+/// Returns why a build started the children of the units with these keys. Each line has a unit's
+/// key, what differed first and, if this is known, how it differed. The lines are in order of
 /// starting. Five or more units with the same reason have one line.
 ///
 /// The last line has how many units were started, how many were kept, and how many did not begin,

@@ -5,7 +5,7 @@ ghost use Rattle.pb_place_types.specs.Sinks.{SinkState};
 
 use pb_place_types::{Out, write_all};
 
-/// What ends a colour.
+/// The bytes that end a colour.
 const PLAIN: &[u8] = b"\x1b[0m";
 
 const RED: &[u8] = b"\x1b[1;31m";
@@ -16,8 +16,8 @@ const CYAN: &[u8] = b"\x1b[1;36m";
 
 /// A sink for people that can also show levels in colours.
 pub trait Coloring: Out {
-    /// How colours are switched: the sink before, whether it shows colours from then on, and the
-    /// sink after.
+    /// How colours are switched. The relation has the sink before, whether it shows colours from
+    /// then on, and the sink after.
     ghost colors: { Self → Bool → Self → Type 0 };
 
     /// Sets whether levels have colours from now on. What the sink has received stays.
@@ -36,7 +36,7 @@ pub struct Colored<S> {
     failures: u64,
 }
 
-/// Returns the colour of a level, if the word is one.
+/// Returns the colour of a level, if the word is a level.
 fn color_of(word: &[u8]) -> Option<&'static [u8]> {
     if word == b"error".as_slice() {
         return Some(RED);
@@ -50,8 +50,8 @@ fn color_of(word: &[u8]) -> Option<&'static [u8]> {
     None
 }
 
-/// Writes a line, with its level in a colour, if it begins with one. Returns whether all of it was
-/// written.
+/// Writes a line. If the line begins with a level, the level has a colour. Returns whether the
+/// whole line was written.
 fn write_line<S: Out>(sink: &mut S, line: &[u8]) -> bool {
     let end = line.iter().position(|byte| *byte == b':' || *byte == b'[');
     let (word, rest) = line.split_at(end.unwrap_or(0));
@@ -77,7 +77,7 @@ fn write_lines<S: Out>(sink: &mut S, lines: &[u8]) -> bool {
 }
 
 impl<S: Out> Colored<S> {
-    /// Returns a sink over another one, without colours yet.
+    /// Returns a sink over another sink. It shows no colours yet.
     pub fn new(inside: S) -> Colored<S> {
         Colored {
             inside,

@@ -2,13 +2,13 @@
 
 use std::alloc::{AllocError, Global};
 
-/// What erases the line in which a terminal's cursor is.
+/// The bytes that erase the line in which a terminal's cursor is.
 pub const ERASE: &[u8] = b"\r\x1b[K";
 
-/// The most letters of a line, so that a terminal shows it in one row.
+/// The greatest number of letters of a status line, so that a terminal shows the line in one row.
 const LONGEST: usize = 79;
 
-/// Returns a number with blanks before it, as wide as another one.
+/// Returns a number, padded with blanks to the width of another number.
 fn pad_number(alloc: Global, number: usize, widest: usize) -> Result<String, AllocError> {
     let digits = format!(in alloc; "{number}")?;
     let wide = format!(in alloc; "{widest}")?;
@@ -20,8 +20,8 @@ fn pad_number(alloc: Global, number: usize, widest: usize) -> Result<String, All
     Ok(text)
 }
 
-/// Returns the line of a unit that begins, as `[ 66/300] util.target.lib`. The line erases the line
-/// before it, and is cut after 79 letters.
+/// Returns the line of a unit that begins, as `[ 66/300] util.target.lib`. The text erases the
+/// previous status line, and is cut after 79 letters.
 pub(crate) fn status_line(
     alloc: Global,
     number: usize,

@@ -5,7 +5,7 @@ use pb_place_types::{PathText, RelativePath};
 use pb_record::{Input, Record, read_record};
 use std::alloc::{AllocError, Global};
 
-/// The most bytes of a record without a note.
+/// The greatest number of bytes of a record that gets no note.
 const LONGEST: usize = 16_777_216;
 
 /// The end of the name of the record of a script's run.
@@ -65,7 +65,7 @@ fn files_of(alloc: Global, inputs: &[Input]) -> Result<Vec<KeptFile>, AllocError
     Ok(found)
 }
 
-/// Adds the largest files, each with its size: `PATH (N bytes)`, with `, ` between two.
+/// Adds the largest files, each with its size: `PATH (N bytes)`, with `, ` between two files.
 fn push_largest(
     alloc: Global,
     text: &mut String,

@@ -46,8 +46,8 @@ fn told_at(alloc: Global, value: &Value, level: &str, text: &str) -> Result<Stri
     level_line(alloc, text_or_none(value, level), text_or_none(value, text))
 }
 
-/// Returns the text of a diagnostic: the compiler's own, or its level and its message if there is
-/// none.
+/// Returns the text of a diagnostic. This is the compiler's own text or, if there is none, the
+/// diagnostic's level and message.
 fn diagnostic_shown(alloc: Global, value: &Value) -> Result<String, AllocError>
     ensures { IfOk result (λ text. string_bytes text ≡ diagnostic_shown (view value.now)) }
 {
@@ -57,8 +57,8 @@ fn diagnostic_shown(alloc: Global, value: &Value) -> Result<String, AllocError>
     }
 }
 
-/// Returns the text of a line: that of a diagnostic, or of a script's warning or error; nothing for
-/// any other line.
+/// Returns the text of a line for a diagnostic, or for a script's warning or error. For any other
+/// line, returns an empty text.
 fn value_shown(alloc: Global, value: &Value) -> Result<String, AllocError>
     ensures { IfOk result (λ text. string_bytes text ≡ value_shown (view value.now)) }
 {
@@ -72,7 +72,8 @@ fn value_shown(alloc: Global, value: &Value) -> Result<String, AllocError>
     Ok(String::new(alloc))
 }
 
-/// Returns the text of a line, without the line feed at its end; nothing if the line is not JSON.
+/// Returns the text of a line that is given without its line feed. If the line is not JSON, returns
+/// an empty text.
 ///
 /// Errors: only out of memory.
 pub fn line_shown(alloc: Global, line: &str) -> Result<String, AllocError>

@@ -1,4 +1,4 @@
-//! A sink of message lines that shows them.
+//! A sink that shows the message lines that it receives.
 
 ghost use Rattle.std.specs.Prelude.{◌≡◌, ◌≤◌, ◌++◌, Bool, false, length, take, MatchOption, OnOk};
 ghost use Rattle.std.specs.Io.KnownBytes.{Keeps, Appends};
@@ -10,7 +10,7 @@ use crate::rendering::line_shown;
 use pb_place_types::{Out, write_all};
 use std::alloc::{AllocError, Global};
 
-/// A sink of message lines that can also show them as text.
+/// A sink that receives message lines and can also show them as text.
 pub trait Screen: Out {
     /// How the showing of lines is switched. The relation has the sink before, whether it shows
     /// lines, whether it erases a status line, whether levels have colours, and the sink after.
@@ -23,21 +23,21 @@ pub trait Screen: Out {
         ensures heard { Self.heard self.new ≡ Self.heard self.old };
 }
 
-/// A sink over another sink, to which it passes on all that it receives. If lines are to be shown,
-/// the text of each whole line is also written to a third sink. This happens as soon as the other
-/// sink has taken the line. If memory runs out for a line, the loss is reported. The third sink may
-/// fail in any way.
+/// A sink that passes on all that it receives to a second sink. If lines are to be shown, the text
+/// of each whole line is also written to a third sink. This happens as soon as the second sink has
+/// taken the line. If memory runs out for a line, the loss is reported. The third sink may fail in
+/// any way.
 #[derive(Drop)]
 pub struct Rendered<O, S> {
     /// The sink that receives the lines.
     out: O,
-    /// The sink on which they are shown.
+    /// The sink on which the lines are shown.
     aside: Colored<S>,
-    /// Whether they are shown.
+    /// Whether the lines are shown.
     on: bool,
     /// Whether a status line on the third sink is erased before each write.
     erases: bool,
-    /// What was received of a line that has not ended.
+    /// The received part of a line that has not ended.
     line: Vec<u8>,
     alloc: Global,
 }
@@ -72,7 +72,7 @@ fn follow<S: Out>(
 }
 
 impl<O: Out, S: Out> Rendered<O, S> {
-    /// Returns a sink over these two, which shows nothing yet.
+    /// Returns a sink over these two sinks. It shows nothing yet.
     pub fn new(alloc: Global, out: O, aside: S) -> Rendered<O, S>
         ensures { ⟦<Rendered<O, S> as Out>⟧.heard result ≡ O.heard out }
     {

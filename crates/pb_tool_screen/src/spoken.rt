@@ -13,13 +13,13 @@ use pb_place_types::{
 };
 use std::alloc::{AllocError, Global};
 
-/// The note if memory runs out for another note.
+/// The note that is written if memory runs out for another note.
 const NO_MEMORY: &[u8] = b"note: out of memory: the note on a long record is not shown\n";
 
 /// A place that can also name the children that it starts, and report what failed.
 pub trait Speaking: Place + Reporting {
-    /// How naming is switched: the place before, whether it names children, whether it erases a
-    /// status line, and the place after.
+    /// How naming is switched. The relation has the place before, whether it names children,
+    /// whether it erases a status line, and the place after.
     ghost speaks: { Self → Bool → Bool → Self → Type 0 };
 
     /// Sets whether children are named from now on, and whether a status line is erased before each
@@ -38,7 +38,7 @@ pub struct Spoken<P, S> {
     inside: P,
     /// The sink to which children are named.
     aside: S,
-    /// Whether they are named.
+    /// Whether the children are named.
     on: bool,
     /// Whether a status line on the sink is erased before each text.
     erases: bool,
@@ -82,7 +82,7 @@ fn line_of(alloc: Global, command: &Command) -> Result<String, AllocError> {
     Ok(line)
 }
 
-/// Writes a text to a sink. A status line there is erased before, if that is requested.
+/// Writes a text to a sink. If this is requested, a status line on the sink is erased first.
 fn write_text<S: Out>(aside: &mut S, erases: bool, text: &[u8]) {
     if erases {
         let _ = write_all(aside, ERASE);
@@ -102,7 +102,7 @@ fn name<S: Out>(alloc: Global, aside: &mut S, erases: bool, command: &Command) {
     };
 }
 
-/// Writes the note on a file that was written, if it is the long record of a script.
+/// Writes the note on a file that was written, if the file is the long record of a script.
 fn weigh<S: Out>(alloc: Global, aside: &mut S, erases: bool, path: &PathText, bytes: &[u8]) {
     match long_record_line(alloc, path, bytes) {
         Ok(Some(line)) => write_text(aside, erases, line.as_bytes()),
@@ -111,8 +111,8 @@ fn weigh<S: Out>(alloc: Global, aside: &mut S, erases: bool, path: &PathText, by
     };
 }
 
-/// Writes the note on a file that was written in pieces, if it is the long record of a script. Only
-/// then it takes memory for the whole file.
+/// Writes the note on a file that was written in pieces, if the file is the long record of a
+/// script. Only for such a file, it takes memory for the whole file.
 fn weigh_pieces<S: Out>(
     alloc: Global,
     aside: &mut S,

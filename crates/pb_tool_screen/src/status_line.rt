@@ -4,7 +4,7 @@ use crate::line::{ERASE, status_line};
 use pb_place_types::{Out, write_all};
 use std::alloc::Global;
 
-/// How many units a build that ended has built and kept.
+/// How many units a finished build has built and kept.
 #[derive(Clone, Copy, Debug)]
 pub struct Counted {
     /// How many children were started for units.
@@ -21,7 +21,7 @@ pub struct StatusLine<S> {
     alloc: Global,
     /// Whether units are shown.
     on: bool,
-    /// Whether the end is noted.
+    /// Whether the end of a build is noted.
     counts: bool,
     /// Whether a line is on the sink.
     shown: bool,
@@ -72,14 +72,14 @@ impl<S: Out> StatusLine<S> {
         }
     }
 
-    /// Notes how a build has ended, if that is set.
+    /// Notes how a build has ended, if the line is set to note this.
     pub fn note(&mut self, counted: Counted) {
         if self.counts {
             self.counted = Some(counted);
         }
     }
 
-    /// Returns how the last build ended, if one was noted.
+    /// Returns how the last build ended, if this was noted.
     pub fn last_count(&self) -> Option<Counted> {
         self.counted
     }

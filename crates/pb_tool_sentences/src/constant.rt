@@ -35,7 +35,7 @@ pub fn start_sentence(fault: StartFault) -> &'static str
     }
 }
 
-/// Returns why a call on files or variables, or one for a unit's record, failed.
+/// Returns why a call on files or variables, or a call for a unit's record, failed.
 pub fn device_sentence(fault: DeviceFault) -> &'static str
     ensures { result.now ≡ device_sentence fault }
 {

@@ -56,7 +56,7 @@ fn fault_detail(alloc: Global, fault: &BuildFault) -> Result<String, AllocError>
     write_note(alloc, sentence.as_str())
 }
 
-/// Returns whether a unit is bad by the status of its compiler.
+/// Returns whether a unit is bad because of the status of its compiler.
 fn is_by_compiler(unit: &str, fault: &UnitFault) -> bool
     ensures { result ≡ is_by_compiler unit.now fault.now }
 {
@@ -84,10 +84,10 @@ fn bad_detail(
     Ok(text)
 }
 
-/// Returns what is written about a failed build besides its result line: a note that is the
-/// sentence of its fault; for a cycle the packages come after the sentence. If a compiler failed
-/// and its messages were not shown as text, a second note says where they are. Nothing is written
-/// about a build that did not fail.
+/// Returns what is written about a failed build besides its result line. A note has the sentence of
+/// the build's fault. For a cycle, the packages come after the sentence. If a compiler failed and
+/// its messages were not shown as text, a second note says where the messages are. Nothing is
+/// written about a build that did not fail.
 ///
 /// Errors: only out of memory, and only if there is something to write.
 pub fn detail(

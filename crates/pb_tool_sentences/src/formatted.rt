@@ -24,7 +24,7 @@ fn between(alloc: Global, before: &str, text: &str, after: &str) -> Result<Strin
     Ok(whole)
 }
 
-/// Returns what failed, by a name between two texts, and why.
+/// Returns a sentence about a failure: a name between two texts, and then the reason.
 fn because(
     alloc: Global,
     before: &str,

@@ -1,4 +1,4 @@
-//! Notes on packages without a library that dependencies name.
+//! Notes on packages that dependencies name and that have no library.
 
 ghost use Rattle.std.specs.Prelude.{◌≡◌, ◌++◌, IfOk, OnOk, string_bytes, codes};
 ghost use Rattle.pb_tool_sentences.specs.Libraries.{manifest_named, notes_of};
@@ -7,7 +7,8 @@ use pb_data::Text;
 use pb_workspace_types::Package;
 use std::alloc::{AllocError, Global};
 
-/// Returns the path of the manifest of the package of a name; an empty text if there is none.
+/// Returns the path of the manifest of the package with this name. Returns an empty text if there
+/// is no such package.
 fn manifest_named<'a>(packages: &'a [Package], name: &str) -> &'a str
     ensures { result.now ≡ manifest_named packages.now name.now }
 {

@@ -47,7 +47,7 @@ fn part_detail(
     values_detail(alloc, Some(old), Some(new))
 }
 
-/// Returns the text of a variable in a list, or none if it is not in the list.
+/// Returns the text of a variable in a list, or none if the variable is not in the list.
 fn text_in<'a>(pairs: &'a [(Text, Text)], name: &Text) -> Option<&'a str> {
     pairs
         .iter()
@@ -55,8 +55,8 @@ fn text_in<'a>(pairs: &'a [(Text, Text)], name: &Text) -> Option<&'a str> {
         .map(|pair| pair.1.as_str())
 }
 
-/// Returns how the variables of a command differ from the recorded ones: the first name, in byte
-/// order, whose text differs. Both lists are sorted by name.
+/// Returns how the variables of a command differ from the recorded variables: the first name, in
+/// byte order, whose text differs. Both lists are sorted by name.
 fn variables_differ(
     alloc: Global,
     pairs: &[(Text, Text)],
@@ -72,8 +72,8 @@ fn variables_differ(
     Ok(Some((Difference::Pair(name), detail)))
 }
 
-/// Returns the first difference of a command from the recorded one, if there is one. `values` says
-/// whether the values of all variables are shown.
+/// Returns the first difference of a command from the recorded command, if there is a difference.
+/// `values` says whether the values of all variables are shown.
 pub(crate) fn command_differs(
     alloc: Global,
     asked: &RecordedCommand,

@@ -17,7 +17,7 @@ pub(crate) struct Comparison {
     pub(crate) key: Text,
     /// Its record, if it has one.
     pub(crate) kept: Option<Record>,
-    /// The first input whose value differs, and how, if one has been seen.
+    /// The first input whose value differs, and how it differs, if such an input has been seen.
     pub(crate) found: Option<(Difference, Detail)>,
     /// The index of the input that was looked at last.
     pub(crate) at: usize,
@@ -25,11 +25,11 @@ pub(crate) struct Comparison {
     pub(crate) read: Option<usize>,
     /// The key of the needed unit whose folder was listed last, if the record is of format 1.
     pub(crate) listed: Option<Text>,
-    /// Whether its output folder was there when it was removed.
+    /// Whether the unit's output folder existed when the folder was removed.
     pub(crate) has_folder: bool,
 }
 
-/// Returns whether an input is a path.
+/// Returns whether an input is a file or a folder at a path.
 fn is_at(input: &Input, path: &PathText) -> bool {
     match input {
         Input::File(own, _) | Input::Tree(own, _) => own.as_str() == path.as_str(),
@@ -37,7 +37,7 @@ fn is_at(input: &Input, path: &PathText) -> bool {
     }
 }
 
-/// Returns the first input at a path, at or after an index, with its own index.
+/// Returns the first input at a path, with the input's index. Inputs before index `at` are skipped.
 fn path_from<'a>(inputs: &'a [Input], at: usize, path: &PathText) -> Option<(usize, &'a Input)> {
     for index in at..inputs.len() {
         if is_at(&inputs[index], path) {
@@ -58,7 +58,8 @@ fn value_from<'a>(inputs: &'a [Input], at: usize, name: &str) -> Option<&'a Opti
     None
 }
 
-/// Returns how the input at a path differs, if a read of the file there shows it.
+/// Returns how the input at a path differs, if a read of the file at this path shows the
+/// difference.
 fn file_detail(
     alloc: Global,
     input: &Input,
@@ -82,7 +83,8 @@ fn file_detail(
     }
 }
 
-/// Returns how the input at a path differs, if the list of the files below it shows it.
+/// Returns how the input at a path differs, if the list of the files below this path shows the
+/// difference.
 fn folder_detail(
     alloc: Global,
     input: &Input,
@@ -169,7 +171,8 @@ fn member_differs(
     Ok((true, at_path(alloc, folder, detail)?))
 }
 
-/// Returns whether a path is at or below the output folder of a unit, for the folder of all units.
+/// Returns whether a path is at or below the output folder of a unit. `folder` is the folder of all
+/// units.
 fn is_in_unit(folder: &str, key: &str, path: &str) -> bool {
     let inside = path
         .strip_prefix(folder)
@@ -181,8 +184,7 @@ fn is_in_unit(folder: &str, key: &str, path: &str) -> bool {
     }
 }
 
-/// Returns the key of the unit that a record names by copies, and in whose folder a path is, if
-/// there is one.
+/// Returns the key of the unit in whose folder a path is, if a record names this unit by copies.
 fn copy_at<'a>(kept: &'a Record, folder: &str, path: &PathText) -> Option<&'a Text> {
     match &kept.needed {
         Needed::Copies(copies) => copies
@@ -273,7 +275,8 @@ impl Comparison {
         };
         let detail = folder_detail(alloc, input, folder, paths)?;
         let seen = at_path(alloc, folder, detail)?;
-        // A path that was a file is listed only if no file is there. The list says more.
+        // A path at which a file was recorded is listed only if no file is there. The list says
+        // more.
         if matches!(input, Input::File(_, _)) {
             self.found = None;
         }

@@ -10,7 +10,7 @@ use pb_tool_reasons::Detail;
 use std::alloc::{AllocError, Global};
 
 /// Returns the first needed unit that is not as the record names it. A record of format 1 names
-/// files: the folder of the first unit that differs is the one that was listed last.
+/// files: the folder of the first unit that differs is the folder that was listed last.
 fn first_need(
     alloc: Global,
     numbers: &Table<Option<u64>>,
@@ -24,8 +24,8 @@ fn first_need(
     }
 }
 
-/// Returns the first difference of a unit whose child is started, and how it differs. `numbers` has
-/// the number of the record of each unit that has begun, or none for a unit whose child was
+/// Returns the first difference of a unit whose child is started, and how it differs. For each unit
+/// that has begun, `numbers` has the number of its record. There is none for a unit whose child was
 /// started. `values` says whether the values of all variables are shown.
 pub(crate) fn differs(
     alloc: Global,

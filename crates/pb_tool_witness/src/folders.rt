@@ -6,8 +6,8 @@ use pb_place_types::{PathText, RelativePath};
 use pb_tool_reasons::Detail;
 use std::alloc::{AllocError, Global};
 
-/// Returns how the paths below a folder differ from the recorded ones, if they do: the folder is
-/// gone, or the first file, in byte order, that is new or gone.
+/// Returns how the paths below a folder differ from the recorded paths, if they do. Either the
+/// folder is gone, or the detail names the first file, in byte order, that is new or gone.
 pub(crate) fn paths_differ(
     alloc: Global,
     folder: &PathText,
@@ -37,7 +37,7 @@ pub(crate) fn paths_differ(
     }
 }
 
-/// Returns the detail of a file below a folder, if it is not the recorded one.
+/// Returns the detail of a file below a folder, if the file differs from the recorded file.
 pub(crate) fn file_differs(
     alloc: Global,
     file: &(RelativePath, Bytes),

@@ -1,12 +1,12 @@
 //! What a place notes of a build, from the calls that the build makes.
 //!
 //! A build lists the folder of its records, and reads each record once. Then a unit begins with one
-//! more read of its own record. The next calls are those for the inputs that the record names and,
-//! in format 1, for the folders of the units that it names. If the unit is not kept, the next spawn
-//! starts its child.
+//! more read of its own record. The next calls are those for the inputs that the record names. In
+//! format 1, they include the calls for the folders of the units that the record names. If the unit
+//! is not kept, the next spawn starts its child.
 //!
-//! Any other call shows that the comparison is over. A record of format 1 is read once more when its
-//! unit answers: a unit never begins twice.
+//! Any other call shows that the comparison is over. A record of format 1 is read once more when
+//! its unit answers. This read begins no unit, because a unit never begins twice.
 
 ghost use Rattle.std.specs.Prelude.{◌≡◌};
 
@@ -29,15 +29,15 @@ pub(crate) struct Notes {
     on: bool,
     /// Whether it notes the values of all variables.
     values: bool,
-    /// The folder whose direct files were listed last. Once a build has opened its records, it is
-    /// their folder.
+    /// The folder whose direct files were listed last. Once a build has opened its records, this is
+    /// the folder of the records.
     folder: Option<PathText>,
-    /// How many records of that folder have not been read since.
+    /// How many records of that folder have not been read since the list.
     unread: usize,
     /// The unit that began last, while it is compared with its record.
     current: Option<Comparison>,
-    /// The units that have begun: the number of each one's record, or none if it has no number or
-    /// the unit's child was started.
+    /// For each unit that has begun, the number of its record. There is none if the record has no
+    /// number or the unit's child was started.
     numbers: Table<Option<u64>>,
     /// The notes that people read.
     pub(crate) noted: Noted,
@@ -117,7 +117,7 @@ fn push_started(
 }
 
 impl Notes {
-    /// Returns notes that are not on. It takes no memory.
+    /// Returns notes that are switched off. This takes no memory.
     pub(crate) fn new(alloc: Global) -> Notes {
         Notes {
             on: false,
@@ -162,8 +162,8 @@ impl Notes {
         }
     }
 
-    /// Ends the comparison of a unit if a read of this path cannot belong to it: then the unit was
-    /// kept, and a unit answers.
+    /// Ends the comparison of a unit if a read of this path cannot belong to the comparison. The
+    /// unit was then kept, and a unit answers.
     fn pass(&mut self, path: &PathText) {
         if self.is_past(path) {
             self.end();
@@ -271,8 +271,8 @@ impl Notes {
         }
     }
 
-    /// Notes that a child was started. It is that of the unit that began last, if it writes into this
-    /// unit's folder.
+    /// Notes that a child was started. The child is that of the unit that began last, if the child
+    /// writes into this unit's folder.
     fn note_spawn(&mut self, alloc: Global, command: &Command) -> Result<(), AllocError> {
         let Some(current) = self.current.take() else {
             return Ok(());
@@ -306,8 +306,8 @@ impl Notes {
         }
     }
 
-    /// Notes a read that failed. If it is the read of a record, the unit before has begun, and this
-    /// one has not.
+    /// Notes a read that failed. If this is the read of a record, the unit before has begun, and
+    /// the record's unit has not.
     pub(crate) fn note_failed_read(&mut self, path: &PathText) {
         if self.key_at(path).is_some() {
             self.end();

@@ -10,7 +10,8 @@ use std::alloc::Global;
 /// A place that can also note which units a build starts, and how they differ from their records.
 /// Contracts promise nothing about the notes: they are words for people.
 pub trait Noting: Place {
-    /// How noting is switched: the place before, whether it notes units, and the place after.
+    /// How noting is switched. The relation has the place before, whether it notes units, and the
+    /// place after.
     ghost notes: { Self → Bool → Self → Type 0 };
 
     /// Drops what was noted, and sets whether units are noted from now on. `values` sets whether the
@@ -20,6 +21,6 @@ pub trait Noting: Place {
         ensures notes { notes self.old on self.new }
         ensures at { IsUnchanged (Self.at self.old) (Self.at self.new) };
 
-    /// Returns what was noted. It takes no memory.
+    /// Returns what was noted. This takes no memory.
     fn noted(&self) -> &Noted;
 }

@@ -4,13 +4,14 @@ use pb_data::Text;
 use pb_tool_reasons::Detail;
 use std::alloc::{AllocError, Global};
 
-/// The most bytes of a value that are shown.
+/// The greatest number of bytes that are shown of a value.
 const LONGEST: usize = 200;
 
-/// How many letters are shown of the part at the start of two long values that is the same.
+/// How many letters are shown of the common start of two long values.
 const SAME: usize = 20;
 
-/// Adds a text with `?` for each control character, and `..` for what exceeds the greatest length.
+/// Adds a text in which `?` replaces each control character. If the text exceeds the greatest
+/// length, `..` replaces the rest.
 pub(crate) fn push_plain(out: &mut String, letters: std::str::Chars<'_>) -> Result<(), AllocError> {
     let mut length: usize = 0;
     for letter in letters {
@@ -24,8 +25,8 @@ pub(crate) fn push_plain(out: &mut String, letters: std::str::Chars<'_>) -> Resu
     Ok(())
 }
 
-/// Returns how many letters are left out at the start of two values. If one of them is long, it is
-/// the part with which both begin, without the end of that part.
+/// Returns how many letters are left out at the start of two values. If one value is long, this is
+/// the common start of both values, without the last letters of this start.
 fn count_left_out(old: &str, new: &str) -> usize {
     if old.len() <= LONGEST && new.len() <= LONGEST {
         return 0;
@@ -40,7 +41,8 @@ fn count_left_out(old: &str, new: &str) -> usize {
     same.saturating_sub(SAME)
 }
 
-/// Adds a value in quotation marks, without its first `left_out` letters, or `unset`.
+/// Adds a value in quotation marks, without its first `left_out` letters. If there is no value,
+/// adds `unset`.
 fn push_value(out: &mut String, value: Option<&str>, left_out: usize) -> Result<(), AllocError> {
     let value = match value {
         Some(value) => value,
@@ -62,7 +64,7 @@ fn push_value(out: &mut String, value: Option<&str>, left_out: usize) -> Result<
     Ok(())
 }
 
-/// Returns the detail of a value that was another one, or not set: `was OLD, is NEW`.
+/// Returns the detail of a value that has changed: `was OLD, is NEW`. A value may also be unset.
 pub(crate) fn values_detail(
     alloc: Global,
     old: Option<&str>,
@@ -76,12 +78,12 @@ pub(crate) fn values_detail(
     Ok(Detail::Became(Text::new(text)))
 }
 
-/// Returns the detail of these words.
+/// Returns the detail that consists of these words.
 pub(crate) fn words_only(alloc: Global, words: &str) -> Result<Detail, AllocError> {
     Ok(Detail::Became(Text::from_str(alloc, words)?))
 }
 
-/// Returns the detail of these words before a name.
+/// Returns the detail that consists of these words and a name after them.
 pub(crate) fn words_and_name(alloc: Global, words: &str, name: &str) -> Result<Detail, AllocError> {
     let mut text = String::from_str(alloc, words)?;
     push_plain(&mut text, name.chars())?;

@@ -1,5 +1,5 @@
-//! How a variable differs. Unless the values of all variables are requested, its values are shown only
-//! if the builder itself sets a variable of that name: any other value may be a secret.
+//! How a variable differs. Unless the values of all variables are requested, values are shown only
+//! of variables that the builder itself sets: the value of any other variable may be a secret.
 
 use crate::values::{values_detail, words_only};
 use pb_tool_reasons::Detail;
@@ -24,7 +24,7 @@ static OWN: &[&str] = &[
     "TARGET",
 ];
 
-/// How the names of the others that it sets begin.
+/// How the names of the other variables that the builder sets begin.
 static OWN_FIRST: &[&str] = &["CARGO_FEATURE_", "CARGO_PKG_"];
 
 /// Returns whether the builder itself sets a variable of this name.
@@ -59,7 +59,7 @@ pub(crate) fn inherited_detail(
     }
 }
 
-/// Returns how a variable differs that only one of two commands sets, or that they set to different
+/// Returns how a variable differs, if only one of two commands sets it or they set it to different
 /// texts. `values` says whether its values are shown even if the builder does not set it itself.
 pub(crate) fn variable_detail(
     alloc: Global,

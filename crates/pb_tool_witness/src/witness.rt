@@ -12,8 +12,8 @@ use pb_tool_reasons::Noted;
 use pb_tool_screen::Speaking;
 use std::alloc::{AllocError, Global};
 
-/// A place that does what another one does. If it is set to do so, it notes how each unit that
-/// begins differs from its record. It learns this from the calls of a build, and makes no call of
+/// A place that does what another place does. If noting is on, it notes how each unit that begins
+/// differs from the unit's record. It learns this from the calls of a build, and makes no call of
 /// its own.
 #[derive(Drop)]
 pub struct Witness<P> {
