@@ -109,7 +109,7 @@ fn explain_command<'a>(alloc: Global) -> Result<Command<'a>, AllocError>
 {
     let name = Arg::new(alloc, "NAME")
         .required(true)
-        .help("A name at the end of a line `error: ..`, as `BadKind`");
+        .help("A name at the end of a line `error: ..`, such as `BadKind`");
     let command = Command::new(alloc, "explain").about(
         "Prints what the name of an error means, and what to do",
     );
@@ -128,8 +128,8 @@ fn with_choice<'a>(alloc: Global, command: Command<'a>) -> Result<Command<'a>, A
 /// example.
 const BELOW_THE_OPTIONS: &str = "Variables:
   RUSTC             The compiler (default rustc)
-  RUSTFLAGS         Words for each of its calls, with spaces between them
-  CARGO_TARGET_DIR  The folder for all that is made, where no option names one
+  RUSTFLAGS         Arguments for each call of the compiler, with spaces between them
+  CARGO_TARGET_DIR  The target folder, if no option names it
 
 Status:
   0    All units are good
@@ -156,7 +156,7 @@ fn build_command<'a>(alloc: Global) -> Result<Command<'a>, AllocError>
 /// The text below the options of a plan: the statuses, and an example.
 const BELOW_THE_PLAN: &str = "Status:
   0    The plan is printed
-  101  There is none: a line on standard error says why
+  101  There is no plan: a line on standard error says why
   1    The command line is bad
 
 Example:
@@ -167,7 +167,7 @@ fn plan_command<'a>(alloc: Global) -> Result<Command<'a>, AllocError>
     ensures { IfOk result (λ command. app_of command ≡ plan) }
 {
     let command = Command::new(alloc, "plan")
-        .about("Prints the units of a build and what each needs, and builds nothing")
+        .about("Prints the units of a build and what each unit needs, and builds nothing")
         .after_help(BELOW_THE_PLAN);
     let command = with_choice(alloc, command)?;
     let command = with_options(alloc, command, &PLACES)?;
@@ -175,11 +175,11 @@ fn plan_command<'a>(alloc: Global) -> Result<Command<'a>, AllocError>
 }
 
 /// The text below the options of a removal: what is removed, the statuses, and an example.
-const BELOW_THE_REMOVAL: &str = "It removes records and the folders of units, and nothing else.
+const BELOW_THE_REMOVAL: &str = "Only records and the folders of units are removed.
 
 Status:
-  0    They are removed
-  101  Nothing is there to remove, or a removal failed: a line on standard error says why
+  0    The records and folders are removed
+  101  There is nothing to remove, or a removal failed: a line on standard error says why
   1    The command line is bad
 
 Example:

@@ -50,7 +50,7 @@ pub(crate) static SELECTION: [Described; 5] = [
         action: Some(ArgAction::SetTrue),
         value: &[],
         among: None,
-        help: "Build all their binaries",
+        help: "Build all binaries of the selected packages",
     },
     Described {
         name: "bin",
@@ -58,7 +58,7 @@ pub(crate) static SELECTION: [Described; 5] = [
         action: Some(ArgAction::Append),
         value: &["NAME"],
         among: None,
-        help: "Build their binaries of this name",
+        help: "Build the binaries of this name in the selected packages",
     },
 ];
 
@@ -86,7 +86,7 @@ pub(crate) static FEATURES: [Described; 5] = [
         action: Some(ArgAction::SetTrue),
         value: &[],
         among: None,
-        help: "Leave out their feature `default`",
+        help: "Turn off the feature `default` of the selected packages",
     },
     Described {
         name: "release",
@@ -115,7 +115,7 @@ pub(crate) static TELLING: [Described; 8] = [
         action: None,
         value: &["N"],
         among: None,
-        help: "How many units may be in flight at one time: a number (default 1), or `default`, as many as processors",
+        help: "How many units may be built at the same time: a number (default 1), or `default` for the number of processors",
     },
     Described {
         name: "explain",
@@ -147,7 +147,7 @@ pub(crate) static TELLING: [Described; 8] = [
         action: Some(ArgAction::SetTrue),
         value: &[],
         among: None,
-        help: "Say on standard error which children are started: the program and its words",
+        help: "Say on standard error which children are started: each program and its arguments",
     },
     Described {
         name: "progress",
@@ -155,7 +155,7 @@ pub(crate) static TELLING: [Described; 8] = [
         action: Some(ArgAction::SetTrue),
         value: &[],
         among: None,
-        help: "Show on standard error which unit begins, on one line, also where that is no terminal",
+        help: "Show on standard error, on one line, which unit begins, even if standard error is not a terminal",
     },
     Described {
         name: "quiet",
@@ -163,7 +163,7 @@ pub(crate) static TELLING: [Described; 8] = [
         action: Some(ArgAction::SetTrue),
         value: &[],
         among: None,
-        help: "Show neither that line nor, at the end, how many units were built",
+        help: "Do not show the progress line, or the number of built units at the end",
     },
     Described {
         name: "color",
@@ -191,7 +191,7 @@ pub(crate) static PLACES: [Described; 2] = [
         action: None,
         value: &["FOLDER"],
         among: None,
-        help: "The folder for all that is made",
+        help: "The target folder, which contains everything that builds make",
     },
 ];
 
@@ -212,7 +212,7 @@ pub(crate) static CHILDREN: [Described; 6] = [
         action: None,
         value: &["WORDS"],
         among: None,
-        help: "A program and its words, put before the path of a build script",
+        help: "A program that runs the build scripts, and its first arguments",
     },
     Described {
         name: "tool",
@@ -220,7 +220,7 @@ pub(crate) static CHILDREN: [Described; 6] = [
         action: None,
         value: &["TEXT"],
         among: None,
-        help: "What children are told as `CARGO` (default: this program, as it was called)",
+        help: "The value of `CARGO` for children (default: the name by which this program was called)",
     },
     Described {
         name: "locked",
@@ -244,7 +244,7 @@ pub(crate) static CHILDREN: [Described; 6] = [
         action: Some(ArgAction::SetTrue),
         value: &[],
         among: None,
-        help: "No effect: both",
+        help: "No effect: means `--locked` and `--offline`",
     },
 ];
 
@@ -276,7 +276,7 @@ pub(crate) static REMOVAL: [Described; 3] = [
         action: Some(ArgAction::Append),
         value: &["NAME"],
         among: None,
-        help: "Remove what was made of this package",
+        help: "Remove what builds made of this package",
     },
     Described {
         name: "release",
@@ -284,7 +284,7 @@ pub(crate) static REMOVAL: [Described; 3] = [
         action: Some(ArgAction::SetTrue),
         value: &[],
         among: None,
-        help: "Remove what was made under the profile `release`",
+        help: "Remove what builds made under the profile `release`",
     },
     Described {
         name: "profile",
@@ -292,6 +292,6 @@ pub(crate) static REMOVAL: [Described; 3] = [
         action: None,
         value: &["NAME"],
         among: None,
-        help: "Remove what was made under this profile",
+        help: "Remove what builds made under this profile",
     },
 ];
