@@ -19,5 +19,5 @@ pb_tool -V
 for command in plan clean; do
     pb_tool $command --help > help
     echo "status $?"
-    sed -n '/^It removes/p; /^Status/,$p' help
+    sed -n '/^Only records/p; /^Status/,$p' help
 done

@@ -9,7 +9,7 @@ pub static OTHERS: [Entry; 14] = [
         text: r#"A line of the script's output is refused. NAME is one of:
 
 - `UnknownKey`: no such key after `cargo::`
-- `BadValue`: a value that its key may not have, or no `=` after `cargo::`
+- `BadValue`: a value that is not allowed for its key, or no `=` after `cargo::`
 - `BadFlag`: `rustc-flags` has a word that is neither `-l X` nor `-L X`
 
 ```
@@ -25,7 +25,7 @@ error: bad b.target.run Directive(UnknownKey) started=b.target.script,b.target.r
     },
     Entry {
         name: "ForeignInput",
-        text: r#"An input is in the target folder, and in the folder of no unit that this unit reaches.
+        text: r#"An input is in the target folder, but not in the folder of a unit that this unit reaches.
 
 ```
 note: the input `/w/target/x` is in the target folder
@@ -45,9 +45,9 @@ note: the compiler left no dep-info that can be read
 error: bad a.target.lib NoDepInfo started=a.target.lib
 ```
 
-- If `started=` does not name the unit, its files were removed by hand: remove its record too (`UNIT.record`).
-- Look whether `RUSTC` is a compiler that writes dep-info.
-- Look whether dep-info is over 4 MiB (4,194,304 bytes) or has byte 0.
+- If `started=` does not name the unit, the unit's files were removed by hand: remove the unit's record too (`UNIT.record`).
+- Check whether `RUSTC` is a compiler that writes dep-info.
+- Check whether the dep-info is over 4 MiB (4,194,304 bytes) or has byte 0.
 "#,
     },
     Entry {
@@ -59,7 +59,7 @@ note: the child process wrote more to a stream than it may
 error: bad a.target.lib OutputTooLong started=a.target.lib
 ```
 
-- Let the compiler or the script print less.
+- Make the compiler or the script print less.
 "#,
     },
     Entry {
@@ -93,7 +93,7 @@ note: the compiler's messages, if it wrote any, are in the lines on standard out
 error: bad a.target.lib Status(1) started=a.target.lib
 ```
 
-- Of a compile, read the [diagnostics](MESSAGES.md#recipes) on standard output; `--render` shows them as text.
+- For a compile, read the [diagnostics](MESSAGES.md#recipes) on standard output; `--render` shows them as text.
 - Read what comes after `UNIT said:`.
 "#,
     },
@@ -107,10 +107,10 @@ note: cannot start rustc in /w: no folder of PATH has it
 error: fault -vV CannotStart
 ```
 
-- The second note names the program or the folder, and says [what the system says](MESSAGES.md#notes-of-a-fault).
-- Look at `RUSTC`; for the run of a script (`.run`) at `--runner`.
-- Look whether the target folder can be made and written.
-- Look for a word or a variable that the system does not take: over 128 KiB, or with byte 0.
+- The second note names the program or the folder, and repeats [the system's message](MESSAGES.md#notes-of-a-fault).
+- Look at `RUSTC`. For the run of a script (`.run`), look at `--runner`.
+- Check whether the target folder can be made, and whether files can be written there.
+- Look for an argument or a variable that the system refuses, because it is over 128 KiB or has byte 0.
 "#,
     },
     Entry {
@@ -128,7 +128,7 @@ error: fault a.target.lib Capture
     },
     Entry {
         name: "Device",
-        text: r#"A call on files or variables failed. AT is that path or variable, or the unit in whose folder, record or inputs it was.
+        text: r#"A call on files or variables failed. AT is the path or the variable. If the call was for the folder, the record or the inputs of a unit, AT is this unit.
 
 ```
 note: a call for `/w/Cargo.toml` failed: a file could not be read
@@ -136,10 +136,10 @@ note: cannot read /w/Cargo.toml: Permission denied
 error: fault /w/Cargo.toml Device
 ```
 
-- The second note names the path at which the call failed, and says [what the system says](MESSAGES.md#notes-of-a-fault).
-- Look at rights, and whether the disk is full.
-- In a folder that is read whole, look for links to folders above, folders over 128 deep and names that are not UTF-8.
-- Look whether the variable is UTF-8, and whether a name is over 255 bytes.
+- The second note names the path at which the call failed, and repeats [the system's message](MESSAGES.md#notes-of-a-fault).
+- Check the access rights, and whether the disk is full.
+- In a folder that is read whole, look for links to folders above, folders more than 128 levels deep, and names that are not UTF-8.
+- Check whether the variable is UTF-8, and whether a name is over 255 bytes.
 "#,
     },
     Entry {
@@ -152,7 +152,7 @@ note: the child of a.target.lib was ended by signal 9
 error: fault a.target.lib Died
 ```
 
-- The second note names the signal. With 9, look for limits of the system, as of memory.
+- The second note names the signal. For signal 9, look for limits of the system, such as a limit on memory.
 "#,
     },
     Entry {
@@ -170,7 +170,7 @@ error: fault a.target.lib NumbersSpent
     },
     Entry {
         name: "OutOfMemory",
-        text: r#"Memory was refused.
+        text: r#"The system refused memory.
 
 ```
 note: out of memory
@@ -189,12 +189,12 @@ note: the message lines cannot be written
 error: fault sink Sink
 ```
 
-- Look at standard output: a closed pipe, a full disk.
+- Look at standard output: the pipe may be closed, or the disk full.
 "#,
     },
     Entry {
         name: "Toolchain",
-        text: r#"The compiler does not say its host. Its answer to `-vV` has another status than 0, is too long, is not UTF-8, or has no line `host: TRIPLE`.
+        text: r#"The compiler does not report its host. Its answer to `-vV` has a status other than 0, is too long, is not UTF-8, or has no line `host: TRIPLE`.
 
 ```
 note: the compiler did not report its version and host

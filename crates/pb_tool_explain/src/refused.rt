@@ -19,7 +19,7 @@ error: refused BadFeature
     },
     Entry {
         name: "BadKind",
-        text: r#"A key has a value that it may not have: another type, another spelling, or a path with byte 0. With `key package` the manifest may have no `[package]` where a package is needed.
+        text: r#"A key has a value that is not allowed: a wrong type, a wrong spelling, or a path with byte 0. If the key is `package`, the manifest may lack the `[package]` that it needs.
 
 ```
 note: `/w/Cargo.toml` is refused: `edition` has a value that is not allowed
@@ -28,12 +28,12 @@ error: refused BadKind
 ```
 
 - Look at each key of that name in that manifest.
-- If a whole entry of dependencies or features is wrong, the key is that of the table.
+- If a whole entry of dependencies or features is wrong, the note names the key of the table.
 "#,
     },
     Entry {
         name: "BadName",
-        text: r#"A name is missing or has other letters than it may have.
+        text: r#"A name is missing, or has letters that are not allowed.
 
 ```
 note: `/w/Cargo.toml` is refused: a name is missing or has letters that are not allowed
@@ -57,7 +57,7 @@ error: refused BadProfile
 
 - Look at the values in `[profile]`.
 - Give a custom profile `inherits`, and a name of ASCII letters, digits, `-` and `_`.
-- Call no profile `debug`.
+- Do not name a profile `debug`.
 "#,
     },
     Entry {
@@ -76,7 +76,7 @@ error: refused BadVersion
     },
     Entry {
         name: "Cycle",
-        text: r#"Packages depend on one another. Path dependencies of the selected packages count, and of all packages that they reach; those of build scripts too.
+        text: r#"Packages depend on one another. The path dependencies of the selected packages count, and those of all packages that these reach. Build dependencies count too.
 
 ```
 note: packages depend on one another: core-lib util
@@ -102,7 +102,7 @@ error: refused InheritsCycle
     },
     Entry {
         name: "LinksTwice",
-        text: r#"Two packages link one native library. All packages that are read count.
+        text: r#"Two packages link the same native library. All packages that are read count.
 
 ```
 note: two packages link the same native library
@@ -142,7 +142,7 @@ error: refused NameMismatch
     },
     Entry {
         name: "NoInherited",
-        text: r#"A key is not there to inherit: a manifest says `workspace = true`, and the root has no such key or entry. A package that is no member has nothing to inherit either.
+        text: r#"A package inherits a key that does not exist: its manifest says `workspace = true`, but the root has no such key or entry. A package that is not a member cannot inherit anything.
 
 ```
 note: a package inherits a key or an entry that is not there
@@ -151,12 +151,12 @@ error: refused NoInherited
 ```
 
 - Look at `[workspace.package]` and `[workspace.dependencies]` of the root manifest.
-- Name the root manifest with `--manifest-path`: no folder above is searched.
+- Name the root manifest with `--manifest-path`: the program does not search the folders above.
 "#,
     },
     Entry {
         name: "NoManifest",
-        text: r#"No manifest may be read at that path. It is not there, it is not named `Cargo.toml`, or it is in the target folder.
+        text: r#"No manifest may be read at that path. The file does not exist, is not named `Cargo.toml`, or is in the target folder.
 
 ```
 note: no manifest can be read at `/w/utli/Cargo.toml`
@@ -164,7 +164,7 @@ note: in /w/app/Cargo.toml, line 5, key dependencies.util: it leads to /w/utli/C
 error: refused NoManifest
 ```
 
-- Look at `--manifest-path`, which ends in `Cargo.toml`; without it, at the current folder.
+- Look at `--manifest-path`, which must end in `Cargo.toml`. Without this option, look at the current folder.
 - Look at `members` and at the paths of dependencies.
 - Choose a target folder that does not contain the workspace.
 "#,
@@ -184,7 +184,7 @@ error: refused NoSuchDependency
     },
     Entry {
         name: "NoSuchFeature",
-        text: r#"A feature is requested that is not there.
+        text: r#"A requested feature does not exist.
 
 ```
 note: a requested feature does not exist
@@ -192,13 +192,13 @@ note: --features a/fastt: a has no feature fastt (near: fast)
 error: refused NoSuchFeature
 ```
 
-- Look at `--features`: a selected package has to have each of them.
+- Look at `--features`: each feature must exist in a selected package.
 - Look at the items in `[features]`, and at `features` of dependencies.
 "#,
     },
     Entry {
         name: "NoSuchPackage",
-        text: r#"A package is requested that is no member of the workspace; or `pb_tool clean` found nothing of the packages that `-p` names.
+        text: r#"A requested package is not a member of the workspace, or `pb_tool clean` found nothing of the packages that `-p` names.
 
 ```
 note: a requested package is not a member of the workspace
@@ -211,14 +211,14 @@ note: nothing that a build made of the packages is in /w/target
 error: refused NoSuchPackage
 ```
 
-- Look at `-p`, which names members alone.
+- Look at `-p`, which can only name members.
 - Without `-p` and `--workspace`, look at `default-members`.
 - For `clean`, the note names the folder in which no unit of these packages is.
 "#,
     },
     Entry {
         name: "NoSuchProfile",
-        text: r#"There is no such profile; or `pb_tool clean` found nothing under the profile that `--profile` or `--release` names.
+        text: r#"The requested profile does not exist, or `pb_tool clean` found nothing under the profile that `--profile` or `--release` names.
 
 ```
 note: a requested profile does not exist
@@ -232,7 +232,7 @@ error: refused NoSuchProfile
 ```
 
 - Look at `--profile`, and at `inherits` in the root manifest.
-- For `clean`, the note names the folder of the profile. If all in it was removed before, there is nothing to do.
+- For `clean`, the note names the folder of the profile. If everything in this folder was removed before, there is nothing to do.
 "#,
     },
     Entry {
@@ -245,12 +245,12 @@ error: refused NoTargetFolder
 ```
 
 - Look at `--target-dir`, `--manifest-path` and the variable `CARGO_TARGET_DIR`.
-- If all was removed before, there is nothing to do.
+- If everything was removed before, there is nothing to do.
 "#,
     },
     Entry {
         name: "NotInOverride",
-        text: r#"An override sets a key that it may not set: `panic`, `lto` or `rpath` under `package` or `build-override` of a profile.
+        text: r#"An override sets a key that no override may set: `panic`, `lto` or `rpath` under `package` or `build-override` of a profile.
 
 ```
 note: an override in a profile sets `panic`, `lto` or `rpath`
@@ -290,7 +290,7 @@ error: refused NotToml
     },
     Entry {
         name: "NothingToBuild",
-        text: r#"There is no unit.
+        text: r#"There is no unit to build.
 
 ```
 note: there is nothing to build
@@ -300,7 +300,7 @@ error: refused NothingToBuild
 
 - Look at `--lib` and `--bin`: a name that no binary has selects nothing.
 - Turn on the `required-features` of the binary.
-- Look whether `src/lib.rs` or `src/main.rs` is there, and outside the target folder.
+- Check whether `src/lib.rs` or `src/main.rs` exists, and whether the file is outside the target folder.
 "#,
     },
     Entry {
@@ -318,7 +318,7 @@ error: refused OldResolver
     },
     Entry {
         name: "SameBinary",
-        text: r#"A package has two binaries of one name.
+        text: r#"A package has two binaries with the same name.
 
 ```
 note: a package has two binaries with the same name
@@ -331,7 +331,7 @@ error: refused SameBinary
     },
     Entry {
         name: "SameName",
-        text: r#"Two packages have one name. All members count, and all packages to which path dependencies lead.
+        text: r#"Two packages have the same name. All members count, and all packages to which path dependencies lead.
 
 ```
 note: two packages have the same name
@@ -339,7 +339,7 @@ note: in /w/m1/Cargo.toml, line 2, key package.name: util is in /w/m2/Cargo.toml
 error: refused SameName
 ```
 
-- Rename one of them.
+- Rename one of the packages.
 "#,
     },
     Entry {
@@ -352,7 +352,7 @@ note: in /w/Cargo.toml: it has more than 1048576 bytes
 error: refused TooLarge
 ```
 
-- Shorten it.
+- Shorten the manifest.
 "#,
     },
     Entry {
@@ -384,7 +384,7 @@ error: refused TooManyUnits
     },
     Entry {
         name: "UnsupportedCrateType",
-        text: r#"A library has a crate type that is not supported: `lib`, `rlib` and `bin` are.
+        text: r#"A library has a crate type that is not supported. The supported types are `lib`, `rlib` and `bin`.
 
 ```
 note: `/w/Cargo.toml` is refused: the library has a crate type that is not supported
