@@ -1,4 +1,4 @@
-# A variable's value, a file's name and a word of the command line that are not UTF-8.
+# A variable's value, a file's name and an argument of the command line that are not UTF-8.
 no_text=$(printf 'a\377')
 package . a
 file src/lib.rs

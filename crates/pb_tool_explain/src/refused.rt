@@ -119,7 +119,7 @@ error: refused LinksTwice
 
 ```
 note: a package links a native library but has no build script
-note: in /w/Cargo.toml, line 3, key package.links: z is linked, and /w/build.rs is not there
+note: in /w/Cargo.toml, line 3, key package.links: z is linked, but /w/build.rs does not exist
 error: refused LinksWithoutScript
 ```
 
@@ -375,7 +375,7 @@ error: refused TooMany
 ```
 note: there are more than 4,096 units
 note: each binary is a unit: the packages have 4096 binaries
-note: in /w/Cargo.toml: 4096 of them; --bin NAME and -p NAME select fewer
+note: in /w/Cargo.toml: 4096 of these binaries; --bin NAME and -p NAME select fewer
 error: refused TooManyUnits
 ```
 

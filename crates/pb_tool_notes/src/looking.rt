@@ -93,7 +93,7 @@ fn tell_script<P: Place>(
     if let Ok(script) = folder.join(alloc, "build.rs") {
         if !is_file(alloc, place, &script)? {
             let text = format!(in alloc;
-                "{} is linked, and {} is not there",
+                "{} is linked, but {} does not exist",
                 page.package_text("links"),
                 script.as_str()
             )?;

@@ -130,9 +130,9 @@ fn is_bad_requirement(alloc: Global, text: &str) -> Result<bool, AllocError> {
 /// Returns what is wrong with a version that is refused.
 fn wrong_version(text: &str) -> &'static str {
     match text.split('.').count() {
-        1 => "has no second and third number",
+        1 => "has no second and no third number",
         2 => "has no third number",
-        _ => "is no version, as 0.1.0 is one",
+        _ => "is not a version such as 0.1.0",
     }
 }
 

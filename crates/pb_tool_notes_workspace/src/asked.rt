@@ -18,7 +18,7 @@ fn tell_ask(
     let Some(page) = pages.at(ask.by.as_str()) else {
         return notes.say(
             alloc,
-            "it is what --manifest-path names, or the current folder",
+            "this path comes from --manifest-path or from the current folder",
         );
     };
     match ask.role {
@@ -91,7 +91,7 @@ fn tell_folder<P: Place>(
         return Ok(());
     };
     if is_file(alloc, place, &below)? {
-        let text = format!(in alloc; "it is a folder: {} is there", below.as_str())?;
+        let text = format!(in alloc; "this path is a folder, which contains {}", below.as_str())?;
         notes.say(alloc, text.as_str())?;
     }
     Ok(())

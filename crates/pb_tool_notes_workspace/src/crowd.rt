@@ -26,7 +26,7 @@ pub fn tell_too_many(alloc: Global, notes: &mut Notes, pages: &Pages) -> Result<
     };
     let members = members_in(pages);
     if members == 0 {
-        let text = "the package and all that it needs are counted";
+        let text = "the package and all packages that it needs are counted";
         return tell_page(alloc, notes, root, text);
     }
     let text = format!(in alloc;
@@ -107,7 +107,9 @@ pub fn tell_too_many_units<P: Place>(
     notes.say(alloc, text.as_str())?;
     if let Some(page) = counted.page {
         let most = counted.most;
-        let text = format!(in alloc; "{most} of them; --bin NAME and -p NAME select fewer")?;
+        let text = format!(in alloc;
+            "{most} of these binaries; --bin NAME and -p NAME select fewer"
+        )?;
         tell_page(alloc, notes, page, text.as_str())?;
     }
     Ok(())

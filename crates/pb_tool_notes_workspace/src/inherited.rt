@@ -132,7 +132,7 @@ pub fn tell_taken_sources(
             };
             if takes(value) && gives_entry(root, key.as_str()) && !has_path {
                 let text = format!(in alloc;
-                    "it takes workspace.dependencies.{} of {}, whose source is not a path alone",
+                    "it inherits workspace.dependencies.{} of {}, whose source is not only a path",
                     key.as_str(),
                     root.path.as_str()
                 )?;

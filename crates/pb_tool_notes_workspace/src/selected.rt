@@ -73,7 +73,7 @@ fn tell_defaults(
     for written in texts_of(alloc, root, "default-members")?.as_slice() {
         if !is_glob(*written) && !is_known(alloc, pages.asks.as_slice(), &folder, *written) {
             let near = near(alloc, *written, members.as_slice())?;
-            let text = format!(in alloc; "{} is no member's folder{}", *written, near.as_str())?;
+            let text = format!(in alloc; "{} is not a member's folder{}", *written, near.as_str())?;
             tell_key(
                 alloc,
                 notes,
@@ -283,7 +283,7 @@ pub fn tell_nothing<P: Place>(
     if notes.texts().is_empty() {
         notes.say(
             alloc,
-            "no selected package has what is asked for: src/lib.rs, src/main.rs, a file in src/bin",
+            "no selected package has a requested file: src/lib.rs, src/main.rs or one in src/bin",
         )?;
     }
     Ok(())

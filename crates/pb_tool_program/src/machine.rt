@@ -83,7 +83,7 @@ pub fn tool(rt: &HostRuntime) -> u8 {
         Ok(words) => words,
         Err(error) if error.kind() == ErrorKind::OutOfMemory => return out_of_memory(rt),
         Err(_) => {
-            say(rt, "error: a word of the command line is not UTF-8\n");
+            say(rt, "error: an argument of the command line is not UTF-8\n");
             return BAD_COMMAND_LINE;
         }
     };

@@ -18,7 +18,7 @@ pub enum PlanFault {
     /// There are more than 4,096 units.
     #[error("there are more than 4,096 units")]
     TooManyUnits,
-    /// There is no unit to build.
+    /// There is no unit.
     #[error("there is nothing to build")]
     NothingToBuild,
     /// The profile has no settings.

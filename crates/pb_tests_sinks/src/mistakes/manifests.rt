@@ -153,7 +153,7 @@ name = "m"
 serde = { workspace = true }
 ---
 note: `/w/m/Cargo.toml` is refused: a dependency has a source other than `path`
-note: in /w/m/Cargo.toml, line 4, key dependencies.serde: it takes workspace.dependencies.serde of /w/Cargo.toml, whose source is not a path alone
+note: in /w/m/Cargo.toml, line 4, key dependencies.serde: it inherits workspace.dependencies.serde of /w/Cargo.toml, whose source is not only a path
 error: refused UnsupportedSource
 === [manifest.order] a table for a target
 @ /w/Cargo.toml

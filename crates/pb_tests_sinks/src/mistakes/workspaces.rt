@@ -35,7 +35,7 @@ error: refused NoManifest
 name = "a"
 ---
 note: no manifest can be read at `/w/Cargo.toml`
-note: it is what --manifest-path names, or the current folder
+note: this path comes from --manifest-path or from the current folder
 error: refused NoManifest
 === [load.root] a folder for a manifest: --manifest-path /w/app
 @ /w/app/Cargo.toml
@@ -43,8 +43,8 @@ error: refused NoManifest
 name = "a"
 ---
 note: no manifest can be read at `/w/app`
-note: it is a folder: /w/app/Cargo.toml is there
-note: it is what --manifest-path names, or the current folder
+note: this path is a folder, which contains /w/app/Cargo.toml
+note: this path comes from --manifest-path or from the current folder
 error: refused NoManifest
 === [load.checks] another version
 @ /w/Cargo.toml
@@ -117,7 +117,7 @@ name = "a"
 links = "z"
 ---
 note: a package links a native library but has no build script
-note: in /w/Cargo.toml, line 3, key package.links: z is linked, and /w/build.rs is not there
+note: in /w/Cargo.toml, line 3, key package.links: z is linked, but /w/build.rs does not exist
 error: refused LinksWithoutScript
 === [inherit.missing] nothing to inherit
 @ /w/Cargo.toml
@@ -184,6 +184,6 @@ default-members = ["ap"]
 name = "app"
 ---
 note: a requested package is not a member of the workspace
-note: in /w/Cargo.toml, line 3, key workspace.default-members: ap is no member's folder (near: app)
+note: in /w/Cargo.toml, line 3, key workspace.default-members: ap is not a member's folder (near: app)
 error: refused NoSuchPackage
 "#;
