@@ -28,8 +28,8 @@ pub enum Invocation {
     Explain(Text),
     /// The plan of a build of these options, in a form. Nothing is built.
     Plan { options: Options, form: PlanForm },
-    /// The removal of what builds with these options made. If the options name packages, only the
-    /// files of these packages are removed. If `one_profile` is true, only the profile of the
+    /// The removal of what builds with these options made. If the options name packages, only what
+    /// belongs to these packages is removed. If `one_profile` is true, only the profile of the
     /// options counts, else all profiles.
     Clean { options: Options, one_profile: bool },
 }
@@ -131,7 +131,7 @@ pub(crate) fn bad_path(alloc: Global, fault: PathFault) -> ArgumentsError
     wrong(alloc, "error: a path has byte 0\n")
 }
 
-/// Returns the error for words that request no build, no session and no explanation.
+/// Returns the error for words that name no subcommand.
 pub(crate) fn no_command(alloc: Global) -> ArgumentsError
     ensures { ToldWrong (λ told. told ≡ command_told) result }
 {

@@ -245,7 +245,7 @@ fn colors_of(here: &Here, matches: &ArgMatches<'_>) -> bool
     }
 }
 
-/// Returns what is shown of a build besides its lines.
+/// Returns what is shown of a build besides its message lines.
 fn shown_of(here: &Here, matches: &ArgMatches<'_>) -> Shown
     ensures { IsShown here.now (rows_of (found_of matches.now)) result }
 {

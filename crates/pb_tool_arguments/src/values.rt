@@ -113,7 +113,7 @@ fn number_in(text: &str) -> Option<u64>
 }
 
 /// Returns the value of `--jobs`: the given number, or the number of processors for `default`.
-/// Without the option this is 1.
+/// Without the option, the value is 1.
 ///
 /// Errors: `Wrong`, if the value is neither a number nor `default`.
 pub(crate) fn jobs_of(

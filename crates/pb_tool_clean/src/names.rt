@@ -67,7 +67,7 @@ pub(crate) fn package_in<'a>(words: &[&'a str]) -> &'a str
     }
 }
 
-/// Returns whether a word is one of the names of packages, or there are no such names.
+/// Returns whether a word is one of the names of packages, or no package is named.
 pub(crate) fn is_named(packages: &[Text], word: &str) -> bool
     ensures { result ≡ is_named packages.now word.now }
 {

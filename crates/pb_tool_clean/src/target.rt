@@ -92,8 +92,8 @@ fn target_by(
     told_or(alloc, &root, other, &options.target_dir)
 }
 
-/// Returns the target folder of a build of these options. This is what `--target-dir` says, or else
-/// what the variable `CARGO_TARGET_DIR` says, or else `target` in the folder of the manifest.
+/// Returns the target folder of a build with these options. This is the value of `--target-dir`,
+/// else the value of the variable `CARGO_TARGET_DIR`, else `target` in the folder of the manifest.
 ///
 /// Errors: `Call`, with the variable's name; `OutOfMemory`.
 pub fn target_of<P: Place>(

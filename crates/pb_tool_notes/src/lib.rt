@@ -1,4 +1,4 @@
-//! A second look after a refusal: facts about it, as notes for people.
+//! A second look after a refusal: facts about the refusal, as notes for people.
 #![tactic(auto)]
 
 mod looking;

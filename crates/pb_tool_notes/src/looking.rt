@@ -118,7 +118,8 @@ fn tell_scripts<P: Place>(
     Ok(())
 }
 
-/// Adds what is known about a refusal of the loader. It makes no further call of the place.
+/// Adds what is known about a refusal of the loader. The function makes no further call of the
+/// place.
 fn tell_load(
     alloc: Global,
     notes: &mut Notes,
@@ -328,7 +329,7 @@ pub fn notes_on_plan<P: Place>(
 
 /// Returns notes on what a build ignores: keys of manifests that nothing reads, requested binaries
 /// that are missing, patterns of `members` that match no package, and a workspace in a folder
-/// above, if it lists the package.
+/// above, if this workspace lists the package.
 pub fn notes_on_build<P: Place>(alloc: Global, place: &mut P, options: &Options) -> Notes
     ensures { LooksAgain (P.at place.old) (P.at place.new) }
 {

@@ -213,7 +213,7 @@ pub fn tell_bad_versions(
     Ok(())
 }
 
-/// Returns whether an item of a feature has one of its four forms.
+/// Returns whether an item of a feature has one of the four forms.
 fn is_item(text: &str) -> bool {
     match text.split_once('/') {
         Some((name, feature)) => {

@@ -29,7 +29,8 @@ fn next_row(alloc: Global, row: &[bool], byte: u8, name: &str) -> Result<Vec<boo
     Ok(next)
 }
 
-/// Returns whether a name matches a part of a pattern: `*` matches any bytes, `?` one byte.
+/// Returns whether a name matches a part of a pattern: `*` matches any bytes, and `?` matches one
+/// byte.
 pub fn matches_part(alloc: Global, part: &str, name: &str) -> Result<bool, AllocError> {
     let mut row = Vec::new(alloc);
     row.push(true)?;

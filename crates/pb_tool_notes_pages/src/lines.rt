@@ -44,8 +44,7 @@ fn read_header(alloc: Global, reading: &mut Reading, line: &str) -> Result<(), A
     Ok(())
 }
 
-/// Returns the quotation marks of a text of several lines that begins in a line and does not end
-/// there.
+/// Returns the quotation marks of a text that begins in a line and does not end in the same line.
 fn left_open(line: &str) -> &'static str {
     for quotes in ["\"\"\"", "'''"] {
         if line.matches(quotes).count() % 2 == 1 {
@@ -81,7 +80,7 @@ fn way_of_line(alloc: Global, reading: &mut Reading, line: &str) -> Result<Strin
     Ok(way)
 }
 
-/// Returns whether a long key path begins with a short one.
+/// Returns whether a long key path begins with a short key path.
 fn begins(short: &str, long: &str) -> bool {
     match long.strip_prefix(short) {
         Some(rest) => rest.starts_with('.') || rest.starts_with('['),

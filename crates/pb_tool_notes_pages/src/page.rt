@@ -16,7 +16,7 @@ pub struct Page {
     pub table: Option<Table>,
 }
 
-/// Returns the text of some bytes, or an empty text if they are not UTF-8.
+/// Returns the text of some bytes, or an empty text if the bytes are not UTF-8.
 fn text_in(bytes: &[u8]) -> &str {
     match str::from_utf8(bytes) {
         Ok(text) => text,
@@ -24,7 +24,7 @@ fn text_in(bytes: &[u8]) -> &str {
     }
 }
 
-/// Returns the document of some bytes, if they are TOML.
+/// Returns the document of some bytes, if the bytes are TOML.
 fn table_in(alloc: Global, bytes: &[u8]) -> Result<Option<Table>, AllocError> {
     if bytes.len() > MAX_MANIFEST_BYTES {
         return Ok(None);

@@ -27,7 +27,7 @@ pub struct Pages {
 }
 
 impl Pages {
-    /// Returns the manifest at a path, if it was read.
+    /// Returns the manifest at a path, if this manifest was read.
     pub fn at(&self, path: &str) -> Option<&Page> {
         self.pages.iter().find(|page| page.path.as_str() == path)
     }
@@ -101,7 +101,7 @@ fn path_of(alloc: Global, pages: &Pages, number: usize) -> Result<Option<PathTex
     }
 }
 
-/// Reads the requested manifests, one after another, and those that these manifests request.
+/// Reads the requested manifests, one after another. The manifests that these request are read too.
 fn read_all<P: Place>(alloc: Global, place: &mut P, pages: &mut Pages) -> Result<(), PlaceFault>
     ensures { LooksAgain (P.at place.old) (P.at place.new) }
 {

@@ -160,7 +160,7 @@ fn first_named(binaries: &[Value], name: &str) -> usize {
     0
 }
 
-/// Adds each binary of a list that has the name of an earlier one.
+/// Adds each binary of a list that has the name of an earlier binary.
 fn tell_same_names(
     alloc: Global,
     notes: &mut Notes,
@@ -192,7 +192,7 @@ fn binaries_of(table: &Table) -> &[Value] {
     }
 }
 
-/// Adds each `[[bin]]` that has the name of an earlier one.
+/// Adds each `[[bin]]` that has the name of an earlier `[[bin]]`.
 pub fn tell_same_binaries(
     alloc: Global,
     notes: &mut Notes,

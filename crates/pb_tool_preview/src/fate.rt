@@ -7,9 +7,9 @@ use pb_store::Difference;
 pub enum Fate {
     /// The unit's child would be started. The field is the first difference from the unit's record.
     Starts(Difference),
-    /// Nothing differs from its record, and what the record replays is good.
+    /// Nothing differs from the unit's record, and what the record replays is good.
     Kept,
-    /// Nothing differs from its record, and what the record replays is bad.
+    /// Nothing differs from the unit's record, and what the record replays is bad.
     Bad,
     /// The unit reaches the unit at this index. A build would first start the child of that unit,
     /// and could compare this unit only then.

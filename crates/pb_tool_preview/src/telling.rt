@@ -86,7 +86,7 @@ fn said_of(alloc: Global, units: &[Planned], fate: &Fate) -> Result<Option<Strin
     }
 }
 
-/// Adds the row of a unit of this fate, if there is a text about it.
+/// Adds the row of a unit of this fate, if there is a text about the unit.
 fn push_row(
     alloc: Global,
     rows: &mut Items<Row>,
@@ -213,9 +213,9 @@ fn counts_line(alloc: Global, fates: &[Fate]) -> Result<String, AllocError>
 }
 
 /// Returns what a build would do with units of these fates. Each unit that is not kept has a line,
-/// in plan order, with its key and the reason. Five or more units with the same text have one line
-/// together. Then come the numbers of units that would be started, kept, and so on. Each line ends
-/// with a line feed. The words are our own choice.
+/// in plan order, with its key and the reason. Five or more units with the same text share one
+/// line. The last line has the numbers of units that would be started, kept, and so on. Each line
+/// ends with a line feed. The words are our own choice.
 ///
 /// Errors: out of memory.
 pub fn preview_lines(alloc: Global, units: &[Planned], fates: &[Fate]) -> Result<String, AllocError>

@@ -175,8 +175,8 @@ fn units_if(explain: bool, plan: &Result<BuildPlan, BuildFault>) -> Option<usize
     }
 }
 
-/// If a build has a bad unit, writes what its child printed, as far as no message line contains
-/// this. If memory runs out for that, it writes a line that needs no memory.
+/// Writes what the child of a build's bad unit printed, except what the message lines contain. If
+/// memory runs out for that, it writes a line that needs no memory.
 fn repeat_to<E: Out>(alloc: Global, err: &mut E, answer: &Result<Summary, BuildFault>)
     ensures { TellsSaid answer.now (E.heard err.old) (E.heard err.new) }
 {
@@ -297,7 +297,7 @@ pub(crate) fn conclude<E: Out>(
 /// - After the build, a line for each unit whose child read something that was changed meanwhile.
 ///   The next build builds this unit again.
 /// - If requested, why each child was started. After a fault, this is what the place has noted.
-/// - What the child of a bad unit printed, as far as no message line contains this.
+/// - What the child of a bad unit printed, except what the message lines contain.
 /// - The sentence of the fault. If a compiler failed and its messages were not rendered, also where
 ///   these messages are.
 /// - What the place reports of a fault of the outside.

@@ -122,7 +122,7 @@ pub fn tool(rt: &HostRuntime) -> u8 {
         &mut Colored::new(Over::new(rt.stderr())),
         &mut line,
     );
-    // Only this function reads the time: nothing that is proved depends on the time.
+    // The time is used only here: nothing that is proved depends on the time.
     if let (Ok(start), Some(counted)) = (start, line.last_count()) {
         let _ = say_counts(rt, counted, start);
     }

@@ -5,7 +5,8 @@ use std::alloc::{AllocError, Global};
 /// The bytes that erase the line in which a terminal's cursor is.
 pub const ERASE: &[u8] = b"\r\x1b[K";
 
-/// The greatest number of letters of a status line, so that a terminal shows the line in one row.
+/// The greatest number of letters of a status line. A line of this length fits into one row of a
+/// terminal.
 const LONGEST: usize = 79;
 
 /// Returns a number, padded with blanks to the width of another number.

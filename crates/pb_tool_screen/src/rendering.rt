@@ -72,8 +72,8 @@ fn value_shown(alloc: Global, value: &Value) -> Result<String, AllocError>
     Ok(String::new(alloc))
 }
 
-/// Returns the text of a line that is given without its line feed. If the line is not JSON, returns
-/// an empty text.
+/// Returns the text that is shown for a line. The line has no line feed at its end. If the line is
+/// not JSON, returns an empty text.
 ///
 /// Errors: only out of memory.
 pub fn line_shown(alloc: Global, line: &str) -> Result<String, AllocError>

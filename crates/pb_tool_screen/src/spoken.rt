@@ -112,7 +112,7 @@ fn weigh<S: Out>(alloc: Global, aside: &mut S, erases: bool, path: &PathText, by
 }
 
 /// Writes the note on a file that was written in pieces, if the file is the long record of a
-/// script. Only for such a file, it takes memory for the whole file.
+/// script. It takes memory for the whole file only if the file may be such a record.
 fn weigh_pieces<S: Out>(
     alloc: Global,
     aside: &mut S,
@@ -139,7 +139,7 @@ fn note<S: Out>(aside: &mut S, erases: bool, texts: &[Text]) {
 }
 
 impl<P: Place + Reporting, S: Out> Spoken<P, S> {
-    /// Returns a place that does what this one does, and names no child yet.
+    /// Returns a place that does what this place does, and names no child yet.
     pub fn new(inside: P, aside: S) -> Spoken<P, S>
         ensures { IsUnchanged (P.at inside) (⟦<Spoken<P, S> as Place>⟧.at result) }
     {

@@ -32,7 +32,7 @@ fn push_names(text: &mut String, names: &[Text]) -> Result<(), AllocError>
     Ok(())
 }
 
-/// Adds the packages of a cycle, if the fault is one.
+/// Adds the packages of a cycle, if the fault is a cycle.
 fn push_packages(text: &mut String, fault: &BuildFault) -> Result<(), AllocError>
     ensures { OnOk result (string_bytes text.new
         ≡ string_bytes text.old ++ with_names fault.now) }

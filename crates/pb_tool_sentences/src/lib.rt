@@ -1,5 +1,5 @@
 //! The first notes on a build. One note is the sentence of the fault that ends the build, as the
-//! fault's `Display` writes it. Others name packages without a library.
+//! fault's `Display` writes it. Other notes name packages without a library.
 #![tactic(auto)]
 
 mod constant;

@@ -1,4 +1,4 @@
-//! How a command differs from the recorded one.
+//! How a command differs from the recorded command.
 
 use crate::values::values_detail;
 use crate::variables::variable_detail;

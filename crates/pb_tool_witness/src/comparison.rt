@@ -21,7 +21,7 @@ pub(crate) struct Comparison {
     pub(crate) found: Option<(Difference, Detail)>,
     /// The index of the input that was looked at last.
     pub(crate) at: usize,
-    /// How many files of this input have been read, if it is a folder that has been listed.
+    /// How many files of this input have been read, if this input is a folder that has been listed.
     pub(crate) read: Option<usize>,
     /// The key of the needed unit whose folder was listed last, if the record is of format 1.
     pub(crate) listed: Option<Text>,
@@ -120,7 +120,7 @@ fn at_path(
     }
 }
 
-/// Returns the difference of a variable, if its text is not the recorded one.
+/// Returns the difference of a variable, if the variable's text is not the recorded text.
 fn value_differs(
     alloc: Global,
     name: &str,
@@ -222,14 +222,14 @@ impl Comparison {
         Ok(())
     }
 
-    /// Notes the difference that was seen, if it is the first.
+    /// Notes the difference that was seen, if this is the first difference.
     fn note(&mut self, seen: Option<(Difference, Detail)>) {
         if self.found.is_none() {
             self.found = seen;
         }
     }
 
-    /// Notes that a file was read, or that there is none.
+    /// Notes that a file was read, or that there is no file.
     pub(crate) fn file_read(
         &mut self,
         alloc: Global,

@@ -25,8 +25,8 @@ fn first_need(
 }
 
 /// Returns the first difference of a unit whose child is started, and how it differs. For each unit
-/// that has begun, `numbers` has the number of its record. There is none for a unit whose child was
-/// started. `values` says whether the values of all variables are shown.
+/// that has begun, `numbers` has the number of its record. There is no number for a unit whose
+/// child was started. `values` says whether the values of all variables are shown.
 pub(crate) fn differs(
     alloc: Global,
     comparison: &mut Comparison,

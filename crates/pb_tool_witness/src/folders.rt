@@ -1,4 +1,4 @@
-//! How the files below a folder differ from the recorded ones.
+//! How the files below a folder differ from the recorded files.
 
 use crate::values::{words_and_name, words_only};
 use pb_data::Bytes;

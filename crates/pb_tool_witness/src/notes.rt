@@ -36,8 +36,8 @@ pub(crate) struct Notes {
     unread: usize,
     /// The unit that began last, while it is compared with its record.
     current: Option<Comparison>,
-    /// For each unit that has begun, the number of its record. There is none if the record has no
-    /// number or the unit's child was started.
+    /// For each unit that has begun, the number of its record. There is no number if the record has
+    /// no number or the unit's child was started.
     numbers: Table<Option<u64>>,
     /// The notes that people read.
     pub(crate) noted: Noted,
@@ -233,7 +233,7 @@ impl Notes {
         Ok(())
     }
 
-    /// Notes the text of a file, or that there is none.
+    /// Notes the text of a file, or that there is no file.
     fn note_text(
         &mut self,
         alloc: Global,

@@ -25,8 +25,9 @@ pub(crate) fn push_plain(out: &mut String, letters: std::str::Chars<'_>) -> Resu
     Ok(())
 }
 
-/// Returns how many letters are left out at the start of two values. If one value is long, this is
-/// the common start of both values, without the last letters of this start.
+/// Returns how many letters are left out at the start of two values. If no value is long, no letter
+/// is left out. Otherwise the letters with which both values begin are left out, except the last of
+/// these letters.
 fn count_left_out(old: &str, new: &str) -> usize {
     if old.len() <= LONGEST && new.len() <= LONGEST {
         return 0;
@@ -64,7 +65,8 @@ fn push_value(out: &mut String, value: Option<&str>, left_out: usize) -> Result<
     Ok(())
 }
 
-/// Returns the detail of a value that has changed: `was OLD, is NEW`. A value may also be unset.
+/// Returns the detail of a value that has changed: `was OLD, is NEW`. Each of the two values may be
+/// unset.
 pub(crate) fn values_detail(
     alloc: Global,
     old: Option<&str>,

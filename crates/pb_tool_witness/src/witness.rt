@@ -24,7 +24,7 @@ pub struct Witness<P> {
 }
 
 impl<P: Place + Reporting> Witness<P> {
-    /// Returns a place that does what this one does, and notes nothing yet.
+    /// Returns a place that does what this place does, and notes nothing yet.
     pub fn new(alloc: Global, inside: P) -> Witness<P>
         ensures { IsUnchanged (P.at inside) (⟦<Witness<P> as Place>⟧.at result) }
     {
