@@ -84,7 +84,7 @@ static CASES: &[Case] = &[
         "a.target.run",
         &[("b", 3), ("c", LONGEST), ("d", 20), ("e", 1)],
         "cargo::warning=rerun-if-changed\n",
-        "note: the record of a.target.run has 16777441 bytes: its script names no input, so all files of its package are inputs. The largest: /w/c (16777216 bytes), /w/d (20 bytes), /w/b (3 bytes). A script names what it reads by lines cargo::rerun-if-changed=PATH\n",
+        "note: the record of a.target.run has 16777441 bytes: its script names no input, so all files of its package are inputs. The largest: /w/c (16777216 bytes), /w/d (20 bytes), /w/b (3 bytes). A script names its inputs with lines cargo::rerun-if-changed=PATH\n",
     ),
     (
         "/w/target/debug/a.target.run.record",

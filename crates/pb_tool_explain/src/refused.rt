@@ -37,7 +37,7 @@ error: refused BadKind
 
 ```
 note: `/w/Cargo.toml` is refused: a name is missing or has letters that are not allowed
-note: in /w/Cargo.toml, line 2, key package.name: "my app" may have only ASCII letters, digits, - and _, and at least one of these
+note: in /w/Cargo.toml, line 2, key package.name: "my app" may contain only ASCII letters, digits, - and _, and must not be empty
 error: refused BadName
 ```
 

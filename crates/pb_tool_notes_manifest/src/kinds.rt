@@ -73,7 +73,7 @@ fn wrong_with(name: &str, profile: &Table) -> &'static str {
         return "no profile may have this name";
     }
     if !is_name(name) {
-        return "its name may have ASCII letters, digits, - and _";
+        return "its name may contain only ASCII letters, digits, - and _";
     }
     if profile.get("inherits").is_none() {
         return "it has no inherits";

@@ -24,7 +24,7 @@ fn tell_name(
         return Ok(());
     }
     let name = text_at(spot.table, key);
-    let text = format!(in alloc; "\"{name}\" may have only {letters}, and at least one of these")?;
+    let text = format!(in alloc; "\"{name}\" may contain only {letters}, and must not be empty")?;
     tell_key(alloc, notes, page, spot.way.as_str(), key, text.as_str())
 }
 
@@ -52,7 +52,7 @@ fn tell_entry_keys(
 ) -> Result<(), AllocError> {
     for (key, _value) in spot.table {
         if !is_name(key.as_str()) {
-            let text = format!(in alloc; "a name may have only {NAME}, and at least one of these")?;
+            let text = format!(in alloc; "a name may contain only {NAME}, and must not be empty")?;
             tell_key(
                 alloc,
                 notes,

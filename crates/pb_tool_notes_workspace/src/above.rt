@@ -31,7 +31,7 @@ fn tell_if_listed(
 ) -> Result<(), AllocError> {
     if lists(alloc, page, own)? {
         let text = format!(in alloc;
-            "it lists {}: call from the folder of that manifest, or give --manifest-path {}",
+            "it lists {}: call pb_tool in the folder of this manifest, or give --manifest-path {}",
             own.as_str(),
             page.path.as_str()
         )?;

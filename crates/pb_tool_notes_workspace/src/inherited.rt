@@ -95,7 +95,7 @@ pub fn tell_no_inherited(
     };
     if root.table_at("workspace").is_none() {
         let text = format!(in alloc;
-            "{} has no [workspace]: call from the workspace's root, or give --manifest-path",
+            "{} has no [workspace]: call pb_tool in the workspace's root, or give --manifest-path",
             root.path.as_str()
         )?;
         notes.say(alloc, text.as_str())?;

@@ -92,7 +92,7 @@ fn text_of(alloc: Global, length: usize, record: &Record) -> Result<String, Allo
         "note: the record of {key} has {length} bytes: its script names no input, so all files of its package are inputs. The largest:"
     )?;
     push_largest(alloc, &mut text, files_of(alloc, record.inputs.as_slice())?)?;
-    text.push_str(". A script names what it reads by lines cargo::rerun-if-changed=PATH\n")?;
+    text.push_str(". A script names its inputs with lines cargo::rerun-if-changed=PATH\n")?;
     Ok(text)
 }
 

@@ -41,7 +41,7 @@ members = ["v", "w*"]
 name = "a"
 @ /w/src/lib.rs
 ---
-note: in /Cargo.toml, line 2, key workspace.members: it lists /w: call from the folder of that manifest, or give --manifest-path /Cargo.toml
+note: in /Cargo.toml, line 2, key workspace.members: it lists /w: call pb_tool in the folder of this manifest, or give --manifest-path /Cargo.toml
 === [units.roots] binaries of which one is not there: --bin a --bin b
 @ /w/Cargo.toml
 [package]
@@ -65,7 +65,7 @@ a9 = 1
 b1 = 1
 ---
 note: `/w/Cargo.toml` is refused: a name is missing or has letters that are not allowed
-note: in /w/Cargo.toml, line 2, key package.name: "a b" may have only ASCII letters, digits, - and _, and at least one of these
+note: in /w/Cargo.toml, line 2, key package.name: "a b" may contain only ASCII letters, digits, - and _, and must not be empty
 note: in /w/Cargo.toml, line 3, key package.a1: it is not used
 note: in /w/Cargo.toml, line 4, key package.a2: it is not used
 note: in /w/Cargo.toml, line 5, key package.a3: it is not used

@@ -145,9 +145,9 @@ name = "m"
 version.workspace = true
 ---
 note: a package inherits a key or an entry that is not there
-note: /w/m/Cargo.toml has no [workspace]: call from the workspace's root, or give --manifest-path
+note: /w/m/Cargo.toml has no [workspace]: call pb_tool in the workspace's root, or give --manifest-path
 note: in /w/m/Cargo.toml, line 3, key package.version: /w/m/Cargo.toml has no workspace.package.version
-note: in /w/Cargo.toml, line 2, key workspace.members: it lists /w/m: call from the folder of that manifest, or give --manifest-path /w/Cargo.toml
+note: in /w/Cargo.toml, line 2, key workspace.members: it lists /w/m: call pb_tool in the folder of this manifest, or give --manifest-path /w/Cargo.toml
 error: refused NoInherited
 === [load.checks] two binaries of one name
 @ /w/Cargo.toml
