@@ -107,9 +107,9 @@ fn session_command<'a>(alloc: Global) -> Result<Command<'a>, AllocError>
 fn explain_command<'a>(alloc: Global) -> Result<Command<'a>, AllocError>
     ensures { IfOk result (λ command. app_of command ≡ explain) }
 {
-    let name = Arg::new(alloc, "NAME")
-        .required(true)
-        .help("A name at the end of a line `error: ..`, such as `BadKind`");
+    let name = Arg::new(alloc, "NAME").required(true).help(
+        "A name at the end of a line `error: ..`, such as `BadKind`",
+    );
     let command = Command::new(alloc, "explain").about(
         "Prints what the name of an error means, and what to do",
     );
