@@ -19,7 +19,7 @@ complete -c pb_tool -n '__fish_seen_subcommand_from build' -s j -l jobs -x -d 'H
 complete -c pb_tool -n '__fish_seen_subcommand_from build' -l explain -d 'Say on standard error why each child was started'
 complete -c pb_tool -n '__fish_seen_subcommand_from build' -l dry-run -d 'Say on standard error which children would be started and why, and build nothing'
 complete -c pb_tool -n '__fish_seen_subcommand_from build' -l render -d 'Show diagnostics and the warnings of build scripts on standard error, as text'
-complete -c pb_tool -n '__fish_seen_subcommand_from build' -s v -l verbose -d 'Say on standard error which children are started: each program and its arguments'
+complete -c pb_tool -n '__fish_seen_subcommand_from build' -s v -l verbose -d 'Say on standard error which children are started: each program and its arguments; with --explain, also show the values of all variables'
 complete -c pb_tool -n '__fish_seen_subcommand_from build' -l progress -d 'Show on standard error, on one line, which unit begins, even if standard error is not a terminal'
 complete -c pb_tool -n '__fish_seen_subcommand_from build' -s q -l quiet -d 'Do not show the progress line, or the number of built units at the end'
 complete -c pb_tool -n '__fish_seen_subcommand_from build' -l color -x -d 'Whether words such as `warning` have colours on standard error (default auto) [possible values: auto, always, never]'

@@ -147,7 +147,7 @@ pub(crate) static TELLING: [Described; 8] = [
         action: Some(ArgAction::SetTrue),
         value: &[],
         among: None,
-        help: "Say on standard error which children are started: each program and its arguments",
+        help: "Say on standard error which children are started: each program and its arguments; with --explain, also show the values of all variables",
     },
     Described {
         name: "progress",
