@@ -115,7 +115,7 @@ error: fault -vV CannotStart
     },
     Entry {
         name: "Capture",
-        text: r#"The output of the child process could not be taken in.
+        text: r#"The output of the child process could not be read.
 
 ```
 note: `a.target.lib` gave no answer: the output of the child process could not be read

@@ -129,7 +129,7 @@ error: refused LinksWithoutScript
     },
     Entry {
         name: "NameMismatch",
-        text: r#"A dependency leads to a package of another name.
+        text: r#"A dependency leads to a package with another name.
 
 ```
 note: a dependency leads to a package with another name
@@ -213,7 +213,7 @@ error: refused NoSuchPackage
 
 - Look at `-p`, which can only name members.
 - Without `-p` and `--workspace`, look at `default-members`.
-- For `clean`, the note names the folder in which no unit of these packages is.
+- For `clean`, the note names the folder that contains no unit of these packages.
 "#,
     },
     Entry {
@@ -285,7 +285,7 @@ error: refused NotToml
 ```
 
 - Look for a key that is written twice, an open bracket, an open quotation mark.
-- Nest no value deeper than 80.
+- Do not nest values more than 80 levels deep.
 "#,
     },
     Entry {
@@ -298,7 +298,7 @@ note: --bin ap: there is no such binary (near: app)
 error: refused NothingToBuild
 ```
 
-- Look at `--lib` and `--bin`: a name that no binary has selects nothing.
+- Look at `--lib` and `--bin`: if no binary has the name, `--bin` selects nothing.
 - Turn on the `required-features` of the binary.
 - Check whether `src/lib.rs` or `src/main.rs` exists, and whether the file is outside the target folder.
 "#,
@@ -379,7 +379,7 @@ note: in /w/Cargo.toml: 4096 of these binaries; --bin NAME and -p NAME select fe
 error: refused TooManyUnits
 ```
 
-- Select fewer with `-p`, `--lib`, `--bin`.
+- Select fewer units with `-p`, `--lib` or `--bin`.
 "#,
     },
     Entry {
@@ -424,7 +424,7 @@ error: refused UnsupportedTable
     },
     Entry {
         name: "VersionMismatch",
-        text: r#"A dependency leads to a package of another version.
+        text: r#"A dependency leads to a package whose version does not match.
 
 ```
 note: a dependency leads to a package whose version does not match

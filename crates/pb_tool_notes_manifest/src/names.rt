@@ -265,7 +265,7 @@ pub fn tell_bad_features(
                 page,
                 "features",
                 name.as_str(),
-                "its name may have ASCII letters, digits and _, after the first also -, + and .",
+                "its name may have ASCII letters, digits and _; -, + and . may not come first",
             )?;
         }
         if let Some(items) = value.as_array() {
