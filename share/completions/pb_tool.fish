@@ -30,7 +30,7 @@ complete -c pb_tool -n '__fish_seen_subcommand_from build' -l runner -x -d 'A pr
 complete -c pb_tool -n '__fish_seen_subcommand_from build' -l tool -x -d 'The value of `CARGO` for children (default: the name by which this program was called)'
 complete -c pb_tool -n '__fish_seen_subcommand_from build' -l locked -d 'No effect: there is no lock file'
 complete -c pb_tool -n '__fish_seen_subcommand_from build' -l offline -d 'No effect: nothing is downloaded'
-complete -c pb_tool -n '__fish_seen_subcommand_from build' -l frozen -d 'No effect: means `--locked` and `--offline`'
+complete -c pb_tool -n '__fish_seen_subcommand_from build' -l frozen -d 'No effect: `--locked` and `--offline` together'
 complete -c pb_tool -n '__fish_seen_subcommand_from build' -s h -l help -d 'Print help'
 complete -c pb_tool -n '__fish_seen_subcommand_from plan' -s p -l package -x -d 'Build this member of the workspace'
 complete -c pb_tool -n '__fish_seen_subcommand_from plan' -l workspace -d 'Build all members of the workspace'

@@ -244,7 +244,7 @@ pub(crate) static CHILDREN: [Described; 6] = [
         action: Some(ArgAction::SetTrue),
         value: &[],
         among: None,
-        help: "No effect: means `--locked` and `--offline`",
+        help: "No effect: `--locked` and `--offline` together",
     },
 ];
 
