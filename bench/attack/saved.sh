@@ -34,7 +34,7 @@ export RUSTC="$folder/child.sh"
 # Builds, and says which units were noted and which were started.
 build() {
     "$PROGRAM" build --jobs 2 --runner "$RUSTC --run" --explain "$@" > lines 2> said || true
-    noted="$(sed -n 's/^note: .* was changed while \(.*\) was built: it will be built again$/\1/p' said | tr '\n' ' ')"
+    noted="$(sed -n 's/^note: .* was changed while \(.*\) was built: that unit will be built again$/\1/p' said | tr '\n' ' ')"
     started="$(sed -n 's/^\(.*\): started, since .*/\1/p' said | tr '\n' ' ')"
 }
 

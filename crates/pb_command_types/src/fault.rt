@@ -19,14 +19,14 @@ pub enum UnitFault {
     #[error("the script's output is refused: {}", .0)]
     Directive(LineFault),
     /// The compiler wrote no dep-info, or its dep-info cannot be read or is over 4,194,304 bytes.
-    #[error("the compiler left no dep-info that can be read")]
+    #[error("the compiler left no readable dep-info")]
     NoDepInfo,
     /// A path at or below the target folder is named as an input. This path is in no folder of a
     /// unit that this unit reaches.
     #[error("the input `{}` is in the target folder", .0.as_str())]
     ForeignInput(PathText),
     /// A stream of the child is over 4,194,304 bytes (our own choice).
-    #[error("the child process wrote more to a stream than it may")]
+    #[error("the child process wrote too much to a stream")]
     OutputTooLong,
     /// A build script ended with status 0 and printed a line `cargo::error` (The Cargo Book, Build
     /// Scripts).

@@ -47,7 +47,7 @@ pub enum ManifestFault {
     #[error("a feature has a name or an item that is not allowed")]
     BadFeature,
     /// The manifest has more than 1,048,576 bytes. Our own choice.
-    #[error("the manifest is longer than a manifest may be")]
+    #[error("the manifest is too long")]
     TooLarge,
     /// `[package]` or `[workspace]` requests resolver 1. Our own choice.
     #[error("resolver 1 is not supported")]

@@ -203,10 +203,7 @@ static FAULTS_IN_WORDS: &[(ManifestFault, &str)] = &[
         ManifestFault::BadFeature,
         "a feature has a name or an item that is not allowed",
     ),
-    (
-        ManifestFault::TooLarge,
-        "the manifest is longer than a manifest may be",
-    ),
+    (ManifestFault::TooLarge, "the manifest is too long"),
     (ManifestFault::OldResolver, "resolver 1 is not supported"),
 ];
 

@@ -39,7 +39,7 @@ static BUILD_WORDS: &[(Ending, &str)] = &[
     ),
     (
         Ending::Load("NoInherited"),
-        "a package inherits a key or an entry that is not there",
+        "a package inherits a key or an entry that does not exist",
     ),
     (
         Ending::Manifest(ManifestFault::BadKind(Key::LicenseFile)),
@@ -61,7 +61,7 @@ static UNIT_WORDS: &[(Bad, &str)] = &[
     ),
     (
         Bad::Named("NoDepInfo"),
-        "the compiler left no dep-info that can be read",
+        "the compiler left no readable dep-info",
     ),
     (
         Bad::Named("ForeignInput"),
@@ -69,7 +69,7 @@ static UNIT_WORDS: &[(Bad, &str)] = &[
     ),
     (
         Bad::Named("OutputTooLong"),
-        "the child process wrote more to a stream than it may",
+        "the child process wrote too much to a stream",
     ),
     (Bad::Named("OutOfMemory"), "out of memory"),
     (Bad::Status(-1), "the child process ended with status -1"),

@@ -156,19 +156,19 @@ Requests words here asked = (choices : Choices) × AreChoices choices × IsTaken
 -- The texts that are reported for wrong words. They are about byte 0 in a path, two profiles, wrong
 -- jobs, two forms of a plan, and an unknown command.
 abbrev pub path_told : Text
-path_told = codes "error: a path has byte 0\n"
+path_told = codes "error: a path contains byte 0\n"
 
 abbrev pub profiles_told : Text
 profiles_told = codes "error: the argument '--release' cannot be used with '--profile <NAME>'\n"
 
 abbrev pub jobs_told : Text
-jobs_told = codes "error: the value of '--jobs <N>' is `default`, or digits alone, up to 18446744073709551615\n"
+jobs_told = codes "error: the value of '--jobs <N>' must be `default` or a number of at most 18446744073709551615\n"
 
 abbrev pub forms_told : Text
 forms_told = codes "error: the argument '--json' cannot be used with '--dot'\n"
 
 abbrev pub command_told : Text
-command_told = codes "error: neither `build`, `session`, `explain`, `plan` nor `clean`\n"
+command_told = codes "error: the command must be `build`, `plan`, `clean`, `session` or `explain`\n"
 
 -- Why a build with these values requests nothing, and the text that is reported. These are checked
 -- in order: byte 0 in the manifest's path, two profiles, jobs that are no number.

@@ -128,7 +128,7 @@ pub(crate) fn bad_path(alloc: Global, fault: PathFault) -> ArgumentsError
     if fault == PathFault::OutOfMemory {
         return ArgumentsError::OutOfMemory;
     }
-    wrong(alloc, "error: a path has byte 0\n")
+    wrong(alloc, "error: a path contains byte 0\n")
 }
 
 /// Returns the error for words that name no subcommand.
@@ -137,7 +137,7 @@ pub(crate) fn no_command(alloc: Global) -> ArgumentsError
 {
     wrong(
         alloc,
-        "error: neither `build`, `session`, `explain`, `plan` nor `clean`\n",
+        "error: the command must be `build`, `plan`, `clean`, `session` or `explain`\n",
     )
 }
 
@@ -167,6 +167,6 @@ pub(crate) fn bad_jobs(alloc: Global) -> ArgumentsError
 {
     wrong(
         alloc,
-        "error: the value of '--jobs <N>' is `default`, or digits alone, up to 18446744073709551615\n",
+        "error: the value of '--jobs <N>' must be `default` or a number of at most 18446744073709551615\n",
     )
 }

@@ -41,7 +41,7 @@ error: bad a.target.lib ForeignInput started=a.target.lib
         text: r#"The compiler left no dep-info (the list of what it read) that can be read.
 
 ```
-note: the compiler left no dep-info that can be read
+note: the compiler left no readable dep-info
 error: bad a.target.lib NoDepInfo started=a.target.lib
 ```
 
@@ -55,7 +55,7 @@ error: bad a.target.lib NoDepInfo started=a.target.lib
         text: r#"A stream of the child process is too long: more than 4,194,304 bytes.
 
 ```
-note: the child process wrote more to a stream than it may
+note: the child process wrote too much to a stream
 error: bad a.target.lib OutputTooLong started=a.target.lib
 ```
 
@@ -89,7 +89,7 @@ error: bad a.target.run Status(3) started=a.target.script,a.target.run
 
 ```
 note: the child process ended with status 1
-note: the compiler's messages, if it wrote any, are in the lines on standard output; --render shows them as text
+note: the compiler's messages, if there are any, are in the lines on standard output; --render shows them as text
 error: bad a.target.lib Status(1) started=a.target.lib
 ```
 

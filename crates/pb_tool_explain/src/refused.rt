@@ -145,7 +145,7 @@ error: refused NameMismatch
         text: r#"A package inherits a key that does not exist: its manifest says `workspace = true`, but the root has no such key or entry. A package that is not a member cannot inherit anything.
 
 ```
-note: a package inherits a key or an entry that is not there
+note: a package inherits a key or an entry that does not exist
 note: in /w/m/Cargo.toml, line 3, key package.version: /w/Cargo.toml has no workspace.package.version
 error: refused NoInherited
 ```
@@ -207,7 +207,7 @@ error: refused NoSuchPackage
 ```
 
 ```
-note: nothing that a build made of the packages is in /w/target
+note: /w/target contains nothing that a build made of the packages
 error: refused NoSuchPackage
 ```
 
@@ -227,7 +227,7 @@ error: refused NoSuchProfile
 ```
 
 ```
-note: nothing that a build made under the profile is in /w/target/release
+note: /w/target/release contains nothing that a build made under the profile
 error: refused NoSuchProfile
 ```
 
@@ -240,7 +240,7 @@ error: refused NoSuchProfile
         text: r#"`pb_tool clean` found nothing to remove: no folder directly in the target folder has a unit's record or folder.
 
 ```
-note: nothing that a build made is in /w/target
+note: /w/target contains nothing that a build made
 error: refused NoTargetFolder
 ```
 
@@ -347,7 +347,7 @@ error: refused SameName
         text: r#"The manifest is too large: more than 1,048,576 bytes.
 
 ```
-note: `/w/Cargo.toml` is refused: the manifest is longer than a manifest may be
+note: `/w/Cargo.toml` is refused: the manifest is too long
 note: in /w/Cargo.toml: it has more than 1048576 bytes
 error: refused TooLarge
 ```

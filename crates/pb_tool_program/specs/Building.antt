@@ -37,7 +37,7 @@ status_of (Err fault) = 101
 -- The line for a unit that will be built again. A path that its child read was changed while the
 -- child was at work.
 abbrev pub moved_note : List ℕ → List ℕ → List ℕ
-moved_note path key = codes "note: " ++ path ++ codes " was changed while " ++ key ++ codes " was built: it will be built again\n"
+moved_note path key = codes "note: " ++ path ++ codes " was changed while " ++ key ++ codes " was built: that unit will be built again\n"
 
 -- a line for each path that was changed; the key of its unit is the name of the unit's output folder
 abbrev pub moved_notes : List Moved → List ℕ

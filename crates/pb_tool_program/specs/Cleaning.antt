@@ -34,7 +34,7 @@ refusal_of wanted.OfPackages = codes "NoSuchPackage"
 
 -- what is written if nothing that was wanted is in a folder
 abbrev pub nothing_told : Wanted → List ℕ → List ℕ
-nothing_told some folder = codes "note: nothing that a build made" ++ of_what some ++ codes " is in " ++ folder ++ codes "\nerror: refused " ++ refusal_of some ++ codes "\n"
+nothing_told some folder = codes "note: " ++ folder ++ codes " contains nothing that a build made" ++ of_what some ++ codes "\nerror: refused " ++ refusal_of some ++ codes "\n"
 
 -- The fault of a build for a fault of a removal, so that its result line can be written. This is
 -- `error: refused NoSuchProfile`, `error: fault PATH Device` or `error: fault memory OutOfMemory`.

@@ -50,7 +50,7 @@ fn moved_note(alloc: Global, path: &str, key: &str) -> Result<String, AllocError
     let mut text = format!(in alloc; "note: {path}")?;
     text.push_str(" was changed while ")?;
     text.push_str(key)?;
-    text.push_str(" was built: it will be built again\n")?;
+    text.push_str(" was built: that unit will be built again\n")?;
     Ok(text)
 }
 

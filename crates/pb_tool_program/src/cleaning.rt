@@ -50,10 +50,10 @@ fn refusal_of(wanted: Wanted) -> &'static str
 fn nothing_told(alloc: Global, wanted: Wanted, folder: &PathText) -> Result<String, AllocError>
     ensures { IfOk result (λ text. string_bytes text ≡ nothing_told wanted folder.now) }
 {
-    let mut text = String::from_str(alloc, "note: nothing that a build made")?;
-    text.push_str(of_what(wanted))?;
-    text.push_str(" is in ")?;
+    let mut text = String::from_str(alloc, "note: ")?;
     text.push_str(folder.as_str())?;
+    text.push_str(" contains nothing that a build made")?;
+    text.push_str(of_what(wanted))?;
     text.push_str("\nerror: refused ")?;
     text.push_str(refusal_of(wanted))?;
     text.push_str("\n")?;

@@ -12,7 +12,7 @@ use Rattle.pb_store.specs.declared.difference.Difference.TheVariants.{NoRecord, 
 
 abbrev pub part : CommandPart → List ℕ
 part Program = codes "the program of its command"
-part Words = codes "a word of its command"
+part Words = codes "an argument of its command"
 part Folder = codes "the folder in which its command starts"
 part Out = codes "its output folder"
 part Target = codes "the target folder"

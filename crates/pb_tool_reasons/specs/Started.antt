@@ -38,7 +38,7 @@ is_tool _ = false
 
 abbrev pub note_if : Bool → List ℕ
 note_if false = []
-note_if true = codes "note: CARGO is how this program was called; --tool TEXT sets it\n"
+note_if true = codes "note: CARGO is the name by which this program was called; --tool TEXT sets CARGO\n"
 
 -- the note about `CARGO`, if some unit was started and every difference is in this variable
 abbrev pub tool_note : List Difference → List ℕ

@@ -124,7 +124,7 @@ fn note_if(are_tools: bool) -> &'static str
     ensures { result.now ≡ note_if are_tools }
 {
     if are_tools {
-        "note: CARGO is how this program was called; --tool TEXT sets it\n"
+        "note: CARGO is the name by which this program was called; --tool TEXT sets CARGO\n"
     } else {
         ""
     }

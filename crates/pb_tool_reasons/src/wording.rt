@@ -15,7 +15,7 @@ fn part(changed: CommandPart) -> &'static str
 {
     match changed {
         CommandPart::Program => "the program of its command",
-        CommandPart::Words => "a word of its command",
+        CommandPart::Words => "an argument of its command",
         CommandPart::Folder => "the folder in which its command starts",
         CommandPart::Out => "its output folder",
         CommandPart::Target => "the target folder",

@@ -32,7 +32,7 @@ is_by_compiler key fault = false
 
 -- the note that says where the messages of a compiler are
 abbrev pub where_messages_are : List ℕ
-where_messages_are = codes "note: the compiler's messages, if it wrote any, are in the lines on standard output; --render shows them as text\n"
+where_messages_are = codes "note: the compiler's messages, if there are any, are in the lines on standard output; --render shows them as text\n"
 
 -- What is written about a bad unit: the sentence of its fault. If its compiler failed and the lines
 -- were not shown as text, the note on the compiler's messages follows.

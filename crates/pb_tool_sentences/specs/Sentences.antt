@@ -60,9 +60,9 @@ line_sentence line.OutOfMemory = codes "out of memory"
 abbrev pub unit_sentence : UnitFault → List ℕ
 unit_sentence (unit.Status status) = codes "the child process ended with status " ++ signed_decimal status
 unit_sentence (unit.Directive fault) = codes "the script's output is refused: " ++ line_sentence fault
-unit_sentence unit.NoDepInfo = codes "the compiler left no dep-info that can be read"
+unit_sentence unit.NoDepInfo = codes "the compiler left no readable dep-info"
 unit_sentence (unit.ForeignInput path) = codes "the input `" ++ path ++ codes "` is in the target folder"
-unit_sentence unit.OutputTooLong = codes "the child process wrote more to a stream than it may"
+unit_sentence unit.OutputTooLong = codes "the child process wrote too much to a stream"
 unit_sentence unit.ScriptError = codes "the build script reported an error"
 unit_sentence unit.OutOfMemory = codes "out of memory"
 
@@ -77,7 +77,7 @@ manifest_sentence manifest.UnsupportedSource = codes "a dependency has a source 
 manifest_sentence manifest.UnsupportedCrateType = codes "the library has a crate type that is not supported"
 manifest_sentence manifest.BadProfile = codes "a profile has a name or a value that is not allowed, or has no `inherits`"
 manifest_sentence manifest.BadFeature = codes "a feature has a name or an item that is not allowed"
-manifest_sentence manifest.TooLarge = codes "the manifest is longer than a manifest may be"
+manifest_sentence manifest.TooLarge = codes "the manifest is too long"
 manifest_sentence manifest.OldResolver = codes "resolver 1 is not supported"
 manifest_sentence manifest.OutOfMemory = codes "out of memory"
 
@@ -91,7 +91,7 @@ load_sentence load.NameMismatch = codes "a dependency leads to a package with an
 load_sentence load.VersionMismatch = codes "a dependency leads to a package whose version does not match"
 load_sentence load.LinksTwice = codes "two packages link the same native library"
 load_sentence load.LinksWithoutScript = codes "a package links a native library but has no build script"
-load_sentence load.NoInherited = codes "a package inherits a key or an entry that is not there"
+load_sentence load.NoInherited = codes "a package inherits a key or an entry that does not exist"
 load_sentence load.TooMany = codes "there are more than 256 packages"
 load_sentence load.SameBinary = codes "a package has two binaries with the same name"
 load_sentence load.NoSuchPackage = codes "a requested package is not a member of the workspace"

@@ -78,7 +78,7 @@ fn bad_detail(
     let mut text = write_note(alloc, unit_sentence(alloc, fault)?.as_str())?;
     if !rendered && is_by_compiler(unit, fault) {
         text.push_str(
-            "note: the compiler's messages, if it wrote any, are in the lines on standard output; --render shows them as text\n",
+            "note: the compiler's messages, if there are any, are in the lines on standard output; --render shows them as text\n",
         )?;
     }
     Ok(text)

@@ -75,10 +75,7 @@ pub fn unit_sentence(alloc: Global, fault: &UnitFault) -> Result<String, AllocEr
             format!(in alloc; "the child process ended with status {status}")
         }
         UnitFault::Directive(fault) => directive_sentence(alloc, *fault),
-        UnitFault::NoDepInfo => String::from_str(
-            alloc,
-            "the compiler left no dep-info that can be read",
-        ),
+        UnitFault::NoDepInfo => String::from_str(alloc, "the compiler left no readable dep-info"),
         UnitFault::ForeignInput(path) => {
             between(
                 alloc,
@@ -89,7 +86,7 @@ pub fn unit_sentence(alloc: Global, fault: &UnitFault) -> Result<String, AllocEr
         }
         UnitFault::OutputTooLong => String::from_str(
             alloc,
-            "the child process wrote more to a stream than it may",
+            "the child process wrote too much to a stream",
         ),
         UnitFault::ScriptError => String::from_str(alloc, "the build script reported an error"),
         UnitFault::OutOfMemory => String::from_str(alloc, "out of memory"),
@@ -115,7 +112,7 @@ pub fn manifest_sentence(alloc: Global, fault: ManifestFault) -> Result<String, 
         ManifestFault::BadProfile =>
             "a profile has a name or a value that is not allowed, or has no `inherits`",
         ManifestFault::BadFeature => "a feature has a name or an item that is not allowed",
-        ManifestFault::TooLarge => "the manifest is longer than a manifest may be",
+        ManifestFault::TooLarge => "the manifest is too long",
         ManifestFault::OldResolver => "resolver 1 is not supported",
         ManifestFault::OutOfMemory => "out of memory",
     };
@@ -148,7 +145,7 @@ pub fn load_sentence(alloc: Global, fault: &LoadFault) -> Result<String, AllocEr
         LoadFault::LinksWithoutScript => {
             "a package links a native library but has no build script"
         }
-        LoadFault::NoInherited => "a package inherits a key or an entry that is not there",
+        LoadFault::NoInherited => "a package inherits a key or an entry that does not exist",
         LoadFault::TooMany => "there are more than 256 packages",
         LoadFault::SameBinary => "a package has two binaries with the same name",
         LoadFault::NoSuchPackage => "a requested package is not a member of the workspace",

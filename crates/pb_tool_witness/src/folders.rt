@@ -26,13 +26,17 @@ pub(crate) fn paths_differ(
         match left {
             [(name, _), after @ ..] if name.as_str() == relative => left = after,
             [(name, _), ..] if name.as_str().as_bytes() < relative.as_bytes() => {
-                return Ok(Some(words_and_name(alloc, "has a file less: ", name.as_str())?));
+                return Ok(Some(words_and_name(alloc, "no longer has the file ", name.as_str())?));
             }
-            _ => return Ok(Some(words_and_name(alloc, "has a file more: ", relative)?)),
+            _ => return Ok(Some(words_and_name(alloc, "has the new file ", relative)?)),
         }
     }
     match left {
-        [(name, _), ..] => Ok(Some(words_and_name(alloc, "has a file less: ", name.as_str())?)),
+        [(name, _), ..] => Ok(Some(words_and_name(
+            alloc,
+            "no longer has the file ",
+            name.as_str(),
+        )?)),
         [] => Ok(None),
     }
 }

@@ -35,7 +35,7 @@ pub enum LoadFault {
     LinksWithoutScript,
     /// A package inherits a key or an entry that the workspace does not have. Or a package that is
     /// not a member inherits.
-    #[error("a package inherits a key or an entry that is not there")]
+    #[error("a package inherits a key or an entry that does not exist")]
     NoInherited,
     /// There are more than 256 packages.
     #[error("there are more than 256 packages")]

@@ -130,7 +130,7 @@ version.workspace = true
 [dependencies]
 util.workspace = true
 ---
-note: a package inherits a key or an entry that is not there
+note: a package inherits a key or an entry that does not exist
 note: in /w/m/Cargo.toml, line 3, key package.version: /w/Cargo.toml has no workspace.package.version
 note: in /w/m/Cargo.toml, line 5, key dependencies.util: /w/Cargo.toml has no workspace.dependencies.util
 error: refused NoInherited
@@ -144,7 +144,7 @@ package.version = "0.1.0"
 name = "m"
 version.workspace = true
 ---
-note: a package inherits a key or an entry that is not there
+note: a package inherits a key or an entry that does not exist
 note: /w/m/Cargo.toml has no [workspace]: call pb_tool in the workspace's root, or give --manifest-path
 note: in /w/m/Cargo.toml, line 3, key package.version: /w/m/Cargo.toml has no workspace.package.version
 note: in /w/Cargo.toml, line 2, key workspace.members: it lists /w/m: call pb_tool in the folder of this manifest, or give --manifest-path /w/Cargo.toml
