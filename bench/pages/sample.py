@@ -52,7 +52,7 @@ def kinds():
     yield "definitions", comments("crates/*/specs/**/*.antt", "--")
     yield "code", comments("crates/*/src/**/*.rt", "///|//!|//")
     told = [it for path in sorted(glob.glob(f"{TOP}/crates/pb_tool*/src/**/*.rt", recursive=True)) for it in re.findall(r'"([^"\n]{25,})"', read(path))]
-    yield "printed", [it for it in told if len(it.split()) > 4 and "Rattle" not in it]
+    yield "printed", [it for it in told if len(it.split()) > 4 and "Rattle" not in it and r"\n" not in it.removesuffix(r"\n")]
 
 
 def main():

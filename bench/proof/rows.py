@@ -41,19 +41,23 @@ def below(root, found):
 
 
 def work_of(pid):
-    """The crate for which a process works, and its kind of work: `proof`, `tests` or `edits`."""
+    """The crate for which a process works, and its kind of work: `proof`, `tests` or `edits`. Mutants have folders of their own."""
     try:
         folder = os.readlink(f"/proc/{pid}/cwd")
         with open(f"/proc/{pid}/cmdline", "rb") as it:
             words = it.read().decode(errors="replace").split("\0")
     except OSError:
         return None
-    crate = re.search(r"/crates/(\w+)", folder)
-    if not crate:
+    inside = re.search(r"/crates/(\w+)", folder)
+    if "--crate-name" in words:
+        crate = words[words.index("--crate-name") + 1]
+    elif inside:
+        crate = inside[1]
+    else:
         return None
-    if "--test" in words or crate[1].startswith("pb_tests_"):
-        return crate[1], "tests"
-    return crate[1], "proof" if folder.startswith(TOP + "/") else "edits"
+    if crate.startswith("pb_tests_"):
+        return crate, "tests"
+    return crate, "proof" if inside else "edits"
 
 
 def main():

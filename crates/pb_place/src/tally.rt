@@ -108,8 +108,10 @@ impl Tally {
         self.last = Some(failure);
     }
 
-    /// Returns the call that is made next, as a value. If memory ran out for this value, counts a
-    /// call that did not fail.
+    /// Returns the call that is made next, as a value.
+    ///
+    /// Errors: `OutOfMemory`, if there was no memory for this value. Then the call is counted, but
+    /// not as a failure.
     pub fn note_call(&mut self, call: Result<Call, AllocError>) -> Result<Call, PlaceFault>
         ensures same { IfOk result (λ it. call ≡ Ok it) }
         ensures keeps { IfOk call (λ it. result ≡ Ok it) }
