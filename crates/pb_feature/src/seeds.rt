@@ -132,7 +132,7 @@ fn add_selected(
     }
 }
 
-/// Returns the numbers that are true from the start.
+/// Returns the numbers of the facts that are true from the start.
 pub(crate) fn seeds_of(
     alloc: Global,
     ground: &Ground<'_>,

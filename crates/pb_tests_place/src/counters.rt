@@ -3,6 +3,7 @@
 ghost use Rattle.std.specs.Prelude.{◌≡◌, ◌==◌, [], Some, if◌then◌else◌};
 ghost use Rattle.pb_place_types.specs.declared.call.Call.TheVariants as call;
 ghost use Rattle.pb_place_types.specs.Counts.{up, counted, counted_start};
+ghost use Rattle.pb_tests_place.specs.Counting.{counts_of};
 
 use pb_place_types::{Failure, PlaceFault, StartFault};
 
@@ -55,11 +56,11 @@ fn past_fault(failure: Failure, before: Counters) -> Counters
 
 /// The counters after a call on files or variables.
 fn after_call(answer: Result<(), PlaceFault>, before: Counters) -> Counters
-    ensures calls { result.calls ≡ (counted (call.Read []) answer record { calls = before.calls; failures = before.failures; starts = record { count = before.starts; flying = []; settings = 0 }; late = before.late; last = before.last; failing = None }).calls }
-    ensures failures { result.failures ≡ (counted (call.Read []) answer record { calls = before.calls; failures = before.failures; starts = record { count = before.starts; flying = []; settings = 0 }; late = before.late; last = before.last; failing = None }).failures }
-    ensures starts { result.starts ≡ (counted (call.Read []) answer record { calls = before.calls; failures = before.failures; starts = record { count = before.starts; flying = []; settings = 0 }; late = before.late; last = before.last; failing = None }).starts.count }
-    ensures late { result.late ≡ (counted (call.Read []) answer record { calls = before.calls; failures = before.failures; starts = record { count = before.starts; flying = []; settings = 0 }; late = before.late; last = before.last; failing = None }).late }
-    ensures last { result.last ≡ (counted (call.Read []) answer record { calls = before.calls; failures = before.failures; starts = record { count = before.starts; flying = []; settings = 0 }; late = before.late; last = before.last; failing = None }).last }
+    ensures calls { result.calls ≡ (counted (call.Read []) answer (counts_of before)).calls }
+    ensures failures { result.failures ≡ (counted (call.Read []) answer (counts_of before)).failures }
+    ensures starts { result.starts ≡ (counted (call.Read []) answer (counts_of before)).starts.count }
+    ensures late { result.late ≡ (counted (call.Read []) answer (counts_of before)).late }
+    ensures last { result.last ≡ (counted (call.Read []) answer (counts_of before)).last }
 {
     match answer {
         Ok(()) => past_call(before),
@@ -70,11 +71,11 @@ fn after_call(answer: Result<(), PlaceFault>, before: Counters) -> Counters
 
 /// The counters after a start.
 fn after_start(answer: Result<(), StartFault>, before: Counters) -> Counters
-    ensures calls { result.calls ≡ (counted_start answer record { calls = before.calls; failures = before.failures; starts = record { count = before.starts; flying = []; settings = 0 }; late = before.late; last = before.last; failing = None }).calls }
-    ensures failures { result.failures ≡ (counted_start answer record { calls = before.calls; failures = before.failures; starts = record { count = before.starts; flying = []; settings = 0 }; late = before.late; last = before.last; failing = None }).failures }
-    ensures starts { result.starts ≡ (counted_start answer record { calls = before.calls; failures = before.failures; starts = record { count = before.starts; flying = []; settings = 0 }; late = before.late; last = before.last; failing = None }).starts.count }
-    ensures late { result.late ≡ (counted_start answer record { calls = before.calls; failures = before.failures; starts = record { count = before.starts; flying = []; settings = 0 }; late = before.late; last = before.last; failing = None }).late }
-    ensures last { result.last ≡ (counted_start answer record { calls = before.calls; failures = before.failures; starts = record { count = before.starts; flying = []; settings = 0 }; late = before.late; last = before.last; failing = None }).last }
+    ensures calls { result.calls ≡ (counted_start answer (counts_of before)).calls }
+    ensures failures { result.failures ≡ (counted_start answer (counts_of before)).failures }
+    ensures starts { result.starts ≡ (counted_start answer (counts_of before)).starts.count }
+    ensures late { result.late ≡ (counted_start answer (counts_of before)).late }
+    ensures last { result.last ≡ (counted_start answer (counts_of before)).last }
 {
     let begun = Counters {
         starts: before.starts.saturating_add(1),

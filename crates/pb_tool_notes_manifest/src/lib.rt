@@ -1,4 +1,5 @@
-//! Notes on one manifest: which rules its text, its keys and their values break.
+//! Notes on one manifest. They say which rules are broken by its text, its keys or their values, and which
+//! keys are never read.
 #![tactic(auto)]
 
 mod kinds;

@@ -91,7 +91,8 @@ pub fn run(
 
 /// Whether the child of a unit that has begun is in flight, if the unit has a child.
 fn is_aloft(place: &Untold<Mini>, begun: &Begun) -> bool
-    ensures { result ≡ true → IfSome (child_of begun.now) (λ launched. is_flying launched.ticket (counts_in place.now.inside).starts.flying ≡ true) }
+    ensures { result ≡ true → IfSome (child_of begun.now) (λ launched.
+        is_flying launched.ticket (counts_in place.now.inside).starts.flying ≡ true) }
 {
     match &begun.awaited {
         Awaited::Child(launched) => place.inside.flies(launched.ticket),
