@@ -9,9 +9,9 @@ use Rattle.pb_build_turns.specs.Executor.{BuildState}
 use Rattle.pb_build.specs.Ending.{Builds}
 use Rattle.pb_build.specs.Headline.{RestsOn}
 
--- A build over true records, with an honest child, has succeeded. Then the same build starts no
--- child for a unit in the world that was left, whichever turn decides its steps. A fault may still
--- end it.
+-- Take a build that succeeded, with true records and an honest child. In the world that it left,
+-- the same build starts no child for a unit, whichever turn decides the steps. A fault may still
+-- end this second build.
 abbrev pub SameBuildStartsNone : {S T : Type 0} → (S → List ℕ → List ℕ → Step → S → Type 0) → (T → List ℕ → List ℕ → Step → T → Type 0) → Type 0
 SameBuildStartsNone {S} {T} Turns OtherTurns = (child : Answers) (options : Options) (from last : S) (again end : T) (summary other : Summary) (first second third fourth : BuildState)
     → RestsOn TrustedRecords child options first.world → Builds true child Turns options from last (Ok summary) first second → summary.success ≡ true

@@ -73,7 +73,8 @@ Readies is_modelled child options (Err fault) result old new = (result ≡ Err f
 Readies is_modelled child options (Ok plan) (Err fault) old new = IsUnready is_modelled child plan fault old new
 Readies is_modelled child options (Ok plan) (Ok prepared) old new = IsReadied is_modelled child options plan prepared old new
 
--- Either no unit began, and the turn decided nothing. Or the units were prepared, began, and then ended.
+-- Either no unit began and the turn decided nothing, or the units were prepared, began, and then
+-- ended.
 pub data WorksOn {S : Type 0} (is_modelled : Bool) (child : Answers) (Turns : S → List ℕ → List ℕ → Step → S → Type 0) (options : Options) (plan : Result BuildPlan BuildFault) (from : S) : S → Result Summary BuildFault → BuildState → BuildState → Type 0 where
   stopped : (fault : BuildFault) (old new : BuildState) (unready : Readies is_modelled child options plan (Err fault) old new) → WorksOn is_modelled child Turns options plan from from (Err fault) old new
   worked : (prepared : Prepared) (last : S) (result : Result Summary BuildFault) (old mid new : BuildState) (ready : Readies is_modelled child options plan (Ok prepared) old mid) (ends : TurnsEnd is_modelled child Turns prepared.setup prepared.project prepared.store.next from last result mid new)

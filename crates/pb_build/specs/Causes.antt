@@ -21,7 +21,8 @@ use Rattle.pb_build_result.specs.declared.fault.BuildFault.TheVariants.{Plan, To
 use Rattle.pb_place_types.specs.declared.place.StartFault.{StartFault}
 use Rattle.pb_place_types.specs.declared.place.StartFault.TheVariants as start
 
--- the faults with which the planning may end, which comes before the query of the compiler's version
+-- the faults with which the planning may end; the planning comes before the query of the compiler's
+-- version
 abbrev pub MayPlan : BuildFault → Starts → Starts → Type 0
 MayPlan (Plan why) old new = new ≡ old
 MayPlan Toolchain old new = ⊥
@@ -38,7 +39,7 @@ MayAsk (Child unit fault) old new = (unit ≡ codes "-vV") × (new ≡ up_starts
 MayAsk OutOfMemory old new = (new ≡ old) ⊎ (new ≡ up_starts old)
 MayAsk _ old new = ⊥
 
--- the faults with which the query may end, or the calls after it that open the records
+-- the faults with which the query, or the calls after it that open the records, may end
 abbrev pub MayReady : BuildFault → Starts → Starts → Type 0
 MayReady (Plan why) old new = ⊥
 MayReady Toolchain old new = new ≡ up_starts old
@@ -48,7 +49,8 @@ MayReady (Device unit device.NumbersSpent) old new = ⊥
 MayReady Sink old new = ⊥
 MayReady OutOfMemory old new = (new ≡ old) ⊎ (new ≡ up_starts old)
 
--- If the fault is that of a call on files or variables, it has the path or the name to which this call applied.
+-- If the fault is that of a call on files or variables, the fault has the path or the name to which
+-- this call applied.
 abbrev pub Names : BuildFault → Counts → Type 0
 Names (Device name fault) new = named_in new ≡ name
 Names _ new = Unit {0}
@@ -71,7 +73,7 @@ CountsAs Begins May result old new = MatchResult result (λ x. (new.failures ≡
 abbrev pub OneStart : {T : Type 0} → T → Starts → Starts → Type 0
 OneStart x old new = new ≡ up_starts old
 
--- the faults with which a step may end that starts a child of this name
+-- the faults with which a step that starts a child of this name may end
 abbrev pub MayStart : List ℕ → BuildFault → Starts → Starts → Type 0
 MayStart name (Child unit fault) old new = (unit ≡ name) × (new ≡ up_starts old)
 MayStart name OutOfMemory old new = (new ≡ old) ⊎ (new ≡ up_starts old)
@@ -81,8 +83,8 @@ MayStart name _ old new = ⊥
 abbrev pub RunsOnce : {T : Type 0} → T → Counts → Counts → Type 0
 RunsOnce x old new = new ≡ past_call (one_start old)
 
--- The one call, which spawns a child, failed, or the wait for the child's end failed. If memory ran
--- out, the call may have been made.
+-- Either the one call, which spawns a child, failed, or the wait for the child's end failed. If
+-- memory ran out, the call may have been made.
 abbrev pub SpawnEnds : BuildFault → Counts → Counts → Type 0
 SpawnEnds (Child unit fault) old new = new ≡ past_start_fault fault (one_start old)
 SpawnEnds OutOfMemory old new = (new ≡ old) ⊎ (new ≡ past_call (one_start old))
@@ -90,8 +92,8 @@ SpawnEnds e old new = ⊥
 
 -- How the work before the units changes the place.
 
--- The work only looks, so only the counters change. If a call failed, it was the last, and the
--- fault names the path or the variable of this call.
+-- The work only looks, so only the counters change. If a call failed, the fault names the path or
+-- the variable of this call, and no call came after it.
 pub record OnlyLooks {T : Type 0} (May : BuildFault → Starts → Starts → Type 0) (result : Result T BuildFault) (old new : At) : Type 0 where
   pub world : new.world ≡ old.world
   pub most : new.most ≡ old.most
@@ -144,8 +146,8 @@ ReadyStopsAt e calls old new = AskEnds e old new ⊎ StopsAt e calls (past_call 
 abbrev pub ReadiesInTurn : {T : Type 0} → Result T BuildFault → List Call → Counts → Counts → Type 0
 ReadiesInTurn result calls old new = MatchResult result (λ x. new ≡ ready_called calls old) (λ e. ReadyStopsAt e calls old new)
 
--- Where a build of this world stopped before its units began. Either the planning stopped, or,
--- after all calls of the planning, the preparation of the project.
+-- Where a build of this world stopped before its units began. Either the planning stopped, or the
+-- preparation of the project stopped after all calls of the planning.
 abbrev pub StopsBefore : Options → World → BuildFault → Counts → Counts → Type 0
 StopsBefore options w fault old new =
     PlanStopsAt fault (plan_called options w) old new

@@ -61,8 +61,8 @@ IsSilent child options w =
     (project : Project) × IsProject options (environment_of options w.variables).target w project × (toolchain_of child (environment_of options w.variables) project (from_nothing (environment_of options w.variables).target w) ≡ None)
 
 -- Why no unit began. The build may be refused. The compiler may fail to report its version, or fail
--- to answer. Memory may run out. Or a call on a path or a variable failed, either in the planning
--- or when the records were opened.
+-- to answer. Memory may run out. A call on a path or a variable may fail, either in the planning or
+-- when the records are opened.
 abbrev pub FailsBefore : Bool → Answers → Options → BuildFault → World → Counts → Counts → Type 0
 FailsBefore is_modelled child options (Plan why) w old new = (IsTrue is_modelled → IsRefused options (environment_of options w.variables).target w why) × (new.starts ≡ old.starts) × (new.failures ≡ old.failures)
 FailsBefore is_modelled child options Toolchain w old new = (IsTrue is_modelled → IsSilent child options w) × (new.starts ≡ up_starts old.starts) × (new.failures ≡ old.failures)
@@ -73,7 +73,7 @@ FailsBefore is_modelled child options Sink w old new = ⊥
 FailsBefore is_modelled child options OutOfMemory w old new = ((new.starts ≡ old.starts) ⊎ (new.starts ≡ up_starts old.starts)) × (new.failures ≡ old.failures)
 
 -- What a build's units start from: the project of this world, its setup, and the next run number.
--- This is one above the greatest number that the project's records have or name.
+-- This number is one above the greatest number that the project's records have or name.
 pub record IsPrepared (child : Answers) (options : Options) (w : World) (prepared : Prepared) : Type 0 where
   pub toolchain : List ℕ
   pub says : toolchain_of child (environment_of options w.variables) prepared.project (from_nothing (environment_of options w.variables).target w) ≡ Some toolchain
@@ -125,7 +125,7 @@ Works is_modelled child Turns options from last result old new = StopsEarly is_m
 
 -- The finish line.
 
--- Either these bytes are written and `inner` is returned. Or the sink takes only the first of these
+-- Either these bytes are written and `inner` is returned, or the sink takes only the first of these
 -- bytes and fails, and the fault `Sink` is returned.
 abbrev pub EndsWith : List ℕ → Result Summary BuildFault → Result Summary BuildFault → SinkState → SinkState → Type 0
 EndsWith bytes inner result old new =

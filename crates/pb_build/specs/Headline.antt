@@ -115,8 +115,8 @@ pub record UnitsFly (child : Answers) (Schedule : Project → List (Event BadUni
   pub starts : new.counts.starts.count ≡ upped (length (started_by es)) (up old.counts.starts.count)
   pub reasons : Reasons
 
--- All units have answered, or all up to and including the first bad unit have. Later units may have
--- been in flight, too.
+-- Either all units have answered, or all units up to and including the first bad one have. Later
+-- units may have been in flight, too.
 pub record GivesAll (premise : Premise) (child : Answers) (Schedule : Project → List (Event BadUnit) → Type 0) (options : Options) (summary : Summary) (old new : BuildState) : Type 0 where
   pub flown : UnitsFly child Schedule options old new
   pub finished : is_finished (states_in flown.units.project flown.es) ≡ true
@@ -127,14 +127,15 @@ pub record GivesAll (premise : Premise) (child : Answers) (Schedule : Project �
   -- The summary and the lines are those of a clean build, but also say for which units a child was started.
   pub answer : summary ≡ summary_of flown.units.project flown.es flown.reasons (rows_for child options old.world flown.units)
   pub lines : Appends old.heard.taken new.heard.taken (said_from flown.units.project flown.es 0 (rows_for child options old.world flown.units))
-  -- the output folder of each good unit contains exactly its files in a clean build
+  -- the output folder of each good unit contains exactly the files that the unit has in a clean
+  -- build
   pub files : (index : ℕ) (u : Planned) (made : Map) (directives : Option (List Directive)) (messages : List Message) → slice_get (rows_for child options old.world flown.units) index ≡ Some record { unit = u; outcome = Good made directives messages } → files_in u.out new.world.files ≡ made
   -- a unit that began has a child if and only if something differed from its record
   pub began : AllBeganFor (context_of premise child options old.world flown.units) flown.es flown.reasons old.world new.world
 
 -- A call for the unit with this key failed while units were missing, or no run number was left for
--- it. The unit has begun and not answered. The lines are those that are due: of the first units in
--- plan order, as far as all of them have answered.
+-- the unit. The unit has begun and not answered. The lines are those that are due: the lines of the
+-- first units in plan order, as far as all of these have answered.
 pub record UnitCallFails (project : Project) (es : List (Event BadUnit)) (rows : List Row) (key : List ℕ) (old new : Option (List ℕ)) : Type 0 where
   pub place : ℕ
   pub named : key_at project place ≡ key ∷ []
@@ -144,7 +145,7 @@ pub record UnitCallFails (project : Project) (es : List (Event BadUnit)) (rows :
 
 -- The lines that were written before this fault are those of the units that are due. If the sink
 -- failed, only the first of their bytes were written. If memory ran out, only the lines of the
--- first n of these units were.
+-- first n of these units were written.
 abbrev pub LinesBefore : BuildFault → Project → List (Event BadUnit) → List Row → Option (List ℕ) → Option (List ℕ) → Type 0
 LinesBefore (Child key fault) project es rows old new = UnitCallFails project es rows key old new
 LinesBefore (Device key fault) project es rows old new = UnitCallFails project es rows key old new
@@ -188,7 +189,7 @@ pub record GivesCleanResult (premise : Premise) (child : Answers) (Schedule : Pr
   pub closes : Closes inner result heard new.heard
   pub records : LeavesRecords premise child options old.world new.world
 
--- The headline. If the place is modelled, and whichever premise is true, a build produces what a
--- clean build of the present workspace produces.
+-- The headline. If the place is modelled, a build produces what a clean build of the present
+-- workspace produces, whichever premise is true.
 abbrev pub Headline : Bool → Answers → (Project → List (Event BadUnit) → Type 0) → Options → Result Summary BuildFault → BuildState → BuildState → Type 0
 Headline is_modelled child Schedule options result old new = IsTrue is_modelled → (premise : Premise) → RestsOn premise child options old.world → GivesCleanResult premise child Schedule options result old new

@@ -20,8 +20,9 @@ ShareNoPath folder other = (q : List ℕ) → is_at_or_below folder q ≡ true �
 
 -- The step spares the records of the folder.
 -- - An edit must change nothing in the folder, or remove the whole folder.
--- - A build must keep its records in this folder, with an honest child, or in a folder that
---   shares no path with it. A build without units spares them, too.
+-- - A build with units must have an honest child if it keeps its records in this folder. Otherwise
+--   it must keep its records in a folder that shares no path with this folder.
+-- - A build without units spares the records.
 abbrev pub Spares : Answers → List ℕ → SessionStep → World → Type 0
 Spares child folder (Write path text) w = is_at_or_below folder path ≡ false
 Spares child folder (Remove path) w = (is_at_or_below path folder ≡ true) ⊎ ShareNoPath folder path
@@ -37,15 +38,15 @@ SparingCourse child folder (step ∷ steps) before after = Spares child folder s
 abbrev pub NothingIsSound : Type 0
 NothingIsSound = (child : Answers) (folder : List ℕ) (files : Map) → ((key : List ℕ) → record_at reading folder files key ≡ None) → Sound reading judge child folder files
 
--- If the records of a folder are true, and each step of a session spares them, they are true
+-- If the records of a folder are true, and each step of a session spares them, the records are true
 -- afterwards, however the builds ended.
 abbrev pub RecordsStayTrue : Type 0
 RecordsStayTrue = (child : Answers) (folder : List ℕ) (steps : List SessionStep) (before after : Point) → SparingCourse child folder steps before after
     → Sound reading judge child folder before.moment.world.files → Sound reading judge child folder after.moment.world.files
 
--- Steps have spared a folder of true records. Then a build keeps its records in this folder, with
--- an honest child. The build produces what a clean build of the present workspace produces, or a
--- fault with the first of its lines.
+-- Take steps that have spared a folder of true records, and then a build with an honest child that
+-- keeps its records in this folder. The build produces what a clean build of the present workspace
+-- produces, or a fault with the first lines of that clean build.
 abbrev pub AnyBuildGives : Type 0
 AnyBuildGives = (child : Answers) (options : Options) (pick : PickBy) (steps : List SessionStep) (before mid after : Point)
     → SparingCourse child (records_of options mid.moment.world.variables) steps before mid → Sound reading judge child (records_of options mid.moment.world.variables) before.moment.world.files

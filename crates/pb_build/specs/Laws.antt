@@ -20,8 +20,8 @@ LooksAtSources = (child : Answers) (options : Options) (v w : World) (r : BuildR
 abbrev pub GivesFromNothing : Type 0
 GivesFromNothing = (child : Answers) (options : Options) (w : World) (r : BuildResult) → IsResult child options (from_nothing (environment_of options w.variables).target w) r → IsResult child options w r
 
--- The two results are the same. Both may be the same refusal. In both the compiler may not report
--- its version. Or both have the same units of the same plan, with the same outcomes.
+-- The two results are the same. Either both are the same refusal, or in both the compiler does not
+-- report its version, or both have the same units of the same plan, with the same outcomes.
 abbrev pub SameResults : BuildResult → BuildResult → Type 0
 SameResults (Refused why) (Refused other) = why ≡ other
 SameResults NoToolchain NoToolchain = Unit {0}
@@ -32,7 +32,7 @@ SameResults _ _ = ⊥
 abbrev pub HasOneResult : Type 0
 HasOneResult = (child : Answers) (options : Options) (w : World) (r s : BuildResult) → IsResult child options w r → IsResult child options w s → SameResults r s
 
--- the units that a build has, with their outcomes, are the result of its world
+-- the units that a build has in a world, with their outcomes, are the result of this world
 abbrev pub UnitsAreOfResult : Type 0
 UnitsAreOfResult = (child : Answers) (options : Options) (w : World) (units : UnitsOf child options w) → IsResult child options w (Finished units.project (rows_for child options w units))
 

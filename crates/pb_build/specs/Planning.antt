@@ -1,5 +1,5 @@
 -- What a build is about: the workspace that it reads, the selected packages, their features and the
--- plan. If there is no plan, it is why the build is refused.
+-- plan. If there is no plan, these definitions say why the build is refused.
 use Rattle.std.specs.Prelude.{◌≡◌, ℕ, List, Ok, Err}
 use Rattle.pb_place_types.specs.World.{World}
 use Rattle.pb_workspace.specs.Loaded.{workspace_of}

@@ -27,7 +27,7 @@ abbrev pub IsUnrefused : BuildFault → Type 0
 IsUnrefused (Plan why) = ⊥
 IsUnrefused _ = Unit {0}
 
--- the fault of a build for a workspace that cannot be read
+-- the fault with which a build ends if its workspace cannot be read
 abbrev pub unread : LoadFault → BuildFault
 unread (load.Place path fault) = Device path (device.Place fault)
 unread load.OutOfMemory = OutOfMemory
@@ -45,7 +45,7 @@ IsRefusedOf options ws (Plan why) = HasNoProject options ws why
 IsRefusedOf options ws OutOfMemory = Unit {0}
 IsRefusedOf options ws _ = ⊥
 
--- the fault of a build for a store that cannot be opened
+-- the fault with which a build ends if its store cannot be opened
 abbrev pub unopened : OpenFault → BuildFault
 unopened (open_fault.Place path fault) = device_fault path fault
 unopened open_fault.OutOfMemory = OutOfMemory

@@ -1,4 +1,5 @@
--- A session is a list of edits and builds. The end of a session has how each build ended, and with which cause.
+-- A session is a list of edits and builds. The end of a session contains how each build ended, and
+-- with which cause.
 use Rattle.std.specs.Prelude.{◌≡◌, ◌↔◌, ⊤, ℕ, true, List, [], ◌∷◌, ◌++◌, Result}
 use Rattle.pb_place_types.specs.Sinks.{SinkState}
 use Rattle.pb_place_types.specs.World.{World, Answers, FilesHavePaths, written, removed}
@@ -106,7 +107,7 @@ edit (Set name value) w = set name value w
 edit (Unset name) w = unset name w
 edit _ w = w
 
--- the present workspace: the world after those of these steps that are edits
+-- the present workspace: the world after the edits among these steps
 abbrev pub edited : List SessionStep → World → World
 edited [] w = w
 edited (step ∷ steps) w = edited steps (edit step w)
@@ -121,8 +122,8 @@ abbrev pub OneTarget : List ℕ → List SessionStep → World → Type 0
 OneTarget target [] w = ⊤
 OneTarget target (step ∷ steps) w = UsesTarget target step w × OneTarget target steps (edit step w)
 
--- Builds came before that used the same target folder, and ended in any way. Then the result of a
--- build is the same as after the edits alone.
+-- Take a build that comes after builds with the same target folder, however these ended. Its result
+-- is the same as after the edits alone.
 abbrev pub Unaffected : Type 0
 Unaffected = (child : Answers) (options : Options) (steps : List SessionStep) (before after : Point) (r : BuildResult)
     → OneTarget (environment_of options (edited steps before.moment.world).variables).target steps before.moment.world → Course child steps before after

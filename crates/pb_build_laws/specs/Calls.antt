@@ -8,7 +8,8 @@ use Rattle.pb_place_types.specs.declared.call.Call.TheVariants as call
 use Rattle.pb_place_types.specs.declared.place.PlaceFault.{PlaceFault}
 use Rattle.pb_place_types.specs.declared.place.PlaceFault.TheVariants as place
 
--- the call with the fault that it has if it fails, and with its argument, which is a path, a folder or a name
+-- a call, the fault that the call has if it fails, and the call's argument, which is a path, a
+-- folder or a name
 pub data IsCall : Call → PlaceFault → List ℕ → Type 0 where
   read : (path : List ℕ) → IsCall (call.Read path) place.Read path
   is_file : (path : List ℕ) → IsCall (call.IsFile path) place.Read path
@@ -20,7 +21,7 @@ pub data IsCall : Call → PlaceFault → List ℕ → Type 0 where
   remove : (path : List ℕ) → IsCall (call.Remove path) place.Remove path
   variable : (name : List ℕ) → IsCall (call.Variable name) place.Variable name
 
--- Each call has the fault and the argument that `IsCall` says. The counters have the argument of
+-- The fault and the argument of each call are as `IsCall` says. The counters have the argument of
 -- the last failed call.
 abbrev pub CallsAreTold : Type 0
 CallsAreTold = ((c : Call) → IsCall c (own_fault c) (name_given c)) × ((counts : Counts) → named_in counts ≡ option_map_or name_given counts.failing [])

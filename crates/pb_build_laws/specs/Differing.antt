@@ -21,9 +21,9 @@ use Rattle.pb_store.specs.declared.difference.Difference.TheVariants.{NoRecord, 
 abbrev pub IsFirstOf : {A B : Type 0} → (A → Type 0) → (A → B) → List A → B → Type 0
 IsFirstOf {A} Holds told row b = (n : ℕ) × (here : A) × (slice_get row n ≡ Some here) × (Holds here → ⊥) × AllByRecursion Holds (take n row) × (b ≡ told here)
 
--- What differs. No record counts, or something differs, or nothing does. The first difference
--- counts, in this order: a part of the command, a variable, an input, a needed unit by its number
--- or files.
+-- What differs. Either no record counts, or something differs, or nothing differs. Of several
+-- differences the first counts, in this order: a part of the command, a variable, an input, a
+-- needed unit by its number or files.
 pub data Differs (folder : List ℕ) (at : RecordMap) (c : commands.Command) (w : World) : Option Record → Option Difference → Type 0 where
   no_record : Differs folder at c w None (Some NoRecord)
   part : (r : Record) (p : CommandPart) (first : IsFirstOf (SamePart r.asked c) (λ p. p) parts p) → Differs folder at c w (Some r) (Some (Command p))
@@ -35,8 +35,8 @@ pub data Differs (folder : List ℕ) (at : RecordMap) (c : commands.Command) (w 
       (key : List ℕ) (first : IsFirstOf (HasFiles folder w.files) (λ copy. copy.0) copies key) → Differs folder at c w (Some r) (Some (Dependency key))
   nothing : (r : Record) (is : IsAsRecorded folder at c w r) → Differs folder at c w (Some r) None
 
--- The first difference of a unit is the one that `Differs` says. The record that counts for the
--- unit, and the records of the units that it needs, determine this difference.
+-- The first difference of a unit is as `Differs` says. The record that counts for the unit, and the
+-- records of the units that it needs, determine this difference.
 abbrev pub DifferencesAreThese : Type 0
 DifferencesAreThese = (folder key : List ℕ) (c : commands.Command) (w : World) (found : Option Difference)
     → FirstDifference folder key c w found ↔ Differs folder (records folder w) c w (records folder w key) found

@@ -45,7 +45,7 @@ abbrev pub ToolchainsAreSaid : Type 0
 ToolchainsAreSaid = (child : Answers) (environment : Environment) (project : Project) (sources : World) (toolchain : List ℕ)
     → (toolchain_of child environment project sources ≡ Some toolchain) ↔ IsToolchain (child (query_of environment.rustc project.workspace.root project.workspace.target) sources) toolchain
 
--- the host that a line names, which is what follows `host: `
+-- the host that a line names: the text after `host: `
 abbrev pub host_in : List ℕ → Option (List ℕ)
 host_in line = if is_utf8 line && is_host line then Some (drop 6 line) else None
 

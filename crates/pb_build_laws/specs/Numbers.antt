@@ -12,7 +12,7 @@ use Rattle.pb_store_soundness.specs.Records.{reading, ends_as_record, is_key, nu
 use Rattle.pb_store_soundness.specs.Reuse.{number_if}
 use Rattle.pb_store.specs.Folder.{lacks_number, next_in}
 
--- the numbers that a record has and names; its own number is the first
+-- a record's own number, followed by the numbers that the record names
 abbrev pub numbers_in : Needed → List ℕ
 numbers_in (Copies copies) = []
 numbers_in (Numbers number needs) = number ∷ map (λ (need : List ℕ × ℕ). need.1) needs
@@ -23,7 +23,7 @@ abbrev pub RecordsAreNumbered : Type 0
 RecordsAreNumbered = ((r : Record) → number_of r ≡ slice_get (numbers_in r.needed) 0)
     × ((o : Option Record) → (number_if o ≡ option_and_then number_of o) × (lacks_number o ≡ option_map_or (λ r. is_none (number_of r)) o false))
 
--- the numbers that the record at a path has and names, whatever its key is
+-- the numbers that the record at a path has and names, whatever the record's key is
 abbrev pub numbers_at : Map → List ℕ → List ℕ
 numbers_at files path = if ends_as_record path then option_map_or (λ (r : Record). numbers_in r.needed) (option_and_then reading (finite.get files path)) [] else []
 

@@ -1,5 +1,5 @@
--- The outcome of each unit of a build, from the units before it, the child and the sources. Also,
--- which inputs a reply has.
+-- The outcome of each unit of a build, determined by the units before it, the child and the
+-- sources. Also, which inputs a reply has.
 use Rattle.std.specs.Prelude.{◌≡◌, ◌↔◌, ℕ, Bool, true, false, if◌then◌else◌, IsOkAnd, List, length, Option, Some, Result, Ok, Err, option_and_then, slice_get, take}
 use Rattle.std.specs.FinMap as finite
 use Rattle.std.specs.List.{list_all}
@@ -43,20 +43,21 @@ abbrev pub has_given : Option Outcome → Bool
 has_given (Some (Good files directives messages)) = true
 has_given _ = false
 
--- The outcome of a unit, given these outcomes. There is none yet if a unit that it needs is not
--- good. If all are good, the outcome is that of the reply which the child gives to the unit's
--- command in the unit's view.
+-- The outcome of a unit, given these outcomes. If this unit needs a unit that is not good, there is
+-- no outcome yet. If all needed units are good, the outcome is that of the child's reply to the
+-- unit's command in the unit's view.
 abbrev pub outcome_after : Answers → Setup → Project → World → List Outcome → Planned → Outcome
 outcome_after child setup project sources done u =
     if list_all (λ index. has_given (slice_get done index)) u.needs then given_to project u (command_after setup project done u) (child (command_after setup project done u) (view_of done sources u)) else Waiting
 
--- A list is that of a build's outcomes if and only if each planned unit has its outcome in the
--- list, made from earlier outcomes.
+-- A list contains a build's outcomes if and only if each planned unit has its outcome in the list,
+-- and this outcome is made from earlier outcomes.
 abbrev pub OutcomesAreThese : Type 0
 OutcomesAreThese = (child : Answers) (setup : Setup) (project : Project) (sources : World) (os : List Outcome) → (os ≡ outcomes child setup project sources)
     ↔ ((length os ≡ length project.plan.planned) × ((index : ℕ) (u : Planned) → slice_get project.plan.planned index ≡ Some u → slice_get os index ≡ Some (outcome_after child setup project sources (take index os) u)))
 
--- A reply to the command of a planned unit has these inputs if and only if a good answer in the reply has them.
+-- A reply to the command of a planned unit has these inputs if and only if the reply contains a
+-- good answer with these inputs.
 abbrev pub InputsAreJudged : Type 0
 InputsAreJudged = (setup : Setup) (project : Project) (u : Planned) (done : List (Option (List Directive))) (selection : Selection) (index : ℕ) (r : Reply) (names : List InputName)
     → IsSettled project.workspace → IsPlan project.workspace project.features selection project.profile project.plan → slice_get project.plan.planned index ≡ Some u

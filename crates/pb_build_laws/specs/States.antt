@@ -27,7 +27,7 @@ StatesAreThese = (is_good_at {F = BadUnit} None ≡ false)
     × ((s : State BadUnit) → ((is_untouched s ≡ true) ↔ (s ≡ Untouched)) × ((is_bad s ≡ true) ↔ HasAnswered s true) × ((is_good_at (Some s) ≡ true) ↔ HasAnswered s false))
 
 -- The units whose lines are due are those before the first unit, in plan order, that is not good.
--- If this unit is bad, it is one of them. The build is finished if this unit is bad, or if all
+-- If this unit is bad, its lines are due, too. The build is finished if this unit is bad, or if all
 -- units are good.
 abbrev pub EndsAreThese : Type 0
 EndsAreThese = (states : List (State BadUnit)) → let first = prefix_len (λ s. is_good_at (Some s)) states in

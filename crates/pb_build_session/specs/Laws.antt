@@ -9,7 +9,8 @@ use Rattle.pb_build_session.specs.declared.pick.PickBy.TheVariants.{First}
 use Rattle.pb_build_session.specs.declared.step.SessionStep.{SessionStep}
 use Rattle.pb_build_session.specs.declared.step.SessionStep.TheVariants.{Build}
 
--- the steps of the first, followed by those of the second, or the reason why one of the two is bad
+-- the steps of the first list, followed by those of the second, or the reason why one of the two
+-- lists is bad
 abbrev pub both : Read (List SessionStep) → Read (List SessionStep) → Read (List SessionStep)
 both first second = first >>= (λ a. second >>= (λ b. Ok (a ++ b)))
 
@@ -18,8 +19,8 @@ abbrev pub StepsJoin : Type 0
 StepsJoin = (ds es : List Data) → steps_of (items_of (ds ++ es)) ≡ both (steps_of (items_of ds)) (steps_of (items_of es))
 
 -- A build without options has the manifest `/w/Cargo.toml` and the profile `dev`. Such a build
--- selects and narrows nothing. At most one unit is in flight, and the first unit that may begin
--- begins.
+-- selects and narrows nothing. At most one unit is in flight. Of the units that may begin, the
+-- first in plan order begins.
 abbrev pub OptionsHaveDefaults : Type 0
 OptionsHaveDefaults = build_of (object no_members) ≡ Ok (Build (record {
   manifest = codes "/w/Cargo.toml";

@@ -35,8 +35,8 @@ texts_of d = array_of d >>= texts_in
 abbrev pub truth_of : Data → Read Bool
 truth_of d = some_or BadForm (as_bool d)
 
--- The value of a key, if it is there, or else a default. The default is no texts, false, a given
--- text or number, or the manifest `/w/Cargo.toml`.
+-- The value of a key, if the key is there, or else a default. The default is no texts, false, a
+-- given text or number, or the manifest `/w/Cargo.toml`.
 abbrev pub texts_or_none : Option Data → Read (List (List ℕ))
 texts_or_none None = Ok []
 texts_or_none (Some d) = texts_of d

@@ -1,4 +1,4 @@
--- Which of the units that may begin does begin. The names of the choices are our own.
+-- Which unit begins, among those that may begin. The names of the choices are our own.
 use Rattle.std.specs.Prelude.{ℕ, if◌then◌else◌, codes, List, Ok, Err}
 use Rattle.std.specs.Str.{bytes_eq}
 use Rattle.pb_build_session.specs.Faults.{Read}

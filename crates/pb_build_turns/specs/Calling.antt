@@ -43,8 +43,8 @@ use Rattle.pb_build_turns.specs.declared.executor.RunningUnit.{RunningUnit}
 use Rattle.pb_unit.specs.declared.plan.Planned.{Planned}
 use Rattle.pb_message_units.specs.Telling.{unit_lines}
 
--- What came of a unit that had no child. The unit's answer is what this record replays to its own
--- command, with these files.
+-- What came of a unit that had no child. The unit's answer is what this record replays to the
+-- record's own command, with these files.
 abbrev pub ran_again : Project → Planned → Record → Map → Ran
 ran_again project u r files = unstarted (ran_of project u (asked_command r.asked) (replayed r).ended files)
 
@@ -75,8 +75,8 @@ pub record WaitsAgain (setup : Setup) (project : Project) (done : List (Option (
   pub gives : again ≡ replayed kept
   pub stays : (q : List ℕ) → is_of (records_folder project) u.key q ≡ true → finite.get now.files q ≡ finite.get first.files q
 
--- A unit without a child will answer by replay, as `WaitsAgain` says. Of a unit with a child,
--- nothing is required.
+-- A unit without a child will answer by replay, as `WaitsAgain` says. Nothing is required of a unit
+-- with a child.
 abbrev pub CarriesAgain : Setup → Project → List (Option (List Directive)) → World → World → Planned → Command → Awaited → Type 0
 CarriesAgain setup project done first now u c (awaited.Child launched) = Unit {0}
 CarriesAgain setup project done first now u c (awaited.Record again) = WaitsAgain setup project done first now u c again
@@ -104,8 +104,8 @@ pub record AnswersAnew (child : Answers) (setup : Setup) (project : Project) (do
 
 -- Units in flight that will answer with their child's reply.
 
--- The child of a unit is in flight and sees what it saw when it was spawned. Of a unit without a
--- child, nothing is required.
+-- The child of a unit is in flight and sees what it saw when it was spawned. Nothing is required of
+-- a unit without a child.
 abbrev pub CarriesAnew : Answers → Setup → Project → List (Option (List Directive)) → World → List ChildInFlight → (ℕ → Type 0) → Planned → Command → Awaited → Type 0
 CarriesAnew child setup project done now flying still u c (awaited.Child launched) = (c ≡ command_of setup project u done) × IsInFlight child c (seen_by c now) launched.ticket flying still
 CarriesAnew child setup project done now flying still u c (awaited.Record again) = Unit {0}
@@ -151,8 +151,8 @@ pub record BeginsCalling (b : CallBasis) (index : ℕ) (spawned : Bool) (before 
   pub only : ChangesOnly (is_of (records_folder b.project) unit.key) before after
   pub calls : CallsToBegin b.child b.project unit (b.command index unit) spawned before old after new
 
--- The unit at this index could not begin. Either the unit stopped at a call of its comparison. Or
--- something differed, and the unit stopped at a call of the launch.
+-- The unit at this index could not begin. Either the unit stopped at a call of its comparison, or
+-- something differed and the unit stopped at a call of the launch.
 pub record StopsBeginning (b : CallBasis) (index : ℕ) (fault : BuildFault) (w : World) (old : Counts) (after : World) (new : Counts) : Type 0 where
   pub unit : Planned
   pub there : unit_at b.project index ≡ Some unit

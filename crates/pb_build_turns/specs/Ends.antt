@@ -94,9 +94,9 @@ pub record OutcomeHolds (b : BuildContext) (es : List (Event BadUnit)) (new : Wo
   pub lines : due (states_in b.project es) ≡ said_from b.project es 0 (take (count_due (states_in b.project es)) (rows_in b))
   pub first_lines : (n : ℕ) → due_first n (states_in b.project es) ≡ said_from b.project es 0 (take n (take (count_due (states_in b.project es)) (rows_in b)))
 
--- All units have answered, or all up to and including the first bad one have. The lines of all rows
--- are due, and the summary is that of the rows. Each unit that began did so for its first
--- difference. `next` is the next run number.
+-- Either all units have answered, or all units up to and including the first bad one have. The
+-- lines of all rows are due, and the summary is that of the rows. Each unit that began did so for
+-- its first difference. `next` is the next run number.
 pub record StandsWhole (b : BuildContext) (es : List (Event BadUnit)) (reasons : Reasons) (summary : Summary) (next : Option ℕ) (old new : World) : Type 0 where
   pub stands : OutcomeHolds b es new
   pub next_is : stands.next ≡ next

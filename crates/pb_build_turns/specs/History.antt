@@ -74,8 +74,8 @@ pub record CountersSoFar (project : Project) (first now : BuildState) (started :
 abbrev pub NoneWritesTo : List ℕ → List ChildInFlight → Type 0
 NoneWritesTo out flying = (ticket : ℕ) (its : ChildInFlight) → child_at ticket flying ≡ Some its → its.command.out ≢ Some out
 
--- A call for the unit with this key failed, or no run number was left for it. The unit has begun
--- and not answered, and has no child in flight. All lines that were due have been written.
+-- A call for the unit with this key failed, or no run number was left for the unit. The unit has
+-- begun and not answered, and has no child in flight. All lines that were due have been written.
 pub record StopsAt (is_modelled : Bool) (project : Project) (first now : BuildState) (key : List ℕ) (es : List (Event BadUnit)) : Type 0 where
   pub place : ℕ
   pub unit : Planned
@@ -100,8 +100,8 @@ pub record StopsAtSink (project : Project) (first now : BuildState) (es : List (
   pub lines : Appends first.heard.taken now.heard.taken (take taken (due (states_in project es)))
   pub faults : now.heard.faults ≡ up first.heard.faults
 
--- How a fault ends the build. The fault came at a unit, or at the sink after an answer
--- (`StopsAtSink`). Or memory ran out after the lines of the first few units were written.
+-- How a fault ends the build. Either the fault came at a unit, or it came at the sink after an
+-- answer (`StopsAtSink`), or memory ran out after the lines of the first few units were written.
 abbrev pub StopsBy : Bool → BuildFault → Project → BuildState → BuildState → List (Event BadUnit) → Type 0
 StopsBy is_modelled (Plan why) project first now es = ⊥
 StopsBy is_modelled Toolchain project first now es = ⊥
@@ -143,14 +143,14 @@ abbrev pub Spends : (ℕ → Bool → Type 0) → BuildFault → Option ℕ → 
 Spends Lacks (Device key NumbersSpent) first es = NumbersGiven Lacks es first None
 Spends Lacks fault first es = Unit {0}
 
--- over a place that is not modelled, it is not known if the record of a unit lacked a number
+-- over a place that is not modelled, it is not known whether the record of a unit lacked a number
 abbrev pub IsUntold : ℕ → Bool → Type 0
 IsUntold unit lacks = ⊥
 
 -- What is true over a modelled place.
 
 -- The unit at this index has its outcome of a clean build: its fault, its lines and its noted
--- directives. The unit's lines say if a child was started for it.
+-- directives. The unit's lines say whether a child was started for the unit.
 pub record HasGiven (b : BuildContext) (es : List (Event BadUnit)) (done : List (Option (List Directive))) (index : ℕ) (answer : Answer BadUnit) : Type 0 where
   pub unit : Planned
   pub there : unit_at b.project index ≡ Some unit
@@ -171,7 +171,7 @@ pub record OnlyOf (project : Project) (es : List (Event BadUnit)) (old new : Wor
   pub variables : new.variables ≡ old.variables
   pub files : (q : List ℕ) → ((index : ℕ) (u : Planned) → HasBegun (states_in project es) index → unit_at project index ≡ Some u → is_of (records_folder project) u.key q ≡ false) → finite.get new.files q ≡ finite.get old.files q
 
--- says of the unit at this index whether its record lacks a number
+-- `lacks` says whether the record of the unit at this index lacks a number
 abbrev pub LacksNumber : Project → World → ℕ → Bool → Type 0
 LacksNumber project w index lacks = (u : Planned) → unit_at project index ≡ Some u → lacks_number (records (records_folder project) w u.key) ≡ lacks
 
@@ -214,7 +214,7 @@ pub record BeganFor (project : Project) (sources : World) (command : ℕ → Pla
   pub kept_stays : difference ≡ None → lacks_number (records (records_folder project) first unit.key) ≡ false → (q : List ℕ) → is_of (records_folder project) unit.key q ≡ true → finite.get now.files q ≡ finite.get first.files q
   pub unstarted : started_by (events_before es index) ≡ [] → ((p : ℕ) → LacksNumber project first p false) → world ≡ first
 
--- each unit that has begun did so for its first difference, as `BeganFor` says
+-- each unit that has begun began for its first difference, as `BeganFor` says
 abbrev pub AllBegan : Project → World → (ℕ → Planned → Command) → List (Event BadUnit) → Reasons → World → World → Type 0
 AllBegan project sources command es reasons first now = (index : ℕ) → HasBegun (states_in project es) index → BeganFor project sources command es reasons first now index
 
@@ -254,15 +254,15 @@ pub record FliesIn (project : Project) (es : List (Event BadUnit)) (world : Worl
   pub gone : (u : Planned) → unit_at project a.unit ≡ Some u → IsSome (child_of a.begun) → HasNoRecord project u world
   pub writes : (u : Planned) → unit_at project a.unit ≡ Some u → WritesTo u.out (child_of a.begun) flying
 
--- By these events, the unit in flight has begun, with or without a child, and has not answered. The
--- unit whose answer was taken is another.
+-- According to these events, the unit in flight has begun, with or without a child, and has not
+-- answered. It is not the unit whose answer was taken.
 pub record FliesBeside (project : Project) (es : List (Event BadUnit)) (asked : Option ℕ) (a : RunningUnit) : Type 0 where
   pub state : slice_get (states_in project es) a.unit ≡ Some Begun
   pub started : is_started es a.unit ≡ is_some (child_of a.begun)
   pub other : asked ≢ Some a.unit
 
 -- Only the output folders of units that have begun with a child and not answered were changed. The
--- folder of the unit whose answer was taken was not.
+-- folder of the unit whose answer was taken was not changed.
 pub record ChangesInFlight (project : Project) (es : List (Event BadUnit)) (asked : Option ℕ) (old new : World) : Type 0 where
   pub variables : new.variables ≡ old.variables
   pub files : (q : List ℕ) → ((index : ℕ) (u : Planned) → slice_get (states_in project es) index ≡ Some Begun → asked ≢ Some index → is_started es index ≡ true → unit_at project index ≡ Some u → is_at_or_below u.out q ≡ false) → finite.get new.files q ≡ finite.get old.files q
@@ -309,7 +309,8 @@ record_anew child setup project done now u number = record_of project u (command
 
 -- The record of a unit that has answered. A good unit with a child has the record of the child's
 -- reply, with the number that was next when it began. A good unit without a child has its first
--- record, with a number if that had none. A bad unit without a child has what was there at first.
+-- record; if this had no number, it now has one. A bad unit without a child has the same record as
+-- at first.
 pub record LeavesRecord (child : Answers) (setup : Setup) (project : Project) (done : List (Option (List Directive))) (started : Bool) (before until : List (Event BadUnit)) (next : Option ℕ) (first now : World) (index : ℕ) (answer : Answer BadUnit) : Type 0 where
   pub unit : Planned
   pub there : unit_at project index ≡ Some unit
@@ -356,8 +357,8 @@ IsQuiet project es first now = started_by es ≡ [] → ((index : ℕ) → Lacks
 abbrev pub NotesUnbegun : Project → List (Event BadUnit) → Reasons → Reasons → Type 0
 NotesUnbegun project es first now = (index : ℕ) → slice_get (states_in project es) index ≡ Some Untouched → slice_get now index ≡ slice_get first index
 
--- For each unit that has begun, its first difference is noted, or that nothing differed. A
--- difference is noted if and only if a child was started for the unit.
+-- For each unit that has begun, there is a note of its first difference, or a note that nothing
+-- differed. A difference is noted if and only if a child was started for the unit.
 abbrev pub NotesStarted : Project → List (Event BadUnit) → Reasons → Type 0
 NotesStarted project es now = (index : ℕ) (s : State BadUnit) → slice_get (states_in project es) index ≡ Some s → s ≢ Untouched
     → (d : Option Difference) × (slice_get now index ≡ Some (Some d)) × (is_some d ≡ is_started es index)
@@ -399,8 +400,9 @@ pub record History (is_modelled : Bool) (child : Answers) (first : UnitExecutor)
 abbrev pub IsBeginning : Project → List ℕ → Bool → List (Event BadUnit) → List (Event BadUnit) → Type 0
 IsBeginning project key spawned before es = (unit : ℕ) × (key_at project unit ≡ key ∷ []) × (es ≡ Began unit spawned ∷ before)
 
--- A fault came after these events. If a unit could not begin, `before` are the events before it
--- began, and it has no child in flight.
+-- A fault came after the events `es`. If a unit could not begin, the newest of these events is its
+-- failed beginning, and `before` lists the events before that one. Otherwise the two lists are
+-- equal.
 abbrev pub CameAfter : Project → BuildFault → List (Event BadUnit) → List (Event BadUnit) → Type 0
 CameAfter project (Child key CannotStart) before es = IsBeginning project key true before es
 CameAfter project (Device key fault) before es = (es ≡ before) ⊎ IsBeginning project key false before es
@@ -418,7 +420,7 @@ NamesUnit project (Device key fault) (Some unit) before es = (key_at project uni
 NamesUnit project fault asked before es = Unit {0}
 
 -- What has happened up to a fault. If an answer was taken, it is that of the unit `asked`. The
--- units in flight are those by the events before the fault, without this unit.
+-- units in flight are those that follow from the events before the fault, except this unit.
 pub record StoryEnds (is_modelled : Bool) (child : Answers) (fault : BuildFault) (asked : Option ℕ) (first : UnitExecutor) (at : BuildState) (c : UnitExecutor) (now : BuildState) (still : ℕ → Type 0) (es : List (Event BadUnit)) : Type 0 where
   pub setup : c.setup ≡ first.setup
   pub project : c.project ≡ first.project

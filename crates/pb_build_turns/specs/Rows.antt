@@ -56,8 +56,8 @@ is_started [] place = false
 is_started (Began unit spawned ∷ es) place = if unit == place then spawned else is_started es place
 is_started (Gave unit answer ∷ es) place = is_started es place
 
--- The lines of these units, the first of which has the index `i`. Each line says if a child was
--- started for its unit.
+-- The lines of these units, the first of which has the index `i`. Each line says whether a child
+-- was started for its unit.
 abbrev pub said_from : Project → List (Event BadUnit) → ℕ → List Row → List ℕ
 said_from project es i [] = []
 said_from project es i (row ∷ rows) = unit_lines project row.unit (is_started es i) (messages_in row.outcome) ++ said_from project es (suc i) rows
@@ -66,7 +66,7 @@ abbrev pub keyed : List ℕ → Option (List Directive) → List (List ℕ × Li
 keyed key None = []
 keyed key (Some directives) = (key, directives) ∷ []
 
--- the keys and the directives of those of these units that are runs
+-- the keys and the directives of the runs among these units
 abbrev pub directives_told : List Row → List (List ℕ × List Directive)
 directives_told [] = []
 directives_told (row ∷ rows) = keyed row.unit.key (directives_in row.outcome) ++ directives_told rows
@@ -98,8 +98,8 @@ abbrev pub said_told : Option (List ℕ × BadUnit) → List ℕ
 said_told None = []
 said_told (Some bad) = bad.1.said
 
--- A note for each unit of its first difference. A unit that has not begun has no note. The note of
--- any other unit is a difference, or that nothing differed.
+-- For each unit, a note of its first difference. A unit that has not begun has no note. The note of
+-- any other unit has a difference, or says that nothing differed.
 abbrev pub Reasons : Type 0
 Reasons = List (Option (Option Difference))
 
@@ -157,7 +157,7 @@ abbrev pub bad_told : List Planned → List (State BadUnit) → Option ℕ → O
 bad_told units states None = None
 bad_told units states (Some index) = bad_with (slice_get units index) (slice_get states index)
 
--- the keys of those of these units for which directives are noted, with the directives
+-- the keys and the directives of those among these units for which directives are noted
 abbrev pub noted_of : List Planned → List (Option (List Directive)) → List (List ℕ × List Directive)
 noted_of [] noted = []
 noted_of (u ∷ us) [] = []

@@ -87,7 +87,8 @@ abbrev pub command_by : What → Setup → Project → Planned → List (Option 
 command_by Run setup project unit done p = run_of setup project unit done p
 command_by _ setup project unit done p = compile_of setup project unit done p
 
--- A command that stands for that of a unit whose package does not exist. No plan has such a unit.
+-- What replaces the command of a unit if the unit's package does not exist. No plan has such a
+-- unit.
 abbrev pub nothing_of : Setup → Project → Command
 nothing_of setup project = record {
   program = setup.rustc;

@@ -1,5 +1,5 @@
--- Which replies to a command are good. Only the command decides this. So the answer of a unit that
--- no plan has any more is judged as it was when a plan had the unit.
+-- Which replies to a command are good. Only the command decides this. So, if a unit is no longer in
+-- any plan, its answer is judged as it was when a plan had the unit.
 use Rattle.std.specs.Prelude.{◌≡◌, ℕ, Bool, if◌then◌else◌, codes, List, [], ◌∷◌, ◌++◌, Option, Some, None, Result, Ok, Err, slice_get}
 use Rattle.std.specs.FinMap as finite
 use Rattle.std.specs.Str.{bytes_eq}
@@ -50,7 +50,8 @@ crate_in (option ∷ name ∷ words) = name
 abbrev pub dep_info_in : Command → List ℕ → Map → Option (List ℕ)
 dep_info_in c out files = file_at (file_in out (crate_in c.words ++ codes ".d")) files
 
--- The answer of a child that ended so and left these files. A script is run in its package's folder.
+-- The answer of a child that ended in this way and left these files. A script is run in its
+-- package's folder.
 abbrev pub answered_in : Command → List ℕ → Ended → Map → Result CheckedReply UnitFault
 answered_in c out e files = unless_fault (ended_fault e) (if is_of_run out then run_answered c c.folder e else compile_answered c (dep_info_in c out files))
 

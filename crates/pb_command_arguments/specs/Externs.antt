@@ -54,7 +54,7 @@ leads (Bin name) kind = is_normal kind
 leads Script kind = is_build kind
 leads Run kind = false
 
--- the crate name of the library that the package at an index has
+-- the crate name of the library of the package at an index
 abbrev pub library_name_at : Project → ℕ → List ℕ
 library_name_at project index = library_name (library_in (slice_get project.workspace.packages index))
 
@@ -63,8 +63,8 @@ library_name_at project index = library_name (library_in (slice_get project.work
 abbrev pub entry_name : Project → Entry → List ℕ
 entry_name project entry = if entry.renamed then underscored entry.key else library_name_at project entry.to
 
--- The key by which a library is sorted: its name and its path, with byte 0 between them. A name and
--- a path have no byte 0, which comes before all other bytes.
+-- The key by which a library is sorted: its name and its path, with byte 0 between them. Names and
+-- paths have no byte 0, and byte 0 comes before all other bytes.
 unfoldable pub extern_key : List ℕ → List ℕ → List ℕ
 extern_key name path = name ++ 0 ∷ path
 

@@ -1,5 +1,5 @@
--- Which arguments of a compile build scripts request (The Cargo Book, Build Scripts, Outputs of the
--- Build Script).
+-- Which arguments build scripts request for a compile (The Cargo Book, Build Scripts, Outputs of
+-- the Build Script).
 use Rattle.std.specs.Prelude.{ℕ, if◌then◌else◌, is_none, codes, List, [], ◌++◌, Option}
 use Rattle.std.specs.List.{flat_map}
 use Rattle.std.specs.Str.{bytes_eq}
@@ -50,7 +50,7 @@ binary_word name _ = []
 abbrev pub searched_words : List (Option (List Directive)) → ℕ → List (List ℕ)
 searched_words done place = flat_map search_word (said_at done place)
 
--- the search folders that each run which the unit reaches requests, in plan order
+-- the search folders that are requested by the runs that the unit reaches, in plan order
 abbrev pub search_words : Planned → List (Option (List Directive)) → List (List ℕ)
 search_words unit done = flat_map (searched_words done) unit.reaches
 
@@ -62,7 +62,7 @@ condition_words said = flat_map condition_word said ++ flat_map check_word said
 abbrev pub argument_words : List ℕ → List Directive → List (List ℕ)
 argument_words name said = flat_map argument_word said ++ flat_map binaries_word said ++ flat_map (binary_word name) said
 
--- the libraries that a binary links; it gets them only if its package has no library
+-- the libraries that a binary links, or no libraries if the binary's package has a library
 abbrev pub binary_link_words : Option Library → List Directive → List (List ℕ)
 binary_link_words library said = if is_none library then flat_map link_word said else []
 

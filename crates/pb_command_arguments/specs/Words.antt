@@ -83,12 +83,12 @@ abbrev pub is_value : Option Setting → Setting → Bool
 is_value None value = false
 is_value (Some other) value = same other value
 
--- The key has no option for this unit. Either the compiler has this value without an option, or
+-- The key needs no option for this unit. Either the compiler uses this value without an option, or
 -- only binaries have the option and the unit is no binary.
 abbrev pub is_untold : What → ProfileKey → Setting → Bool
 is_untold what k value = ((row k).of_binaries && not (is_binary what)) || is_value (row k).untold value
 
--- the option of a key, or no argument if the key has none
+-- the option of a key, or no argument if the key needs no option
 abbrev pub key_words : What → List Setting → ProfileKey → List (List ℕ)
 key_words what s k = if is_untold what k (setting_at s k) then [] else setting (row k).option (value_text (row k).yes (setting_at s k))
 

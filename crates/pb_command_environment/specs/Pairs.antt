@@ -40,7 +40,7 @@ about_pairs a =
     (codes "CARGO_PKG_AUTHORS", a.authors) ∷ (codes "CARGO_PKG_DESCRIPTION", a.description) ∷ (codes "CARGO_PKG_HOMEPAGE", a.homepage) ∷ (codes "CARGO_PKG_LICENSE", a.license)
     ∷ (codes "CARGO_PKG_LICENSE_FILE", a.license_file) ∷ (codes "CARGO_PKG_README", a.readme) ∷ (codes "CARGO_PKG_REPOSITORY", a.repository) ∷ (codes "CARGO_PKG_RUST_VERSION", a.rust_version) ∷ []
 
--- the three numbers of a version, and its other parts; zeros if it cannot be read
+-- the three numbers of a version, and its other parts; zeros if the version cannot be read
 abbrev pub numbers_in : {E : Type 0} → Result (ℕ × ℕ × ℕ × List ℕ × List ℕ) E → ℕ × ℕ × ℕ × List ℕ × List ℕ
 numbers_in (Ok parts) = parts
 numbers_in (Err e) = (0, 0, 0, [], [])

@@ -81,7 +81,7 @@ as_line _ = ([], [])
 abbrev pub asked : List ℕ → List Directive → List (List ℕ)
 asked key said = values key (map as_line said)
 
--- a unit of this kind hears what its package's run has printed, since it is a library or a binary
+-- a unit of this kind hears what its package's run has printed; only libraries and binaries do
 abbrev pub hears : What → Bool
 hears what = is_library what || is_binary what
 
@@ -122,14 +122,15 @@ pub record CompileSays (project : Project) (unit : Planned) (done : List (Option
   pub alone : values [] said ≡ (codes "--edition=" ++ edition_text p.edition) ∷ source_by p unit.unit.what ∷ codes "--error-format=json" ∷ codes "--emit=dep-info,link" ∷ []
   pub settings : values (codes "-C") said ≡ map assigned (settings_table unit.unit.what unit.settings) ++ map (λ flag. codes "link-arg=" ++ flag) (linker_flags unit.unit.what lines)
   -- The values of `--cfg` are the features that are on, and then the conditions that the script
-  -- sets. Those of `--check-cfg` are the features that exist, and then the conditions that the
+  -- sets. The values of `--check-cfg` are the features that exist, and then the conditions that the
   -- script expects.
   pub conditions : values (codes "--cfg") said ≡ map feature_is_on (features_at project.features unit.unit.owner unit.unit.side) ++ asked (codes "rustc-cfg") lines
   pub expected : values (codes "--check-cfg") said ≡ features_there_are p.features ∷ asked (codes "rustc-check-cfg") lines
   -- the values of `-L` are the folders of the libraries that the unit reaches, and then the folders
   -- that the reached runs have named
   pub searched : values (codes "-L") said ≡ map (λ (library : Planned). codes "dependency=" ++ library.out) (libraries_at project unit.reaches) ++ asked (codes "rustc-link-search") (flat_map (said_at done) unit.reaches)
-  -- The values of `-l` are what the script links. A binary has them only if its package has no library.
+  -- The values of `-l` are what the script links. A binary has these values only if its package has
+  -- no library.
   pub linked : values (codes "-l") said ≡ (if is_binary unit.unit.what && is_some p.library then [] else asked (codes "rustc-link-lib") lines)
   pub libraries : List (List ℕ × List ℕ)
   pub given : values (codes "--extern") said ≡ map assigned libraries

@@ -20,7 +20,7 @@ use Rattle.pb_unit.specs.declared.unit.What.TheVariants.{Bin}
 abbrev pub crate_at : Project → ℕ → List ℕ
 crate_at project index = library_name (library_in (slice_get project.workspace.packages index))
 
--- The name by which source code calls an entry's library. If `package` renames the entry, this is
+-- The name that source code uses for an entry's library. If `package` renames the entry, this is
 -- the entry's key with `_` for each `-`. If not, this is the name of the library's crate.
 pub data IsCalled (project : Project) (entry : Entry) : List ℕ → Type 0 where
   renamed : (is : entry.renamed ≡ true) → IsCalled project entry (underscored entry.key)

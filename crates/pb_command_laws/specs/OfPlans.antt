@@ -20,8 +20,8 @@ use Rattle.pb_command_laws.specs.Reading.{said_by}
 use Rattle.pb_command_laws.specs.Starts.{StartsCompiler, StartsScript}
 use Rattle.pb_command_laws.specs.Variables.{HasVariables, compile_table, run_table}
 
--- What a compile hears of its package's script. A library or a binary hears the lines of the run on
--- its own side. Any other unit hears nothing.
+-- What a compile hears from its package's script. A library or a binary hears the lines of the run
+-- on its own side. Any other unit hears nothing.
 pub data Hears (project : Project) (u : Planned) (p : Package) (done : List (Option (List Directive))) : List Directive → Option (List ℕ) → Type 0 where
   nothing : (is : (hears u.unit.what && is_some p.script) ≡ false) → Hears project u p done [] None
   own_run : (is : (hears u.unit.what && is_some p.script) ≡ true) (index : ℕ) (run : Planned) (there : unit_at project index ≡ Some run) (same : run.unit ≡ unit u.unit.owner u.unit.side Run) → Hears project u p done (said_at done index) (Some run.out)
@@ -39,8 +39,8 @@ pub record IsCompile (setup : Setup) (project : Project) (u : Planned) (done : L
   pub words : said_by command.words ≡ said ++ said_by setup.flags
   pub says : CompileSays project u done p lines (IsWanted project u p) said
 
--- The command is that of a run: it starts the script of its package on its side, and has these
--- variables. The names of the variables ascend, so each occurs once.
+-- The command is that of a run: it starts the script of the run's package on the run's side, and
+-- has these variables. The names of the variables ascend, so each occurs once.
 pub record IsRun (setup : Setup) (project : Project) (u : Planned) (done : List (Option (List Directive))) (p : Package) (command : Command) : Type 0 where
   pub starts : StartsScript setup project u p (Some (below (folder_of project (unit u.unit.owner u.unit.side Script)) (codes "build_script_build"))) command
   pub has : HasVariables command (run_table setup project u done p)

@@ -1,5 +1,5 @@
--- Which units of a plan a command is about. A compile gets libraries and hears a run; a run starts
--- a script (The Cargo Book, Specifying Dependencies, Build Scripts).
+-- Which other units of a plan a unit's command uses. A compile gets libraries and hears a run; a
+-- run starts a script (The Cargo Book, Specifying Dependencies, Build Scripts).
 use Rattle.std.specs.Prelude.{◌≡◌, ◌↔◌, ℕ, ◌++◌, true, false, if◌then◌else◌, codes, is_some, List, Some, None, slice_get}
 use Rattle.pb_feature_types.specs.Features.{is_enabled}
 use Rattle.pb_directive.specs.Metadata.{underscored}
@@ -32,7 +32,8 @@ pub record StandsInPlan (project : Project) (u : Planned) (p : Package) : Type 0
 abbrev pub folder_of : Project → OfPlan → List ℕ
 folder_of project u = below (profile_folder project.workspace project.profile) (key_of project.workspace u)
 
--- the package at an index has a library with this crate name, which on this side is compiled to this file
+-- the package at an index has a library with this crate name; on this side, the library is compiled
+-- to this file
 pub record IsLibraryOf (project : Project) (index : ℕ) (side : Side) (crate file : List ℕ) : Type 0 where
   pub owner : Package
   pub library : Library
@@ -61,8 +62,8 @@ pub record IsRunOf (project : Project) (owner : ℕ) (side : Side) (index : ℕ)
   pub there : unit_at project index ≡ Some run
   pub is : run.unit ≡ unit owner side Run
 
--- If its package has a script, a library or a binary hears the run of this package on its own side.
--- If not, the unit hears no run.
+-- A library or a binary hears the run of its own package, on its own side, if this package has a
+-- script. If not, it hears no run.
 pub record HearsOwnRun (project : Project) (u : Planned) (p : Package) : Type 0 where
   pub some : is_some p.script ≡ true → (index : ℕ) × (own_run project u ≡ Some index) × IsRunOf project u.unit.owner u.unit.side index
   pub none : is_some p.script ≡ false → own_run project u ≡ None

@@ -5,8 +5,8 @@ use Rattle.std.specs.Str.{bytes_eq}
 use Rattle.pb_mini.specs.CommandLine.{takes_value}
 
 -- What arguments say, in order. An option that takes a value has the next argument as its value.
--- Any other argument is a value without an option: the option's name is empty. So is an option at
--- the end that lacks its value.
+-- Any other argument is a value without an option: the option's name is empty. The same is true of
+-- an option at the end that lacks its value.
 abbrev pub said_by : List (List ℕ) → List (List ℕ × List ℕ)
 said_by [] = []
 said_by (word ∷ []) = ([], word) ∷ []
@@ -17,7 +17,7 @@ abbrev pub words_of_saying : List ℕ → List ℕ → List (List ℕ)
 words_of_saying [] word = word ∷ []
 words_of_saying (byte ∷ option) value = (byte ∷ option) ∷ value ∷ []
 
--- Law: what arguments say yields the same arguments again. So no argument is skipped, not even an
+-- Law: the arguments can be made again from what they say. So no argument is skipped, not even an
 -- option at the end that lacks its value.
 abbrev pub SayingsKeepWords : Type 0
 SayingsKeepWords = (words : List (List ℕ)) → flat_map (λ (saying : List ℕ × List ℕ). words_of_saying saying.0 saying.1) (said_by words) ≡ words

@@ -16,8 +16,9 @@ use Rattle.pb_directive.specs.declared.fault.Problem.{Problem}
 abbrev pub LinesAreTrimmed : Type 0
 LinesAreTrimmed = (line : List ℕ) → let rest = drop (prefix_len is_blank line) line in trimmed line ≡ take (length rest - suffix_len is_blank rest) rest
 
--- The result of reading lines is what each line yields, in order. If some line has a problem, it is
--- the problem of the first such line, with the line's number. The first line has the number 1.
+-- The result of reading lines is what each line yields, in order. If some line has a problem, the
+-- result is the problem of the first such line, with the line's number. The first line has the
+-- number 1.
 pub data LinesAreRead {T U : Type 0} (read : List ℕ → Result T Problem) (all : List T → U) (lines : List (List ℕ)) : Result U LineFault → Type 0 where
   each : (parts : List T) (are : AllZip (λ line part. read line ≡ Ok part) lines parts) → LinesAreRead read all lines (Ok (all parts))
   first : (index : ℕ) (line : List ℕ) (problem : Problem) (there : slice_get lines index ≡ Some line) (wrong : read line ≡ Err problem)

@@ -1,5 +1,5 @@
--- Which variables a command sets (The Cargo Book, Environment Variables). Tables of names and
--- values say this; in a table the last value of a name counts.
+-- Which variables a command sets (The Cargo Book, Environment Variables). The definitions are
+-- tables of names and values. In a table the last value of a name counts.
 use Rattle.std.specs.Prelude.{◌≡◌, ℕ, true, false, if◌then◌else◌, codes, List, [], ◌∷◌, ◌++◌, map, reverse, Option, Some, None}
 use Rattle.std.specs.Fmt.{decimal}
 use Rattle.std.specs.List.{flat_map, list_any, join_by}
@@ -40,8 +40,8 @@ HasVariables command table = (name : List ℕ) → value_at name command.pairs �
 abbrev pub parts_of : List ℕ → ℕ × ℕ × ℕ × List ℕ × List ℕ
 parts_of version = result_unwrap_or (version_parts version) (0, 0, 0, [], [])
 
--- the variables about the builder, about the unit's package, and with what the package tells people
--- about itself
+-- the variables about the builder and about the unit's package, and those that contain what the
+-- package tells people about itself
 abbrev pub package_table : Setup → Package → List (List ℕ × List ℕ)
 package_table setup p =
     (codes "CARGO", setup.tool) ∷ (codes "CARGO_MANIFEST_DIR", p.folder) ∷ (codes "CARGO_MANIFEST_PATH", p.manifest) ∷ (codes "CARGO_PKG_NAME", p.name)
@@ -58,10 +58,10 @@ abbrev pub variable_set : Directive → List (List ℕ × List ℕ)
 variable_set (Env name value) = (name, value) ∷ []
 variable_set _ = []
 
--- The variables of a compile. Those of every unit come first, then the name of the crate, and for a
--- binary its own name. `ran` is the output folder of the run that the unit hears, if there is one.
--- `said` are the lines of this run; the variables that they set come last, and so replace earlier
--- ones.
+-- The variables of a compile. The variables of every unit come first, then the name of the crate,
+-- and for a binary the binary's own name. `ran` is the output folder of the run that the unit
+-- hears, if there is one. `said` are the lines of this run; the variables that they set come last,
+-- and so replace earlier ones.
 abbrev pub compile_table : Setup → Project → Planned → Package → List Directive → Option (List ℕ) → List (List ℕ × List ℕ)
 compile_table setup project unit p said ran =
     package_table setup p ++ (codes "CARGO_CRATE_NAME", crate_name_of project unit) ∷ row (codes "CARGO_BIN_NAME") (binary_name unit.unit.what) ++ row (codes "OUT_DIR") ran ++ flat_map variable_set said
@@ -87,14 +87,16 @@ debug_text _ = codes "true"
 abbrev pub links_of_run : Project → Planned → Option (List ℕ)
 links_of_run project u = if is_run u.unit.what then option_and_then (λ (p : Package). p.links) (package_of project u) else None
 
--- the metadata of the run at an index, as variables named after the native library that its package links
+-- the metadata of the run at an index, as variables that are named after the native library of the
+-- run's package
 abbrev pub handed_on : Project → List (Option (List Directive)) → ℕ → List (List ℕ × List ℕ)
 handed_on project done index = option_map_or (λ links. passed links (said_at done index)) (option_and_then (links_of_run project) (unit_at project index)) []
 
--- The variables of a run. Those of every unit come first, then what its package links, and `1` for
--- each feature that is on. Then come its folder, the platform, the settings of its package, the
--- compiler and its flags. The metadata of the runs that it needs comes last, in plan order.
--- `PROFILE` is `release` if the profile is `release` or inherits from it.
+-- The variables of a run. The variables of every unit come first, then what the run's package
+-- links, and `1` for each feature that is on. Then come the run's folder, the platform, the
+-- settings of the package, the compiler and the compiler's flags. The metadata of the runs that
+-- this run needs comes last, in plan order. `PROFILE` is `release` if the profile is `release` or
+-- inherits from it.
 abbrev pub run_table : Setup → Project → Planned → List (Option (List Directive)) → Package → List (List ℕ × List ℕ)
 run_table setup project unit done p =
     package_table setup p ++ row (codes "CARGO_MANIFEST_LINKS") p.links

@@ -52,8 +52,8 @@ path_said folder text = path_or_none (joined folder text)
 abbrev pub paths_from : List ℕ → List (List ℕ) → List (List ℕ)
 paths_from folder texts = once (flat_map (path_said folder) texts)
 
--- the path is at or below the output folder of a unit that the command's unit reaches, so that this
--- unit stands for it
+-- the path is at or below the output folder of a unit that the command's unit reaches, so that the
+-- reached unit stands for this path
 unfoldable pub is_covered : Command → List ℕ → Bool
 is_covered command path = list_any (λ folder. is_at_or_below folder path) command.reads
 
@@ -117,8 +117,8 @@ changed_variable _ = []
 abbrev pub marked_inputs : Command → List ℕ → List (List ℕ) → List (List ℕ) → Result (List InputName) UnitFault
 marked_inputs command folder paths names = inputs_of command (paths_from folder paths) (once names)
 
--- the inputs that lines `rerun-if-changed` and `rerun-if-env-changed` name; without such lines, the
--- whole folder is the input
+-- the inputs that are named by lines `rerun-if-changed` and `rerun-if-env-changed`; if there are no
+-- such lines, the whole folder is the input
 abbrev pub rerun_inputs : Command → List ℕ → List (List ℕ) → List (List ℕ) → Result (List InputName) UnitFault
 rerun_inputs command folder [] [] = inputs_of command (folder ∷ []) []
 rerun_inputs command folder [] (name ∷ names) = marked_inputs command folder [] (name ∷ names)

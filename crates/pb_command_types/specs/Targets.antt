@@ -1,5 +1,6 @@
--- What a unit produces and where: crate names, sources and files, looked up by index (The Cargo
--- Book, Cargo Targets, Build Scripts). An index without a unit or a package yields nothing.
+-- What a unit compiles and where its files are: crate names, sources and files, looked up by index
+-- (The Cargo Book, Cargo Targets, Build Scripts). An index without a unit or a package yields
+-- nothing.
 use Rattle.std.specs.Prelude.{ℕ, ◌==◌, ◌&&◌, Bool, true, false, if◌then◌else◌, codes, List, [], ◌∷◌, ◌++◌, Option, Some, None, slice_get}
 use Rattle.std.specs.List.{find}
 use Rattle.std.specs.Str.{bytes_eq}
@@ -42,8 +43,9 @@ abbrev pub library_name : Option Library → List ℕ
 library_name None = []
 library_name (Some library) = library.name
 
--- The name of the crate that a unit compiles. A library has its own name. A binary has its name
--- with `_` for each `-`. All scripts have one name. A run compiles no crate.
+-- The name of the crate that a unit compiles. A library's crate has the library's name. A binary's
+-- crate has the binary's name, with `_` for each `-`. All scripts have one name. A run compiles no
+-- crate.
 abbrev pub crate_name : Option Library → What → List ℕ
 crate_name library Lib = library_name library
 crate_name library (Bin name) = underscored name
@@ -131,7 +133,8 @@ abbrev pub is_one_of : (What → Bool) → ℕ → Option Planned → Bool
 is_one_of test owner None = false
 is_one_of test owner (Some unit) = test unit.unit.what && (unit.unit.owner == owner)
 
--- the index of a needed unit of the tested kind that belongs to the package at this index, if there is one
+-- the index of the needed unit that is of the tested kind and belongs to the package at this index,
+-- if there is one
 abbrev pub needed : (What → Bool) → Project → Planned → ℕ → Option ℕ
 needed test project unit owner = find (λ index. is_one_of test owner (unit_at project index)) unit.needs
 

@@ -1,4 +1,4 @@
--- How it is decided if a requested text is a feature of a package. Only private functions need
+-- How we decide whether a requested text is a feature of a package. Only private functions need
 -- these definitions.
 use Rattle.std.specs.Prelude.{◌≡◌, ℕ, Bool, false, List, Option, Some, None, Contains, slice_get}
 use Rattle.std.specs.List.{list_any}

@@ -11,8 +11,8 @@ use Rattle.pb_workspace_types.specs.declared.workspace.Workspace.{Workspace}
 use Rattle.pb_workspace_types.specs.Workspace.{side_of, HasEntry, ListsItem, HasFeature}
 
 -- A fact about the package with the index `p` on a side. The package is on, or has this feature.
--- The package's entry with this index is enabled, or this feature is requested of the package to
--- which the entry leads.
+-- The package's entry with this index is enabled, or the entry requests this feature of the package
+-- to which it leads.
 pub data Fact : Type 0 where
   On : (p : ℕ) (s : Side) → Fact
   Has : (p : ℕ) (s : Side) (feature : List ℕ) → Fact
@@ -24,8 +24,8 @@ abbrev pub of_package : List ℕ → List ℕ → List ℕ
 of_package name feature = name ++ slash ∷ feature
 
 -- The package has this feature, and the feature is chosen. A feature is chosen if all features are
--- requested, or this feature by its name, or this feature of this package. `default` is also
--- chosen, unless `--no-default-features` is given.
+-- requested, if its name is requested, or if the text `PACKAGE/FEATURE` is requested. `default` is
+-- also chosen, unless `--no-default-features` is given.
 pub data IsChosen (ws : Workspace) (selection : Selection) (p : ℕ) : List ℕ → Type 0 where
   all : (feature : List ℕ) (asked : selection.all_features ≡ true) (there : HasFeature ws p feature) → IsChosen ws selection p feature
   asked : (feature : List ℕ) (is : Contains selection.features feature) (there : HasFeature ws p feature) → IsChosen ws selection p feature
@@ -33,7 +33,7 @@ pub data IsChosen (ws : Workspace) (selection : Selection) (p : ℕ) : List ℕ 
   default : (kept : selection.no_default_features ≡ false) (there : HasFeature ws p (codes "default")) → IsChosen ws selection p (codes "default")
 
 pub data Holds (ws : Workspace) (selection : Selection) : Fact → Type 0 where
-  -- a selected package is on for the target, and has there the features that are chosen for it
+  -- a selected package is on for the target, where it has the features that are chosen for it
   selected : (p : ℕ) (is : Contains selection.packages p) → Holds ws selection (On p Target)
   chosen : (p : ℕ) (feature : List ℕ) (is : Contains selection.packages p) (chosen : IsChosen ws selection p feature) → Holds ws selection (Has p Target feature)
   -- if a package is on, its entries that are not optional are enabled
@@ -52,8 +52,8 @@ pub data Holds (ws : Workspace) (selection : Selection) : Fact → Type 0 where
   of_enabled : (p : ℕ) (s : Side) (f g : List ℕ) (n : ℕ) (e : Entry) (on : Holds ws selection (Has p s f)) (lists : ListsItem ws p f (OfEnabled e.key g)) (has : HasEntry ws p n e) (enabled : Holds ws selection (Enabled p s n)) → Holds ws selection (Asked p s n g)
   -- If an entry is enabled, the package to which it leads is on. A build entry leads to the host's
   -- side, any other entry to the same side. The package has the features that the entry lists, and
-  -- those that are requested of it. The package also has `default`, if there is such a feature,
-  -- unless the entry says otherwise.
+  -- those that features request through this entry. The package also has `default`, if there is
+  -- such a feature, unless the entry says otherwise.
   leads : (p : ℕ) (s : Side) (n : ℕ) (e : Entry) (enabled : Holds ws selection (Enabled p s n)) (has : HasEntry ws p n e) → Holds ws selection (On e.to (side_of e.kind s))
   with_listed : (p : ℕ) (s : Side) (n : ℕ) (e : Entry) (f : List ℕ) (enabled : Holds ws selection (Enabled p s n)) (has : HasEntry ws p n e) (is : Contains e.features f) → Holds ws selection (Has e.to (side_of e.kind s) f)
   with_asked : (p : ℕ) (s : Side) (n : ℕ) (e : Entry) (f : List ℕ) (enabled : Holds ws selection (Enabled p s n)) (asked : Holds ws selection (Asked p s n f)) (has : HasEntry ws p n e) → Holds ws selection (Has e.to (side_of e.kind s) f)

@@ -18,7 +18,8 @@ use Rattle.pb_feature.specs.declared.fault.FeatureFault.{FeatureFault}
 use Rattle.pb_feature.specs.declared.fault.FeatureFault.TheVariants.{NoSuchFeature, NoSuchDependency, NotOptional}
 use Rattle.pb_feature.specs.Facts.{Has, Holds, of_package}
 
--- Some entry, in either table, has this name. `is_optional_entry` says that some optional entry has it.
+-- Some entry, in either table, has this name. `is_optional_entry` says that some optional entry has
+-- this name.
 abbrev pub is_entry : Package → List ℕ → Bool
 is_entry p name = list_any (λ (e : Entry). bytes_eq name e.key) p.entries
 
@@ -29,15 +30,15 @@ is_optional_entry p name = list_any (λ (e : Entry). bytes_eq name e.key && e.op
 abbrev pub absent_fault : Package → List ℕ → Option FeatureFault
 absent_fault p name = if list_any (bytes_eq name) p.development then None else Some NoSuchDependency
 
--- the fault of an item that names an entry, if it has one
+-- the fault of an item that names an entry, if the item has a fault
 abbrev pub entry_fault : Package → List ℕ → Option FeatureFault
 entry_fault p name = if is_entry p name then None else absent_fault p name
 
--- the fault of an item that must name an optional entry, if it has one
+-- the fault of an item that must name an optional entry, if the item has a fault
 abbrev pub optional_fault : Package → List ℕ → Option FeatureFault
 optional_fault p name = if is_entry p name then (if is_optional_entry p name then None else Some NotOptional) else absent_fault p name
 
--- the fault of an item, if it has one
+-- the fault of an item, if the item has a fault
 abbrev pub item_fault : Package → FeatureItem → Option FeatureFault
 item_fault p (Own feature) = if has_feature_named p.features feature then None else Some NoSuchFeature
 item_fault p (Dependency name) = optional_fault p name

@@ -1,7 +1,7 @@
 -- Numbers for all facts that may be true, as the rules on numbers use them. Only private functions
 -- need these definitions. A package has a row of numbers. The first number means that the package
--- is on. The second means that a feature which it does not have is on. Then each of its features
--- and each of its entries has a number. Each number comes twice, once for each side.
+-- is on. The second means that some feature is on that the package does not have. Then each of its
+-- features and each of its entries has a number. Each number comes twice, once for each side.
 use Rattle.std.specs.Prelude.{ℕ, zero, suc, ◌+◌, ◌*◌, List, [], ◌∷◌, Option, Some, None, length, slice_get, slice_index_or, if◌then◌else◌}
 use Rattle.std.specs.Str.{bytes_eq}
 use Rattle.pb_manifest_types.specs.declared.feature.Feature.{Feature}
@@ -48,8 +48,9 @@ features_of (Some p) = p.features
 abbrev pub slot_at : List Package → ℕ → List ℕ → ℕ
 slot_at ps p name = slot (features_of (slice_get ps p)) name
 
--- The number of the fact that the package is on. `has` is the number of the fact that it has the
--- feature of a slot. `enabled` is that of the fact that its n-th entry is enabled.
+-- The number of the fact that a package is on. `has` is the number of the fact that the package has
+-- the feature of a slot. `enabled` is the number of the fact that the package's n-th entry is
+-- enabled.
 abbrev pub on : List ℕ → ℕ → Side → ℕ
 on bases p s = number_at bases p s 0
 

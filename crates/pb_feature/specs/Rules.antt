@@ -1,5 +1,6 @@
--- The rules on numbers that the packages of a workspace make, and the numbers that are true from
--- the start. Only private functions need these definitions.
+-- The facts have numbers. Here are the rules that a workspace's packages make about these numbers,
+-- and the numbers of the facts that are true from the start. Only private functions need these
+-- definitions.
 use Rattle.std.specs.Prelude.{ℕ, ◌+◌, ◌==◌, Bool, not, ◌||◌, ◌&&◌, codes, List, [], ◌∷◌, ◌++◌, Option, Some, None, length, slice_get, if◌then◌else◌}
 use Rattle.std.specs.List.{list_any}
 use Rattle.std.specs.Str.{bytes_eq}
@@ -23,11 +24,13 @@ pair x y z = record { first = x; second = y; gives = z }
 abbrev pub alone : ℕ → ℕ → Rule
 alone x z = pair x x z
 
--- the rule by which `from` makes the feature of a slot be on, if the test is true and the slot is not 0
+-- the rule by which `from` turns on the feature of a slot, if the test is true and the slot is not
+-- 0
 abbrev pub there_rules : List ℕ → ℕ → ℕ → Side → Bool → ℕ → List Rule
 there_rules bs from q t test k = if test then (if k == 0 then [] else alone from (has bs q t k) ∷ []) else []
 
--- the rule by which `from` makes the feature with this name be on, even if the package does not have it
+-- the rule by which `from` turns on the feature with this name, even if the package does not have
+-- it
 abbrev pub given_rules : List Package → List ℕ → ℕ → ℕ → Side → ℕ → List ℕ → List Rule
 given_rules ps bs from q t _ f = alone from (has bs q t (slot_at ps q f)) ∷ []
 
@@ -98,8 +101,8 @@ abbrev pub is_chosen : Selection → List ℕ → List ℕ → Bool
 is_chosen selection name feature =
     selection.all_features || (not selection.no_default_features && bytes_eq feature (codes "default")) || list_any (is_text_of name feature) selection.features
 
--- The number of a feature, if the feature is chosen. The next definitions collect all numbers that
--- are true from the start.
+-- The number of a feature, if the feature is chosen. The next definitions collect the numbers of
+-- all facts that are true from the start.
 abbrev pub chosen_seeds : List ℕ → Selection → ℕ → List ℕ → ℕ → Feature → List ℕ
 chosen_seeds bs selection p name i f = if is_chosen selection name f.name then has bs p Target (i + 1) ∷ [] else []
 

@@ -24,13 +24,13 @@ pub record IsPathSource (ms : Members) (s : PathSource) : Type 0 where
   pub default_features : HoldsOr true boolean (get_member (codes "default-features") ms) s.default_features
 
 -- The keys `path`, `package` and `version` may be there, but have no effect. Each value must be of
--- the right kind. That of `version` must be a requirement.
+-- the right kind. The value of `version` must be a requirement.
 abbrev pub HasIdleKeys : Members → Type 0
 HasIdleKeys ms = ((path : Option (List ℕ)) × HoldsValid IsPath string (get_member (codes "path") ms) path) × ((name : Option (List ℕ)) × OptionalMeans string (get_member (codes "package") ms) name)
     × ((version : Option (List ℕ)) × HoldsValid (λ text. is_requirement text ≡ true) string (get_member (codes "version") ms) version)
 
 -- The source of a package's entry is a path, or the workspace if the entry says `workspace = true`.
--- With the workspace, `default-features = true` requests the feature `default`.
+-- If the source is the workspace, `default-features = true` requests the feature `default`.
 abbrev pub IsSource : Members → Source → Type 0
 IsSource ms (own.Workspace default) = (get_member (codes "workspace") ms ≡ Some (boolean true)) × HoldsOr false boolean (get_member (codes "default-features") ms) default × HasIdleKeys ms
 IsSource ms (own.Path s) = (get_member (codes "workspace") ms ≡ None) × IsPathSource ms s

@@ -28,7 +28,7 @@ name_of key.Rpath = codes "rpath"
 name_of key.Strip = codes "strip"
 
 -- All written forms of a value that a key may have. This is the table of keys the other way round.
--- So a wrong row of one table has no counterpart in the other.
+-- So, if a row of one table is wrong, the other table has no row for it.
 abbrev pub forms : ProfileKey → Setting → List Data
 forms key.CodegenUnits (Number n) = if nat_le 1 n && nat_le n 65536 then integer (pos n) ∷ [] else []
 forms key.Debug (Word word.Zero) = boolean false ∷ integer (pos 0) ∷ string (codes "none") ∷ []

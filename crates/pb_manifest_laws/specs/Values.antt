@@ -17,7 +17,8 @@ texts xs = array (items_of (map string xs))
 abbrev pub IsPath : List ℕ → Type 0
 IsPath text = has_byte_0 text ≡ false
 
--- If an optional key is there, this value is written at it. No value is read if and only if the key is missing.
+-- If an optional key is there, it has this value. No value is read if and only if the key is
+-- missing.
 abbrev pub OptionalMeans : {A : Type 0} → (A → Data) → Option Data → Option A → Type 0
 OptionalMeans write found value = found ≡ option_map write value
 

@@ -37,7 +37,7 @@ use Rattle.pb_manifest_laws.specs.Packages.{edition, readme_value}
 use Rattle.pb_manifest_laws.specs.Profiles.{name_of, forms}
 use Rattle.pb_manifest_laws.specs.Values.{texts, members_of}
 
--- the keys of a table, each with the value that is written for it if there is one
+-- the keys of a table, each with the value that is written for it, if there is such a value
 abbrev pub Rows : Type 0
 Rows = List (List ℕ × Option Data)
 
@@ -106,7 +106,8 @@ dependency_rows (own.Path s) features optional =
 abbrev pub dependency_entry : Dependency → Data
 dependency_entry d = table_with (dependency_rows d.source d.features d.optional)
 
--- what is written for an entry of `[workspace.dependencies]`; no path is written if its source is unsupported
+-- what is written for an entry of `[workspace.dependencies]`; no path is written if the entry's
+-- source is unsupported
 abbrev pub shared_rows : WorkspaceSource → List (List ℕ) → Rows
 shared_rows shared.Unsupported features = (codes "features", list string features) ∷ []
 shared_rows (shared.Path s) features =
@@ -154,8 +155,8 @@ workspace_rows w =
 abbrev pub dependencies : List Dependency → Option Data
 dependencies ds = entries (λ (d : Dependency). d.key) dependency_entry ds
 
--- The rows of a document. Of `[dev-dependencies]` only the keys are written, because nothing else
--- of it is read.
+-- The rows of a document. For `[dev-dependencies]` only the keys are written, because nothing else
+-- of this table is read.
 abbrev pub document_rows : Manifest → Rows
 document_rows m =
     (codes "bin", list (λ b. table_with (binary_rows b)) m.binaries) ∷ (codes "build-dependencies", dependencies m.build_dependencies) ∷ (codes "dependencies", dependencies m.dependencies)

@@ -90,8 +90,8 @@ MessagesAreObjects = (s : Subject) (fresh : Bool) (m : Message) → IfSome (obje
 abbrev pub EndsAreObjects : Type 0
 EndsAreObjects = (success : Bool) → finish_line success ≡ compact_text (finished success) ++ line_feed ∷ []
 
--- The line of a diagnostic is that of its object. The value of `message` in it is the compiler's
--- own text, byte for byte.
+-- The line of a diagnostic is the line of the diagnostic's object. In this line, the value of
+-- `message` is the compiler's own text, byte for byte.
 abbrev pub DiagnosticsAreCopied : Type 0
 DiagnosticsAreCopied = (s : Subject) (fresh : Bool) (text : List ℕ)
     → (front : List ℕ) × (line_of s fresh (CompilerMessage text) ≡ front ++ text ++ codes "}\n") × ((message : Data) → compact_text (diagnostic s message) ≡ front ++ compact_text message ++ codes "}")

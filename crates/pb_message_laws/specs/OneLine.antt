@@ -25,8 +25,8 @@ abbrev pub TellsOneLine : Message → Type 0
 TellsOneLine (CompilerMessage text) = IsOfOneLine text
 TellsOneLine _ = Unit {0}
 
--- The line of a message is one line, whatever package and target it is about. For a diagnostic, its
--- text must have no line feed.
+-- The line of a message is one line, whatever package and target it is about. The text of a
+-- diagnostic must have no line feed.
 abbrev pub MessagesAreLines : Type 0
 MessagesAreLines = (subject : Subject) (fresh : Bool) (message : Message) → TellsOneLine message → is_line (line_of subject fresh message) ≡ true
 

@@ -5,7 +5,7 @@ use Rattle.pb_message.specs.declared.subject.Subject.{Subject}
 use Rattle.pb_message.specs.declared.message.Message.{Message}
 use Rattle.pb_message.specs.declared.message.Message.TheVariants.{CompilerMessage, CompilerArtifact, BuildScriptNote, BuildScriptExecuted}
 
--- the two messages have the same reason, and two diagnostics or two notes are equal
+-- the two messages have the same reason; if both are diagnostics, or both are notes, they are equal
 abbrev pub TellOne : Message → Message → Type 0
 TellOne (CompilerMessage text) (CompilerMessage other) = text ≡ other
 TellOne (CompilerMessage text) _ = ⊥

@@ -117,7 +117,8 @@ abbrev pub good_messages : Project → Planned → List ℕ → Option (List Dir
 good_messages project u stderr None = compiler_messages stderr ++ artifacts project u (made_file_of project u)
 good_messages project u stderr (Some directives) = filter_map note_in directives ++ (executed u directives ∷ [])
 
--- the diagnostics of a bad unit are reported: it is a compile, and no stream of its child is too long
+-- the diagnostics of a bad unit are reported: the unit is a compile, and no stream of its child is
+-- too long
 abbrev pub gives_diagnostics : What → UnitFault → Bool
 gives_diagnostics Run e = false
 gives_diagnostics w fault.OutputTooLong = false
@@ -152,7 +153,7 @@ said_by w e ended = plain_lines_of ended.stderr
 
 -- Lines.
 
--- the lines of a unit's messages; `started` says if a child was started for the unit
+-- the lines of a unit's messages; `started` says whether a child was started for the unit
 abbrev pub lines_by : Option Subject → Bool → List Message → List ℕ
 lines_by None started messages = []
 lines_by (Some s) started messages = lines_of s (not started) messages

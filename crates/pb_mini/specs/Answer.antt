@@ -38,7 +38,7 @@ abbrev pub replied_if : Result Request CommandLineFault → List (List ℕ × Li
 replied_if (Ok request) pairs w = replied_to request pairs w
 replied_if (Err e) pairs w = bad_command_line
 
--- the reply to these arguments and this environment; if a name occurs twice in the environment, its
--- last value counts
+-- the reply to these arguments and this environment; if the environment has a name twice, the last
+-- value counts
 abbrev pub answered : List (List ℕ) → List (List ℕ × List ℕ) → World → Reply
 answered words pairs w = replied_if (request_of words) (table_of pairs) w

@@ -36,14 +36,14 @@ role_of option =
 abbrev pub is_setting : List ℕ → Bool
 is_setting word = starts_with nat_eq word (codes "--edition=") || starts_with nat_eq word (codes "--error-format=") || starts_with nat_eq word (codes "--emit=")
 
--- the role of an argument that is no option with a value, and no value of an option
+-- the role of an argument that is neither an option with a value nor the value of an option
 abbrev pub role_alone : List ℕ → Role
 role_alone word = if is_setting word then Unused else Source
 
 abbrev pub no_arguments : Arguments
 no_arguments = record { crate_names = []; crate_types = []; out_dirs = []; sources = []; externs = []; conditions = [] }
 
--- the values of the arguments, with one more value in front of those of its role
+-- the values of the arguments, after one more value was put in front of the others of its role
 abbrev pub with_value : Role → List ℕ → Arguments → Arguments
 with_value CrateName value said = record said { crate_names = value ∷ said.crate_names }
 with_value CrateType value said = record said { crate_types = value ∷ said.crate_types }
@@ -53,8 +53,8 @@ with_value Extern value said = record said { externs = value ∷ said.externs }
 with_value Condition value said = record said { conditions = value ∷ said.conditions }
 with_value Unused value said = said
 
--- The values of two lists of arguments: for each role those of the first, and then those of the
--- second. `after` does this unless there is a fault.
+-- The values of two lists of arguments. For each role, the values of the first list come before
+-- those of the second. `after` does this unless there is a fault.
 abbrev pub joined : Arguments → Arguments → Arguments
 joined a b = record {
   crate_names = a.crate_names ++ b.crate_names;
@@ -111,8 +111,8 @@ folder_in (Err e) = Err Bad
 abbrev pub folder_of : List ℕ → Result (List ℕ) CommandLineFault
 folder_of text = folder_in (parsed text)
 
--- The values that a compile needs. The crate name, the output folder and the source must be there
--- once, and a crate type at least once.
+-- The values that a compile needs. The crate name, the output folder and the source must each occur
+-- once. A crate type must occur at least once.
 abbrev pub settled_by : Arguments → Result Settled CommandLineFault
 settled_by said =
     only said.crate_names >>= (λ name.

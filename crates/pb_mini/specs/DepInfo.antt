@@ -3,7 +3,7 @@ use Rattle.std.specs.Prelude.{ℕ, ◌==◌, if◌then◌else◌, codes, List, [
 use Rattle.pb_data.specs.Ascii.{line_feed, space, colon, equals, backslash}
 use Rattle.pb_mini.specs.declared.dep_info.Names.{Names}
 
--- the path, with `\ ` in place of each space
+-- the path, with `\ ` instead of each space
 abbrev pub spelled : List ℕ → List ℕ
 spelled [] = []
 spelled (b ∷ bs) = if b == space then backslash ∷ space ∷ spelled bs else b ∷ spelled bs

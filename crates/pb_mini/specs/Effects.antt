@@ -34,11 +34,11 @@ abbrev pub reads : Option (List ℕ) → Effects
 reads None = no_effects
 reads (Some path) = record no_effects { names = record no_names { paths = path ∷ [] } }
 
--- the effect of reading a variable that has this value, or none
+-- the effect of reading a variable that has this value or is not set
 abbrev pub asks : List ℕ → Option (List ℕ) → Effects
 asks name value = record no_effects { names = record no_names { variables = (name, value) ∷ [] } }
 
--- The names of the first, followed by those of the second. `joined` does this for all effects.
+-- The names of the first list, followed by those of the second. `joined` does this for all effects.
 abbrev pub joined_names : Names → Names → Names
 joined_names a b = record { paths = a.paths ++ b.paths; variables = a.variables ++ b.variables }
 

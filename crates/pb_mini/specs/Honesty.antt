@@ -1,5 +1,5 @@
--- What a compile or a run reads. The reply reports everything that was read, and nothing else
--- matters for the reply.
+-- What a compile or a run reads. The reply reports everything that was read, and depends on nothing
+-- else.
 use Rattle.std.specs.Prelude.{◌≡◌, ℕ, Bool, true, if◌then◌else◌, codes, List, [], ◌∷◌, Option, Some, None, Result, Ok, Err}
 use Rattle.std.specs.List.{list_any, AllByRecursion}
 use Rattle.std.specs.Str.{bytes_eq}
@@ -64,7 +64,7 @@ abbrev pub names_of_image : List (List ℕ × List ℕ) → World → Option (Li
 names_of_image pairs w None = no_names
 names_of_image pairs w (Some bytes) = names_of_lines pairs w (lines_of bytes)
 
--- The names of all that a request reads. The files that it is given are left out: these are the
+-- The names of all that a request reads, without the files that are passed to it. These are the
 -- image of a run, and the libraries of a compile.
 abbrev pub names_of : Request → List (List ℕ × List ℕ) → World → Names
 names_of Version pairs w = no_names
@@ -102,13 +102,13 @@ SameBelow folders v w = (path : List ℕ) → is_below_some folders path ≡ tru
 
 -- ---- honesty
 
--- the files that the request is given are strictly below these folders
+-- the files that are passed to the request are strictly below these folders
 abbrev pub GivenBelow : List (List ℕ) → Request → Type 0
 GivenBelow folders Version = Unit {0}
 GivenBelow folders (Run image) = (path : List ℕ) → path_of image ≡ Some path → is_below_some folders path ≡ true
 GivenBelow folders (Compile line) = (name file path : List ℕ) → value_at name (libraries_of line.externs) ≡ Some file → path_of file ≡ Some path → is_below_some folders path ≡ true
 
--- The reply to a command comes again in each world that agrees on what was read, and on the files
+-- The reply to a command is the same in each world that agrees on what was read, and on the files
 -- below the command's `reads`. The image of a run and the libraries of a compile must be below
 -- these folders.
 abbrev pub AnswersHonestly : Command → World → World → Type 0
@@ -117,7 +117,8 @@ AnswersHonestly c v w = ((request : Request) → request_of c.words ≡ Ok reque
 
 -- ---- reporting
 
--- The later of two files, if it is there, or else the earlier one. `file_named` is the last file with a name.
+-- The later of two files if it exists, or else the earlier one. `file_named` is the last file with
+-- this name.
 abbrev pub later_of : Option (List ℕ) → Option (List ℕ) → Option (List ℕ)
 later_of earlier None = earlier
 later_of earlier (Some bytes) = Some bytes

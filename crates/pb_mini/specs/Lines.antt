@@ -3,7 +3,7 @@ use Rattle.std.specs.Prelude.{ℕ, ◌==◌, ◌-◌, if◌then◌else◌, List,
 use Rattle.std.specs.List.{onto_first, before_first, after_first}
 use Rattle.pb_data.specs.Ascii.{line_feed, space, equals}
 
--- The lines of a text, which is split at line feeds only. What follows the last line feed is also a
+-- The lines of a text. Only a line feed ends a line. The text after the last line feed is also a
 -- line, unless it is empty.
 abbrev pub lines_of : List ℕ → List (List ℕ)
 lines_of [] = []

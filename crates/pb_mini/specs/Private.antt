@@ -1,4 +1,5 @@
--- What the values of a command line settle, in parts. Only private functions need these definitions.
+-- The parts of what the values of a command line settle. Only private functions need these
+-- definitions.
 use Rattle.std.specs.Prelude.{Result, Ok}
 use Rattle.pb_data.specs.UnlessOom.{◌>>=◌}
 use Rattle.pb_mini.specs.CommandLine.{crate_type_of, dep_info_name, file_named, first, folder_of, image_name, only}

@@ -13,14 +13,14 @@ use Rattle.pb_mini.specs.declared.script.Deed.{Deed}
 use Rattle.pb_mini.specs.declared.script.Deed.TheVariants.{Print, Show, Read, Put, Exit, Skip}
 use Rattle.pb_mini.specs.declared.output.Output.{Output}
 
--- a reply that has this status and nothing else
+-- a reply with this status, no output and no files
 abbrev pub ending : ℕ → Reply
 ending status = record { status = pos status; stdout = []; stderr = []; files = [] }
 
 abbrev pub no_output : Output
 no_output = record { stdout = []; files = [] }
 
--- the reply that has this output first, and then that of `reply`
+-- the reply whose output is this output, followed by that of `reply`
 abbrev pub before : Output → Reply → Reply
 before output reply = record reply { stdout = output.stdout ++ reply.stdout; files = output.files ++ reply.files }
 
@@ -49,7 +49,7 @@ shown name value = prints (shown_text name (unwrap_or value []))
 abbrev pub first_line : List ℕ → List ℕ
 first_line text = before_first (λ b. b == line_feed) text
 
--- What `read PATH` prints: a line that declares the path. If there is a file that is a text,
+-- What `read PATH` prints: a line that declares the path. If there is such a file and it is a text,
 -- another line sets READ to the file's first line.
 abbrev pub first_line_set : Option (List ℕ) → List ℕ
 first_line_set None = []
@@ -72,8 +72,8 @@ full_path pairs w path = if is_absolute path then path else below_text (value_of
 abbrev pub text_read : List (List ℕ × List ℕ) → World → List ℕ → Option (List ℕ)
 text_read pairs w path = text_at w (path_of (full_path pairs w path))
 
--- The name in `put NAME TEXT` may be that of a file: it is a relative path of one part. The next
--- definition is the step of `put`.
+-- The name in `put NAME TEXT` can be the name of a file, because it is a relative path of one part.
+-- The next definition is the step of `put`.
 abbrev pub is_file_name : List ℕ → Bool
 is_file_name name = not (list_any (λ b. b == slash) name) && is_relative name
 

@@ -41,12 +41,12 @@ meant_at given line (Some found) = if is_mentioned given found.0 then line_meant
 
 -- ---- `use NAME`
 
--- the path of a library's file, as the command line says it
+-- the path of a library's file, as the command line spells it
 abbrev pub library_path : Scope → List ℕ → Option (List ℕ)
 library_path scope name = option_and_then path_of (value_at name scope.libraries)
 
--- the effect of `use NAME`: it adds the line, and then each line of the library's file, or reports
--- that there is no such library
+-- the effect of `use NAME`: either it adds the line and then each line of the library's file, or it
+-- reports that there is no such library
 abbrev pub used : ℕ → List ℕ → List ℕ → Option (List ℕ) → Effects
 used number line name None = diagnosed Error (codes "no library " ++ name) number
 used number line name (Some bytes) = joined (copied line) (copied_file (codes "> ") bytes)
@@ -73,7 +73,7 @@ variable_at pairs w name = (name, value_of pairs w name)
 abbrev pub variable_of : List (List ℕ × List ℕ) → World → List ℕ → Option (List ℕ × Option (List ℕ))
 variable_of pairs w path = option_map (variable_at pairs w) (variable_in path)
 
--- The path, in which the variable's value replaces the first part, if that names a variable. A
+-- The path, after a variable's value has replaced the first part, if this part names a variable. A
 -- variable that is not set has an empty value.
 abbrev pub expanded : List ℕ → Option (List ℕ × Option (List ℕ)) → List ℕ
 expanded path None = path
@@ -87,7 +87,7 @@ abbrev pub asks_for : Option (List ℕ × Option (List ℕ)) → Effects
 asks_for None = no_effects
 asks_for (Some variable) = asks variable.0 variable.1
 
--- The effect of the lines of an included file, which are added. If there is no file, the path is
+-- The effect of adding the lines of an included file. If there is no such file, the path is
 -- reported as it was written.
 abbrev pub included_lines : ℕ → List ℕ → Option (List ℕ) → Effects
 included_lines number path None = diagnosed Error (codes "no file " ++ path) number
@@ -130,7 +130,8 @@ abbrev pub is_passed_over : List ℕ → Bool
 is_passed_over [] = true
 is_passed_over (b ∷ bytes) = b == hash
 
--- the effect of a line with this number; `verb` is its first word, and `rest` follows it
+-- the effect of a line with this number; `verb` is the line's first word, and `rest` is the rest of
+-- the line
 abbrev pub effect_by : Verb → Scope → World → ℕ → List ℕ → List ℕ → Effects
 effect_by Use scope w number line rest = use_effect scope w number line rest
 effect_by Include scope w number line rest = include_effect scope w number rest

@@ -23,16 +23,16 @@ use Rattle.pb_mini_laws.specs.Small.{AllGive, AllTold, IsSmallBuild, SmallCourse
 abbrev pub SmallBuildsAreHonest : Type 0
 SmallBuildsAreHonest = (options : Options) (w : World) → IsSmallBuild options w → IsHonestBuild small_compiler options w
 
--- The place is modelled, the small compiler is the child, and the build's records are true. If
--- `IsSmallBuild` is true of the build, it produces what a clean build of the present workspace
+-- Take a build over a modelled place, with true records and the small compiler as the child. If
+-- `IsSmallBuild` is true of this build, it produces what a clean build of the present workspace
 -- produces, however it ends.
 abbrev pub SmallBuildsGive : {S : Type 0} → (S → List ℕ → List ℕ → Step → S → Type 0) → Type 0
 SmallBuildsGive {S} Turns = (from : S) (options : Options) (result : Result Summary BuildFault) (old new : BuildState) → Headline true small_compiler (ByTurns Turns from) options result old new
     → IsSmallBuild options old.world → Sound reading judge small_compiler (records_of options old.world.variables) old.world.files → GivesCleanResult TrustedRecords small_compiler (ByTurns Turns from) options result old new
 
 -- A build of a session with the small compiler also produces this, if the records in its folder
--- were true before some steps. These steps are edits outside this folder and builds of which
--- `IsSmallBuild` is true.
+-- were once true and only steps of two kinds came after that. These are edits outside this folder,
+-- and builds of which `IsSmallBuild` is true.
 abbrev pub SmallSessionsGive : Type 0
 SmallSessionsGive = (options : Options) (pick : PickBy) (steps : List SessionStep) (before mid after : Point)
     → Sound reading judge small_compiler (records_of options mid.moment.world.variables) before.moment.world.files → SmallCourse (records_of options mid.moment.world.variables) steps before mid

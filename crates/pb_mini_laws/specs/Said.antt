@@ -29,7 +29,7 @@ abbrev pub declared_in : Option (List ℕ) → List (List ℕ)
 declared_in None = []
 declared_in (Some line) = declared_by (deed_of (word_in line)) (rest_of line)
 
--- what the lines after a step declare; if the step ends the script, they declare nothing
+-- what the lines after a step declare; if the step ends the script, these lines declare nothing
 abbrev pub declared_after : Step → List (List ℕ) → List (List ℕ)
 declared_after (Writes output) texts = texts
 declared_after (Ends status) texts = []

@@ -29,8 +29,8 @@ abbrev pub CanTellUnits : Setup → Project → World → Type 0
 CanTellUnits setup project sources = (index : ℕ) (u : Planned) → unit_at project index ≡ Some u
     → CanTell (command_after setup project (take index (outcomes small_compiler setup project sources)) u) (view_of (take index (outcomes small_compiler setup project sources)) sources u)
 
--- whatever project and version of the compiler a build finds in a world, the small compiler can
--- report what it reads
+-- the small compiler can report what it reads, whatever project and whatever version of the
+-- compiler a build finds in a world
 abbrev pub CanTellBuild : Options → World → Type 0
 CanTellBuild options w = (project : Project) (toolchain : List ℕ) → IsProject options (environment_of options w.variables).target w project
     → toolchain_of small_compiler (environment_of options w.variables) project (from_nothing (environment_of options w.variables).target w) ≡ Some toolchain
@@ -61,7 +61,7 @@ SmallCourse folder (step ∷ steps) before after = SparesBySmall folder step bef
 
 -- Sessions that a file contains.
 
--- two target folders are either the same, or neither is at or below the other
+-- any two target folders are either the same, or neither of them is at or below the other
 abbrev pub StandApart : List (List ℕ) → Type 0
 StandApart targets = (t u : List ℕ) → Contains targets t → Contains targets u → (t ≡ u) ⊎ ((is_at_or_below t u ≡ false) × (is_at_or_below u t ≡ false))
 
@@ -75,7 +75,7 @@ pub record IsToldBuild (targets : List (List ℕ)) (options : Options) (w : Worl
   pub can_tell : CanTellBuild options w
 
 -- What must be true of a step in a session file. For each target folder, an edit stays outside the
--- folder or removes the folder as a whole. Of a build, `IsToldBuild` must be true.
+-- folder or removes the folder as a whole. `IsToldBuild` must be true of a build.
 abbrev pub IsToldStep : List (List ℕ) → SessionStep → World → Type 0
 IsToldStep targets (Write path text) w = (t : List ℕ) → Contains targets t → is_at_or_below t path ≡ false
 IsToldStep targets (Remove path) w = (t : List ℕ) → Contains targets t → (is_at_or_below path t ≡ true) ⊎ ShareNoPath t path
@@ -88,7 +88,7 @@ AllTold targets [] before after course = ⊤
 AllTold targets (step ∷ steps) before after course = IsToldStep targets step before.moment.world × AllTold targets steps course.0 after course.2
 
 -- If the step is a build, it produces what a clean build of the workspace at that time produces. A
--- fault may end it after the first of its lines.
+-- fault may end the build after the first of its lines.
 abbrev pub StepGives : (step : SessionStep) (before after : Point) → Carries small_compiler step before after → Type 0
 StepGives (Build options pick) before after built = GivesCleanResult TrustedRecords small_compiler (ByPicked pick options) options built.answer.result before.moment built.ended
 StepGives step before after taken = ⊤

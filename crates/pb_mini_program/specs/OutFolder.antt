@@ -16,8 +16,8 @@ use Rattle.pb_mini_program.specs.declared.out_folder.Waiting.TheVariants.{Folder
 abbrev pub out_dir_variable : World → Option (List ℕ)
 out_dir_variable w = option_and_then path_of (map.get w.variables (codes "OUT_DIR"))
 
--- The folder into which the files of a request are put. For a compile it is in the arguments, and
--- for a run in the variable.
+-- The folder into which the files of a request are put. A compile has this folder in its arguments,
+-- and a run in the variable `OUT_DIR`.
 abbrev pub folder_for : Result Request CommandLineFault → World → Option (List ℕ)
 folder_for (Ok Version) w = None
 folder_for (Ok (Run path)) w = out_dir_variable w
@@ -34,7 +34,7 @@ asks_run (word ∷ []) = false
 asks_run (word ∷ path ∷ []) = bytes_eq word (codes "--run")
 asks_run (word ∷ other ∷ next ∷ words) = false
 
--- what is waited for after this argument, which is itself no value: the folder, the value of
+-- what the argument after this one is, if this one is itself no value: the folder, the value of
 -- another option, or no value
 abbrev pub waiting_after : List ℕ → Option Waiting
 waiting_after word = if bytes_eq word (codes "--out-dir") then Some Folder else (if takes_value word then Some Other else None)

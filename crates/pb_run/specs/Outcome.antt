@@ -42,8 +42,8 @@ abbrev pub is_good_at : Option Outcome → Bool
 is_good_at None = false
 is_good_at (Some o) = is_good o
 
--- The table to which an entry for each unit is appended, made from the entries before it. `tabled`
--- is the whole table.
+-- A table with an entry for each unit. Each entry is made from the entries before it, and appended
+-- to them. `tabled` is the whole table.
 abbrev pub tabled_from : {U A : Type 0} → (List A → U → A) → List A → List U → List A
 tabled_from step done [] = done
 tabled_from step done (u ∷ us) = tabled_from step (done ++ step done u ∷ []) us
@@ -117,9 +117,9 @@ directives_of done = map directives_in done
 abbrev pub command_after : Setup → Project → List Outcome → Planned → Command
 command_after setup project done u = command_of setup project u (directives_of done)
 
--- The outcome of a unit, given those of the units before it. If a unit that it needs is not good,
--- it is `Waiting`. Otherwise the child's reply is judged, which the child gives to the unit's
--- command in the unit's view.
+-- The outcome of a unit, given those of the units before it. If this unit needs a unit that is not
+-- good, the outcome is `Waiting`. Otherwise the child replies to the unit's command in the unit's
+-- view, and the outcome is the judgement of this reply.
 abbrev pub outcome_of : Answers → Setup → Project → World → List Outcome → Planned → Outcome
 outcome_of child setup project sources done u =
     if list_all (λ index. is_good_at (slice_get done index)) u.needs then judged project u (command_after setup project done u) (child (command_after setup project done u) (view_of done sources u)) else Waiting

@@ -1,5 +1,5 @@
 -- What a step of one unit does. The unit begins, with or without a child, or it answers, or it does
--- one after the other.
+-- both, one after the other.
 use Rattle.std.specs.Prelude.{◌≡◌, ◌⊎◌, ℕ, Bool, List, Option, Some, None, Result, Ok, MatchResult, ◌++◌, ◌∷◌, if◌then◌else◌, is_some, [], map, Err, IsOk, IfOk, IfErr, IfSome, ◌≢◌, ◌+◌, true, IsTrue, IsSome, MatchOption, OnOk, length, max, slice_set, false, slice_get}
 use Rattle.std.specs.FinMap as finite
 use Rattle.pb_build_result.specs.declared.bad_unit.BadUnit.{BadUnit}
@@ -66,7 +66,8 @@ pub record IsSpawned (inside : List ℕ → Bool) (child : Answers) (c : Command
 
 -- Which calls a step makes, one by one.
 
--- The calls of a step. `Makes` says which calls a success has made, and `Ends` says it for each fault.
+-- The calls of a step. `Makes` says which calls were made if the step succeeded. `Ends` says it for
+-- each fault.
 abbrev pub Calls : {T E : Type 0} → (T → Counts → Counts → Type 0) → (E → Counts → Counts → Type 0) → Result T E → Counts → Counts → Type 0
 Calls Makes Ends result old new = MatchResult result (λ x. Makes x old new) (λ e. Ends e old new)
 
@@ -82,8 +83,8 @@ RemovalEnds path (step.Store store.NumbersSpent) old new = ⊥
 RemovalEnds path (step.Store store.OutOfMemory) old new = (new ≡ old) ⊎ (new ≡ past_call old)
 RemovalEnds path (step.Start fault) old new = ⊥
 
--- How the step ended that removes a record and needs a run number. If no number is left, no call
--- was made. Any other fault is one of `RemovalEnds`.
+-- A step that removes a record and needs a run number has ended with this fault. If no number is
+-- left, no call was made. Any other fault is one of `RemovalEnds`.
 abbrev pub DropEnds : List ℕ → StepFault → Counts → Counts → Type 0
 DropEnds path (step.Store store.NumbersSpent) old new = new ≡ old
 DropEnds path e old new = RemovalEnds path e old new
@@ -107,7 +108,8 @@ abbrev pub SpawnsAnew : Answers → Command → ℕ → Counts → Counts → Ty
 SpawnsAnew child c ticket old new = Spawns child c ticket (past_call old) new
 
 -- Two calls removed the record and the files of the output folder, and then the child was spawned.
--- The order of these calls is stated for the case that one fails (`LaunchEnds`).
+-- The order of these calls can be seen from `LaunchEnds`, which says which of them were made if one
+-- failed.
 abbrev pub Launches : Answers → Command → ℕ → Counts → Counts → Type 0
 Launches child c ticket old new = SpawnsAnew child c ticket (past_call old) new
 
@@ -132,7 +134,7 @@ pub record DropsFor {T : Type 0} (child : Answers) (folder key : List ℕ) (resu
 
 -- The child of this ticket has ended with this answer. The child is no longer in flight, and a
 -- failed wait is counted. Only the child's output folder changed. If what the child sees has not
--- changed since its spawn, it left exactly what was determined at the spawn.
+-- changed since its spawn, the child left exactly what was determined at the spawn.
 pub record HasEnded (ticket : ℕ) (answer : Result Ended StartFault) (well stood : Type 0) (before after : World) (old new : Counts) : Type 0 where
   pub counted : new ≡ counted_finish ticket answer old
   pub answered : well → IsOk answer
@@ -150,19 +152,19 @@ abbrev pub ran_from : Awaited → Ran → Ran
 ran_from (awaited.Child launched) ran = ran
 ran_from (awaited.Record again) ran = unstarted ran
 
--- what came of the unit is how this answer is judged, together with the files of this world
+-- `ran` is what came of the unit, as judged from this answer and the files of this world
 abbrev pub IsJudged : Project → Planned → Command → Awaited → Ended → World → Ran → Type 0
 IsJudged project u c by ended w ran = ran ≡ ran_from by (ran_of project u c ended w.files)
 
 -- The record that a good unit has afterwards.
 
--- the names of the inputs in a child's answer, if it left these files
+-- the names of the inputs in a child's answer, if the child left these files
 abbrev pub names_of : Project → Planned → Command → Ended → Map → List InputName
 names_of project u c ended files = names_in (answered_of project u c ended (file_at (dep_info_of project u) files))
 
 -- The record of a child's answer. The record has the command, the inputs with their values in this
--- world, and the run number. The needed units with their numbers, and the child's streams, are also
--- in the record.
+-- world, and the run number. It also has the needed units with their numbers, and the child's
+-- streams.
 abbrev pub record_of : Project → Planned → Command → ℕ → Ended → World → Record
 record_of project u c number ended w =
     kept_of (records_folder project) u.key c (map (input_in c.target w) (names_of project u c ended w.files)) number (numbered (records (records_folder project) w) (needed_keys project u)) ended
@@ -192,7 +194,7 @@ abbrev pub recorded_called : Project → Planned → Command → World → List 
 recorded_called project u c w names (awaited.Child launched) = kept_called (records_folder project) u.key c.target w names
 recorded_called project u c w names (awaited.Record again) = if again.numbered then [] else migrated_called (records_folder project) u.key w
 
--- the calls that write the record of a good unit; a bad unit has none
+-- the calls that write the record of a good unit; for a bad unit there are no such calls
 abbrev pub judged_called : Project → Planned → Command → World → Awaited → Validated → List Call
 judged_called project u c w by j = if is_some j.ran.bad then [] else recorded_called project u c w j.names by
 
@@ -256,7 +258,8 @@ pub record FailsToBegin (is_modelled : Bool) (project : Project) (u : Planned) (
   pub tried : IsTrue is_modelled → (new.counts.starts ≡ old.counts.starts) ⊎ Differs project u c old.world
   pub most : new.most ≡ old.most
 
--- What is true of a build stays true when a unit begins, both over true records and over none.
+-- What is true of a build stays true when a unit begins, whether the build has true records or no
+-- records.
 pub record BeginsBuild (b : BuildContext) (done : List (Option (List Directive))) (index : ℕ) (u : Planned) (result : Result Begun StepFault) (before now : Option ℕ) (old new : At) : Type 0 where
   pub begun : (states : List (State BadUnit)) → CanBegin b states done index u before old.world → IfOk result (λ begun. IsBegun b index begun now new.world new.counts.starts.flying new.still)
   pub keeps : (states : List (State BadUnit)) → CanBegin b states done index u before old.world → BuildInvariant b (slice_set states index state.Begun) done now new.world
@@ -273,8 +276,8 @@ pub record KeepsStore {T : Type 0} (is_modelled : Bool) (result : Result T StepF
   pub numbers : IsTrue is_modelled → OnOk result (HasNumbers (records before.folder new.world) now.numbers)
 
 -- Only this unit's folder and record change. All other children stay in flight. Another child
--- stands still unless a change at these paths touches what it sees. At most one call failed, and
--- was the last.
+-- stands still unless a change at these paths touches what it sees. At most one call failed, and no
+-- call came after it.
 pub record ChangesUnit {T : Type 0} (folder key : List ℕ) (ended : Option SpawnedChild) (Goes : T → Starts → Starts → Type 0) (May : StepFault → Starts → Starts → Type 0) (result : Result T StepFault) (old new : At) : Type 0 where
   pub only : ChangesOnly (is_of folder key) old.world new.world
   pub still : KeepsOthersStill ended (is_of folder key) old.counts.starts.flying old.still new.still
@@ -297,8 +300,8 @@ pub record AnswersThen (by : Awaited) (answer : Result Ended StartFault) (well :
   pub ends : EndsBy by answer well old.still old.world world old.counts counts
   pub comes : Then world counts
 
--- What came of a unit with a child is how the child's answer is judged. What came of a unit without
--- a child is how the replayed answer is judged. A good unit then has the record `record_left`.
+-- What came of a unit with a child is judged from the child's answer. What came of a unit without a
+-- child is judged from the replayed answer. A good unit then has the record `record_left`.
 pub record AnswersUnit (is_modelled : Bool) (project : Project) (u : Planned) (begun : Begun) (before now : Store) (old new : At) (ran : Ran) : Type 0 where
   pub started : ran.started ≡ is_some (child_of begun)
   pub directives : directives_in (outcome_by finite.empty ran) ≡ ran.directives
@@ -321,7 +324,8 @@ pub record EndsUnit {T : Type 0} (is_modelled : Bool) (project : Project) (u : P
   pub untaken : awaits_number begun.awaited ≡ false → now.next ≡ before.next
   pub most : new.most ≡ old.most
 
--- What is true of a build stays true when a unit answers, both over true records and over none.
+-- What is true of a build stays true when a unit answers, whether the build has true records or no
+-- records.
 pub record AnswersBuild (b : BuildContext) (index : ℕ) (u : Planned) (begun : Begun) (result : Result Ran StepFault) (before now : Option ℕ) (old new : At) : Type 0 where
   pub outcome : (states : List (State BadUnit)) (done : List (Option (List Directive))) → CanAnswer b states done index u begun before old.world old.counts.starts.flying old.still
       → IfOk result (λ ran. slice_get (outcomes_in b) index ≡ Some (outcome_by (files_in u.out new.world.files) ran))
@@ -331,7 +335,8 @@ pub record AnswersBuild (b : BuildContext) (index : ℕ) (u : Planned) (begun : 
   pub others : (states : List (State BadUnit)) (done : List (Option (List Directive))) (other : ℕ) (its : Begun) → CanAnswer b states done index u begun before old.world old.counts.starts.flying old.still
       → BeginsApart b states index (child_of begun) other its before old.world old.counts.starts.flying old.still → IsBegun b other its now new.world new.counts.starts.flying new.still
 
--- What is true of a build stays true when a unit's answer is dropped, both over true records and over none.
+-- What is true of a build stays true when a unit's answer is dropped, whether the build has true
+-- records or no records.
 pub record DropsBuild (b : BuildContext) (index : ℕ) (u : Planned) (begun : Begun) (next : Option ℕ) (old new : At) : Type 0 where
   pub keeps : (states : List (State BadUnit)) (done : List (Option (List Directive))) → CanAnswer b states done index u begun next old.world old.counts.starts.flying old.still → BuildInvariant b states done next new.world
   pub others : (states : List (State BadUnit)) (done : List (Option (List Directive))) (other : ℕ) (its : Begun) → CanAnswer b states done index u begun next old.world old.counts.starts.flying old.still
@@ -369,8 +374,8 @@ pub record HasTold (is_modelled : Bool) (child : Answers) (project : Project) (i
   pub answered : StepAnswers is_modelled child project index u begun answer before now old new
   pub told : TellsAnswer project u begun.difference answer result
 
--- Either the unit could not begin, with this fault. Or the unit began and then answered. The answer
--- starts from the store and the place that the beginning left.
+-- Either the unit could not begin, because of this fault, or the unit began and then answered. The
+-- answer starts from the store and the place that the beginning left.
 abbrev pub RunsUnit : {P : Type 0} → (P → At) → Bool → Answers → Setup → Project → List (Option (List Directive)) → ℕ → Planned → Result Outcome StepFault → Store → Store → P → P → Type 0
 RunsUnit {P} at is_modelled child setup project done index u result before now old new =
     ((fault : StepFault) × (result ≡ Err fault) × StepBegins is_modelled child setup project done index u (Err fault) before now (at old) (at new))

@@ -74,7 +74,8 @@ pub record StartsRise (ticket : ℕ) (old new : Starts) : Type 0 where
   pub free : is_flying ticket old.flying ≡ false
   pub lifted : new ≡ record old { count = up old.count; flying = old.flying ++ child ∷ [] }
 
--- How the counters of starts change when a unit begins. `LandsBy` is how they change when it answers.
+-- How the counters of starts change when a unit begins. `LandsBy` is how they change when the unit
+-- answers.
 abbrev pub BeginsBy : Option SpawnedChild → Starts → Starts → Type 0
 BeginsBy None old new = new ≡ old
 BeginsBy (Some launched) old new = StartsRise launched.ticket old new
@@ -93,20 +94,21 @@ Drops (Some launched) old new = (result : Result Ended StartFault) × (new ≡ c
 
 -- Calls on files and variables that are made one after the other.
 
--- How these calls ended with this fault of a build. One of them failed: all before it succeeded,
--- and no call came after it. Or memory ran out after the first few. No other fault is possible.
+-- How these calls ended with this fault of a build. Either one of them failed, all calls before it
+-- succeeded, and no call came after it, or memory ran out after the first few. No other fault is
+-- possible.
 abbrev pub StopsAt : BuildFault → List Call → Counts → Counts → Type 0
 StopsAt (Device unit (device.Place fault)) calls old new = FailsAt fault calls old new
 StopsAt build.OutOfMemory calls old new = MakesSome calls old new
 StopsAt e calls old new = ⊥
 
--- After a success exactly these calls were made. After a fault, the calls stopped at one of these.
+-- After a success exactly these calls were made. After a fault, the calls stopped at one of them.
 -- Each call may fail with its own fault, so the counters determine the order of the calls.
 abbrev pub MakesInTurn : {T : Type 0} → Result T BuildFault → List Call → Counts → Counts → Type 0
 MakesInTurn result calls old new = MatchResult result (λ x. new ≡ past_calls calls old) (λ e. StopsAt e calls old new)
 
--- The cause of a step's fault. A call that failed had this fault and was the last. If no number was
--- left, or memory ran out, no call failed.
+-- The cause of a step's fault. If a call failed, it had this fault, and no call came after it. If
+-- no number was left, or memory ran out, no call failed.
 abbrev pub StepCause : StepFault → Counts → Counts → Type 0
 StepCause (step.Store (store.Place fault)) old new = FailedLast (Called fault) old new
 StepCause (step.Store store.NumbersSpent) old new = new.failures ≡ old.failures
@@ -118,40 +120,41 @@ StepCause (step.Start fault) old new = FailedLast (Started fault) old new
 abbrev pub StepTakes : {T : Type 0} → (T → Starts → Starts → Type 0) → (StepFault → Starts → Starts → Type 0) → Result T StepFault → Counts → Counts → Type 0
 StepTakes Goes May result old new = MatchResult result (λ x. (new.failures ≡ old.failures) × Goes x old.starts new.starts) (λ e. May e old.starts new.starts × StepCause e old new)
 
--- With which faults a unit may fail to begin, and how the starts change with each. The starts are
--- unchanged, or, if a spawn was tried, one more is counted. No further child is in flight.
+-- The faults with which a unit may fail to begin, and how the starts change with each. If a spawn
+-- was tried, one more start is counted. Otherwise the starts are unchanged. No further child is in
+-- flight.
 abbrev pub BeginFaults : Option ℕ → StepFault → Starts → Starts → Type 0
 BeginFaults next (step.Store (store.Place fault)) old new = (fault ≢ place.Write) × (new ≡ old)
 BeginFaults next (step.Store store.NumbersSpent) old new = (next ≡ None) × (new ≡ old)
 BeginFaults next (step.Store store.OutOfMemory) old new = (new ≡ old) ⊎ (new ≡ up_starts old)
 BeginFaults next (step.Start fault) old new = (fault ≡ start.CannotStart) × (new ≡ up_starts old)
 
--- with which faults the one call may fail that removes the files of a folder
+-- the faults with which the one call that removes the files of a folder may fail
 abbrev pub MayRemove : StepFault → Starts → Starts → Type 0
 MayRemove (step.Store (store.Place fault)) old new = (fault ≡ place.Remove) × (new ≡ old)
 MayRemove (step.Store store.NumbersSpent) old new = ⊥
 MayRemove (step.Store store.OutOfMemory) old new = new ≡ old
 MayRemove (step.Start fault) old new = ⊥
 
--- With which faults the calls may fail that a unit makes after its child's end or without a child.
--- These calls read and write files, list folders and read variables.
+-- A unit makes calls after its child's end, or without a child. These are the faults with which
+-- those calls may fail. The calls read and write files, list folders and read variables.
 abbrev pub MayFollow : StepFault → Starts → Starts → Type 0
 MayFollow (step.Store (store.Place fault)) old new = (fault ≢ place.Remove) × (new ≡ old)
 MayFollow (step.Store store.NumbersSpent) old new = ⊥
 MayFollow (step.Store store.OutOfMemory) old new = new ≡ old
 MayFollow (step.Start fault) old new = ⊥
 
--- With which faults a unit may fail to answer. The child's end is awaited, the dep-info is read,
--- and the record is kept or gets a number. `NumbersSpent` is possible only if the unit has no child
--- and no number is left.
+-- The faults with which a unit may fail to answer. The child's end is awaited, the dep-info is
+-- read, and the record is kept or gets a number. `NumbersSpent` is possible only if the unit has no
+-- child and no number is left.
 abbrev pub MayAnswer : Option ℕ → Option SpawnedChild → StepFault → Starts → Starts → Type 0
 MayAnswer next launched (step.Store (store.Place fault)) old new = (fault ≢ place.Remove) × LandsBy launched old new
 MayAnswer next launched (step.Store store.NumbersSpent) old new = (next ≡ None) × (launched ≡ None) × (new ≡ old)
 MayAnswer next launched (step.Store store.OutOfMemory) old new = LandsBy launched old new
 MayAnswer next launched (step.Start fault) old new = IsSome launched × ((fault ≡ start.Died) ⊎ (fault ≡ start.Capture)) × LandsBy launched old new
 
--- The fault comes from what is done only if something differs. A run number is taken, the record or
--- the files are removed, or the child is spawned.
+-- The fault comes from a step that a unit takes only if something differs: a run number is taken,
+-- the record or the files are removed, or the child is spawned.
 abbrev pub starts : StepFault → Bool
 starts (step.Store (store.Place place.Remove)) = true
 starts (step.Store (store.Place fault)) = false
@@ -163,14 +166,14 @@ starts (step.Start fault) = true
 abbrev pub HasCause : BuildFault → Counts → Counts → Type 0
 HasCause fault old new = StepCause (fault_in fault) old new
 
--- the build's fault comes from what is done only if something differs, as `starts` says
+-- the build's fault comes from a step that a unit takes only if something differs, as `starts` says
 abbrev pub is_of_start : BuildFault → Bool
 is_of_start fault = starts (fault_in fault)
 
 -- Calls that are made one after the other, for faults without a key.
 
--- How these calls ended with this fault of a step. One of them failed: all before it succeeded, and
--- no call came after it. Or memory ran out after the first few.
+-- How these calls ended with this fault of a step. Either one of them failed, all calls before it
+-- succeeded, and no call came after it, or memory ran out after the first few.
 abbrev pub StepStopsAt : StepFault → List Call → Counts → Counts → Type 0
 StepStopsAt (step.Store (store.Place fault)) calls old new = FailsAt fault calls old new
 StepStopsAt (step.Store store.NumbersSpent) calls old new = ⊥

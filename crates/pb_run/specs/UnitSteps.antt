@@ -43,7 +43,8 @@ pub data Premise : Type 0 where
   TrustedRecords : Premise
   NoRecords : Premise
 
--- what facts about a build refer to: its premise, the child, the setup, the project and the sources
+-- what the facts about a build refer to: the build's premise, the child, the setup, the project and
+-- the sources
 pub record BuildContext : Type 0 where
   pub premise : Premise
   pub child : Answers
@@ -168,8 +169,8 @@ pub record IsInFlight (child : Answers) (c : Command) (view : World) (ticket : �
   pub stands : still ticket
 
 -- A record of the unit may be kept with this number. No record counts for the unit now, and no
--- record has or names the number. The number is below the next one. The units that it needs have
--- their records.
+-- record has or names the number. The number is below the next one. The units that this unit needs
+-- have their records.
 pub record AwaitsRecord (b : BuildContext) (u : Planned) (number : ℕ) (next : Option ℕ) (w : World) : Type 0 where
   pub gone : records_in b w u.key ≡ None
   pub unnamed : NoneNames (records_in b w) number
@@ -185,8 +186,8 @@ abbrev pub NothingDiffers : Premise → BuildContext → Planned → Command →
 NothingDiffers TrustedRecords b u c w = (r : Record) × IsSame reading (records_folder b.project) u.key c w r
 NothingDiffers NoRecords b u c w = ⊥
 
--- Either the unit has a child in flight. Or nothing differs from its record, and it has what this
--- record replays.
+-- Either the unit has a child in flight, or nothing differs from the unit's record and the unit has
+-- what this record replays.
 abbrev pub WaitsBy : BuildContext → Planned → Command → World → Awaited → Option ℕ → World → List ChildInFlight → (ℕ → Type 0) → Type 0
 WaitsBy b u c view (awaited.Child launched) next w flying still = IsInFlight b.child c view launched.ticket flying still × AwaitsBy b.premise b u launched.number next w
 WaitsBy b u c view (awaited.Record again) next w flying still = NothingDiffers b.premise b u c w × IsReplayed (records_in b w u.key) again
@@ -203,13 +204,13 @@ abbrev pub WritesTo : List ℕ → Option SpawnedChild → List ChildInFlight �
 WritesTo out None flying = Unit {0}
 WritesTo out (Some launched) flying = IfSome (child_at launched.ticket flying) (λ spawned. spawned.command.out ≡ Some out)
 
--- Each child other than this one that stood still before stands still afterwards. This holds if
--- changes at these paths cannot touch what that child sees.
+-- Take another child that stood still before. If changes at these paths cannot touch what that
+-- child sees, it stands still afterwards.
 abbrev pub KeepsOthersStill : Option SpawnedChild → (List ℕ → Bool) → List ChildInFlight → (ℕ → Type 0) → (ℕ → Type 0) → Type 0
 KeepsOthersStill launched inside flying before after =
     (ticket : ℕ) → IfSome launched (λ its. ticket ≢ its.ticket) → ((v w : World) → ChangesOnly inside v w → StandsStill ticket flying v w) → before ticket → after ticket
 
--- From which states a step may start.
+-- The states from which a step may start.
 
 -- The unit at an index can begin: the unit has not begun, and all units that it reaches have
 -- answered and are good.

@@ -1,4 +1,5 @@
--- In what a command differs from the recorded one: in one of its parts, which have an order, or in a variable.
+-- How a command differs from the recorded one: in one of its parts, which are compared in a fixed
+-- order, or in a variable.
 use Rattle.std.specs.Prelude.{◌≡◌, ◌++◌, ◌∷◌, ◌&&◌, if◌then◌else◌, true, ℕ, List, [], Option, Some, None}
 use Rattle.std.specs.Str.{bytes_eq}
 use Rattle.std.specs.Ordering.{nat_cmp, is_lt}
@@ -11,7 +12,7 @@ use Rattle.pb_record.specs.declared.recorded_command.RecordedCommand.{RecordedCo
 use Rattle.pb_store.specs.declared.difference.CommandPart.{CommandPart}
 use Rattle.pb_store.specs.declared.difference.CommandPart.TheVariants.{Program, Words, Folder, Out, Target, Toolchain, Reads}
 
--- the parts of a command, without its variables, in the order in which they are compared
+-- the parts of a command in the order in which they are compared; the variables are not among them
 abbrev pub parts : List CommandPart
 parts = Program ∷ Words ∷ Folder ∷ Out ∷ Target ∷ Toolchain ∷ Reads ∷ []
 

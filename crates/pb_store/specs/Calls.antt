@@ -31,8 +31,8 @@ opened path fault = open_fault.Place path fault
 abbrev pub FailedLast : Failure → Counts → Counts → Type 0
 FailedLast failure old new = (new.failures ≡ up old.failures) × (new.late ≡ 0) × (new.last ≡ Some failure)
 
--- The cause of a fault of the store. For a fault of the place, the failed call had this fault and
--- was the last. For any other fault, no call failed.
+-- The cause of a fault of the store. For a fault of the place, a call failed with this fault and
+-- was the last call. For any other fault, no call failed.
 abbrev pub HasCause : StoreFault → Counts → Counts → Type 0
 HasCause (Place fault) old new = FailedLast (Called fault) old new
 HasCause NumbersSpent old new = new.failures ≡ old.failures
@@ -90,7 +90,7 @@ MayMigrate next NumbersSpent = next ≡ None
 MayMigrate next OutOfMemory = Unit {0}
 
 -- The cause of a fault of opening. Either the call on this path failed with this fault and was the
--- last. Or memory ran out and no call failed.
+-- last call, or memory ran out and no call failed.
 abbrev pub FailsToOpen : OpenFault → Counts → Counts → Type 0
 FailsToOpen (open_fault.Place path fault) old new = ((fault ≡ place.List) ⊎ (fault ≡ place.Read)) × FailedLast (Called fault) old new × (named_in new ≡ path)
 FailsToOpen open_fault.OutOfMemory old new = new.failures ≡ old.failures
@@ -100,9 +100,9 @@ FailsToOpen open_fault.OutOfMemory old new = new.failures ≡ old.failures
 abbrev pub CountsAsOpen : {T : Type 0} → Result T OpenFault → Counts → Counts → Type 0
 CountsAsOpen result old new = (new.starts ≡ old.starts) × MatchResult result (λ x. new.failures ≡ old.failures) (λ e. FailsToOpen e old new)
 
--- How one call of the place ended with this fault of the store. If the fault is that of the place,
--- the call failed with it. If no number is left, the call was not made. If memory ran out, it may
--- have been made.
+-- How one call of the place ended with this fault of the store. If it is a fault of the place, the
+-- call failed with this fault. If no number is left, the call was not made. If memory ran out, the
+-- call may have been made.
 abbrev pub EndsOnce : Call → StoreFault → Counts → Counts → Type 0
 EndsOnce call (Place fault) old new = Fails fault call old new
 EndsOnce call NumbersSpent old new = new ≡ old
@@ -112,11 +112,11 @@ EndsOnce call OutOfMemory old new = (new ≡ old) ⊎ (new ≡ past_call old)
 abbrev pub CallsOnce : {T : Type 0} → Call → Result T StoreFault → Counts → Counts → Type 0
 CallsOnce call result old new = MatchResult result (λ x. new ≡ past_call old) (λ e. EndsOnce call e old new)
 
--- if the fault is that of a failed write, the write of this file failed
+-- if the fault says that a write failed, it was the write of this file that failed
 abbrev pub FailsToWrite : {T : Type 0} → List ℕ → Result T StoreFault → Counts → Type 0
 FailsToWrite path result new = IfErr result (λ e. e ≡ Place place.Write → new.failing ≡ Some (call.Write path))
 
--- the fault is that of a call that looks: it reads a file, lists a folder or reads a variable
+-- the fault is that of a call that looks: one that reads a file, lists a folder or reads a variable
 abbrev pub is_look : PlaceFault → Bool
 is_look place.Read = true
 is_look place.List = true
@@ -131,19 +131,20 @@ looked (Place fault) = is_look fault
 looked NumbersSpent = false
 looked OutOfMemory = false
 
--- the fault is that of one of these files, which is a record that could not be read; otherwise memory ran out
+-- either one of these files is a record that could not be read, and the fault is that of this file,
+-- or memory ran out
 abbrev pub ReadsOneOf : List (List ℕ) → OpenFault → Type 0
 ReadsOneOf paths (open_fault.Place at fault) = (fault ≡ place.Read) × Contains paths at × (ends_as_record at ≡ true)
 ReadsOneOf paths open_fault.OutOfMemory = Unit {0}
 
--- The fault is that of the folder, which could not be listed, or of a record directly in it, which
--- could not be read. Otherwise memory ran out.
+-- The fault says that the folder could not be listed, that a record directly in it could not be
+-- read, or that memory ran out.
 abbrev pub OpensBy : Bool → List ℕ → World → OpenFault → Type 0
 OpensBy is_modelled folder w (open_fault.Place at fault) = ((fault ≡ place.List) × (at ≡ folder)) ⊎ ((fault ≡ place.Read) × (ends_as_record at ≡ true) × (IsTrue is_modelled → Contains (listed_directly folder w) at))
 OpensBy is_modelled folder w open_fault.OutOfMemory = Unit {0}
 
 -- A call of the store only looks: it changes nothing but the counters. If a call of the place
--- failed, it was the last, and its fault is allowed.
+-- failed, its fault is allowed, and no call came after it.
 pub record OnlyLooks {T : Type 0} (May : StoreFault → Type 0) (result : Result T StoreFault) (old new : At) : Type 0 where
   pub world : new.world ≡ old.world
   pub most : new.most ≡ old.most
@@ -158,7 +159,7 @@ pub record OnlyOpens {T : Type 0} (result : Result T OpenFault) (old new : At) :
   pub takes : CountsAsOpen result old.counts new.counts
 
 -- A call of the store changes files only at these paths, and starts no child. If a call of the
--- place failed, it was the last, and its fault is allowed.
+-- place failed, its fault is allowed, and no call came after it.
 pub record ChangesOnlyAt {T : Type 0} (inside : List ℕ → Bool) (May : StoreFault → Type 0) (result : Result T StoreFault) (old new : At) : Type 0 where
   pub only : ChangesOnly inside old.world new.world
   pub most : new.most ≡ old.most

@@ -33,8 +33,8 @@ pub record IsFirst {A B : Type 0} (Holds : A → Type 0) (told : A → B) (row :
   pub fails : Holds here → ⊥
   pub tells : b ≡ told here
 
--- No name is reported, and `Holds` is true for all items of the row. Or the reported name is that
--- of the first item for which it is false.
+-- Either no name is reported, and `Holds` is true for all items of the row, or the reported name is
+-- that of the first item for which `Holds` is false.
 abbrev pub FirstOrAll : {A : Type 0} → ((List ℕ × A) → Type 0) → List (List ℕ × A) → Option (List ℕ) → Type 0
 FirstOrAll Holds row None = AllByRecursion Holds row
 FirstOrAll Holds row (Some b) = IsFirst Holds (λ x. x.0) row b
@@ -49,16 +49,17 @@ abbrev pub FirstInput : List ℕ → List inputs.Input → World → Option Inpu
 FirstInput target row w None = Agrees target row w
 FirstInput target row w (Some name) = IsFirst (IsPresent target w) name_of row name
 
--- the record of the needed unit has the number that is named with the unit
+-- the number of the needed unit's record is the number in the pair
 abbrev pub HasNumber : RecordMap → (List ℕ × ℕ) → Type 0
 HasNumber at need = number_if (at need.0) ≡ Some need.1
 
--- the needed unit is named by a relative path, and its folder contains exactly the files that are named with it
+-- the needed unit is named by a relative path, and its folder contains exactly the files in the
+-- pair
 abbrev pub HasFiles : List ℕ → Map → (List ℕ × List (List ℕ × List ℕ)) → Type 0
 HasFiles folder files need = (is_relative need.0 ≡ true) × (contents (out_of folder need.0) files ≡ need.1)
 
 -- The needed units are as the record names them, in its format. `FirstNeed` is the first unit, in
--- the record's order, that is not.
+-- the record's order, that is not as the record names it.
 abbrev pub AreNeeded : List ℕ → RecordMap → Map → Needed → Type 0
 AreNeeded folder at files (Copies copies) = AllByRecursion (HasFiles folder files) copies
 AreNeeded folder at files (Numbers number needs) = AllByRecursion (HasNumber at) needs
@@ -88,8 +89,8 @@ abbrev pub FirstFrom : List ℕ → RecordMap → commands.Command → World →
 FirstFrom folder at c w r None = IsAsRecorded folder at c w r
 FirstFrom folder at c w r (Some d) = DiffersFrom folder at c w r d
 
--- The report on a unit: `NoRecord` if no record counts for it, or else the report on its record.
--- `FirstDifference` is this report for a folder of a world.
+-- The report on a unit. If no record counts for the unit, this is `NoRecord`. Otherwise it is the
+-- report on the unit's record. `FirstDifference` is this report for a folder of a world.
 abbrev pub FirstOf : List ℕ → RecordMap → commands.Command → World → Option Record → Option Difference → Type 0
 FirstOf folder at c w None found = found ≡ Some NoRecord
 FirstOf folder at c w (Some r) found = FirstFrom folder at c w r found
@@ -97,7 +98,7 @@ FirstOf folder at c w (Some r) found = FirstFrom folder at c w r found
 abbrev pub FirstDifference : List ℕ → List ℕ → commands.Command → World → Option Difference → Type 0
 FirstDifference folder key c w found = FirstOf folder (records folder w) c w (records folder w key) found
 
--- if the record has copies of needed units, it names each of them by a relative path
+-- if the record has copies of needed units, it names each of these units by a relative path
 abbrev pub NamesPaths : Needed → Type 0
 NamesPaths (Copies copies) = AllByRecursion (λ c. is_relative c.0 ≡ true) copies
 NamesPaths (Numbers number needs) = Unit {0}
@@ -128,7 +129,7 @@ same_files (x ∷ xs) (y ∷ ys) = (bytes_eq x.0 y.0 && bytes_eq x.1 y.1) && sam
 abbrev pub replayed : Record → Replayed
 replayed r = record { ended = record { status = pos 0; stdout = r.stdout; stderr = r.stderr }; numbered = is_some (number_of r) }
 
--- `again` is what the record that counts for a unit replays
+-- there is a record that counts for a unit, and `again` is what this record replays
 abbrev pub IsReplayed : Option Record → Replayed → Type 0
 IsReplayed found again = option_map replayed found ≡ Some again
 
@@ -142,6 +143,6 @@ abbrev pub CarriesReplayed : Option Record → Compared → Type 0
 CarriesReplayed found (Differs difference) = Unit {0}
 CarriesReplayed found (Same again) = IsReplayed found again
 
--- the record replays a child that ended so
+-- the record replays a child that ended with this status and these streams
 abbrev pub IsAnswered : Option Record → Ended → Type 0
 IsAnswered found ended = option_map (λ (r : Record). (replayed r).ended) found ≡ Some ended

@@ -1,4 +1,4 @@
--- How each call of the store changes the records of its folder and its run numbers.
+-- How each call of the store changes the store's run numbers and the records in its folder.
 use Rattle.std.specs.Prelude.{◌≡◌, ℕ, List, Option, Some, None, ◌⊎◌, pos, ◌↔◌, ◌<◌, true, map, Contains, Bool, false, not, is_some, Result, IfErr, if◌then◌else◌, max, Err, OnOk, MatchResult}
 use Rattle.std.specs.FinMap as finite
 use Rattle.std.specs.List.{fold}
@@ -34,7 +34,7 @@ use Rattle.pb_store.specs.declared.store.Store.{Store}
 abbrev pub number_in : List (List ℕ × Option ℕ) → List ℕ → Option ℕ
 number_in table key = option_and_then (λ (number : Option ℕ). number) (value_at key table)
 
--- the table has for the needed unit the number that is named with it
+-- the table's number for the needed unit is the number in the pair
 abbrev pub IsHeld : List (List ℕ × Option ℕ) → (List ℕ × ℕ) → Type 0
 IsHeld table need = number_in table need.0 ≡ Some need.1
 
@@ -42,14 +42,14 @@ IsHeld table need = number_in table need.0 ≡ Some need.1
 abbrev pub HasNumbers : RecordMap → List (List ℕ × Option ℕ) → Type 0
 HasNumbers at table = (key : List ℕ) → number_in table key ≡ number_if (at key)
 
--- The folder `f` is the output folder of one of these units, or the record of such a unit says that
--- it reads `f`.
+-- The folder `f` is the output folder of one of these units, or is read by the command in such a
+-- unit's record.
 pub data ReadBy (at : RecordMap) (folder : List ℕ) (needs : List (List ℕ)) (f : List ℕ) : Type 0 where
   itself : (need : List ℕ) → Contains needs need → f ≡ out_of folder need → ReadBy at folder needs f
   further : (need : List ℕ) (s : Record) → Contains needs need → at need ≡ Some s → Contains s.asked.reads f → ReadBy at folder needs f
 
 -- Each needed unit has a record of format 2, with a number below `number`. The folders in `reads`
--- are exactly those of these units and those that their records read.
+-- are exactly the folders of these units and the folders that the commands in their records read.
 pub record HasNeeds (at : RecordMap) (folder : List ℕ) (reads : List (List ℕ)) (needs : List (List ℕ)) (number : ℕ) : Type 0 where
   pub stand : (need : List ℕ) → Contains needs need → (s : Record) × (at need ≡ Some s) × ((n : ℕ) × (number_of s ≡ Some n) × (n < number))
   pub reads_are : (f : List ℕ) → Contains reads f ↔ ReadBy at folder needs f
@@ -62,7 +62,7 @@ or_zero (Some n) = n
 abbrev pub numbered : RecordMap → List (List ℕ) → List (List ℕ × ℕ)
 numbered at needs = map (λ (need : List ℕ). (need, or_zero (number_if (at need)))) needs
 
--- In this world the child is honest on the command. The child's reply is good, and has these input
+-- In this world the child is honest on the command. The child's reply is good, with these input
 -- names and streams. The files of the reply are those in the unit's folder.
 pub record IsEarned (judge : Judge) (child : Answers) (folder key : List ℕ) (c : Command) (names : List InputName) (ended : Ended) (w : World) : Type 0 where
   pub honest : IsHonest judge child c w
@@ -76,21 +76,21 @@ pub record IsEarned (judge : Judge) (child : Answers) (folder key : List ℕ) (c
 abbrev pub kept_of : List ℕ → List ℕ → Command → List Input → ℕ → List (List ℕ × ℕ) → Ended → Record
 kept_of folder key c inputs number pairs ended = record { key = key; asked = of_parts c (out_of folder key); inputs = inputs; needed = Numbers number pairs; stdout = ended.stdout; stderr = ended.stderr }
 
--- The record of a unit after a call that was to put a record there. No record counts for the unit,
--- or the old record does, or the record that was to be put does.
+-- The record of a unit after a call that was to put a record there. Either no record counts for the
+-- unit, or the old record counts, or the one that was to be put.
 abbrev pub Leaves : Option Record → Option Record → Option Record → Type 0
 Leaves put old new = (new ≡ None) ⊎ ((new ≡ old) ⊎ (new ≡ put))
 
--- When a record may be kept, so that it is true. The answer is earned, the needed units have their
--- records, and no record has or names this number.
+-- When a record may be kept, so that the kept record is true. The answer is earned, the needed
+-- units have their records, and no record has or names this number.
 pub record IsKept (judge : Judge) (child : Answers) (folder key : List ℕ) (c : Command) (needs : List (List ℕ)) (names : List InputName) (ended : Ended) (number : ℕ) (w : World) : Type 0 where
   pub earned : IsEarned judge child folder key c names ended w
   pub needs_stand : HasNeeds (records folder w) folder c.reads needs number
   pub unnamed : NoneNames (records folder w) number
 
 -- When a record may be put into the folder. The record contains the reply of an honest child in
--- this world, and names records that are there. No record that counts names its unit with its
--- number.
+-- this world, and names records that are there. No record that counts contains this unit's key
+-- together with this run number.
 pub record MayPut (read : RecordParser) (judge : Judge) (child : Answers) (folder key : List ℕ) (w : World) (r : Record) (number : ℕ) : Type 0 where
   pub honest : IsHonest judge child (command_of r.asked) w
   pub agree : Agrees r.asked.target r.inputs w
@@ -106,7 +106,7 @@ pub record MayPut (read : RecordParser) (judge : Judge) (child : Answers) (folde
 abbrev pub numbered_record : Record → ℕ → List (List ℕ × ℕ) → Record
 numbered_record r number pairs = record { key = r.key; asked = r.asked; inputs = r.inputs; needed = Numbers number pairs; stdout = r.stdout; stderr = r.stderr }
 
--- a record counts for the unit, and it has no number because it is of format 1
+-- a record counts for the unit, and this record has no number because it is of format 1
 abbrev pub lacks_number : Option Record → Bool
 lacks_number None = false
 lacks_number (Some r) = not (is_some (number_of r))
@@ -122,9 +122,9 @@ abbrev pub migrated : Option ℕ → List (List ℕ × ℕ) → Option Record �
 migrated next pairs None = None
 migrated next pairs (Some r) = migrated_by (number_of r) next pairs r
 
--- When a record may be migrated, so that it is true. Nothing differs from it, and its child is
--- honest. What its command reads is grounded, and the needed units have their records. No record
--- has or names the new number.
+-- When a record may be migrated, so that the new record is true. Nothing differs from the old
+-- record, and the child is honest on its command. Each unit that the command reads is grounded, and
+-- the needed units have their records. No record has or names the new number.
 pub record IsMigrated (judge : Judge) (child : Answers) (folder key : List ℕ) (c : Command) (needs : List (List ℕ)) (number : ℕ) (w : World) (r : Record) : Type 0 where
   pub same : IsSame reading folder key c w r
   pub honest : IsHonest judge child c w
@@ -132,7 +132,7 @@ pub record IsMigrated (judge : Judge) (child : Answers) (folder key : List ℕ) 
   pub needs_stand : HasNeeds (records folder w) folder c.reads needs number
   pub unnamed : NoneNames (records folder w) number
 
--- the number that was next was taken, and the number after it is now next
+-- the next number was taken, and the number after it is now the next one
 abbrev pub TakesNext : Option ℕ → Option ℕ → Type 0
 TakesNext old new = (number : ℕ) × (old ≡ Some number) × (new ≡ after number)
 
@@ -147,7 +147,7 @@ pub record MigratesNext (result : Result Unit StoreFault) (old new : Option ℕ)
   pub before : IfErr result (λ e. looked e ≡ true → new ≡ old)
   pub used : IfErr result (λ e. e ≡ Place Write → TakesNext old new)
 
--- The greatest number that a record has or names. `greatest_if` is 0 without a record.
+-- The greatest number that a record has or names. `greatest_if` is 0 if there is no record.
 abbrev pub greatest_named : Needed → ℕ
 greatest_named (Copies copies) = 0
 greatest_named (Numbers number needs) = max number (fold (λ g (pair : List ℕ × ℕ). max g pair.1) 0 needs)
@@ -157,7 +157,7 @@ greatest_if None = 0
 greatest_if (Some r) = greatest_named r.needed
 
 -- The greatest number that the record at a path has or names, even if the record does not count.
--- `greatest_of` is the greatest of all these paths.
+-- `greatest_of` is the greatest number for any of these paths.
 abbrev pub greatest_at : Map → List ℕ → ℕ
 greatest_at m path = if ends_as_record path then greatest_if (read_text reading (finite.get m path)) else 0
 
@@ -169,8 +169,8 @@ greatest_of m paths = fold (λ g path. max g (greatest_at m path)) 0 paths
 abbrev pub next_in : List ℕ → World → Option ℕ
 next_in folder w = after (greatest_of w.files (listed_directly folder w))
 
--- The store of a folder has its next run number and the run numbers of its records. All numbers
--- that a record has or names are below the next one.
+-- The store of a folder has the folder's next run number and the run numbers of its records. All
+-- numbers that a record has or names are below the next one.
 pub record OpensStore (folder : List ℕ) (w : World) (store : Store) : Type 0 where
   pub next : store.next ≡ next_in folder w
   pub ahead : IsAhead (records folder w) store.next
@@ -182,12 +182,12 @@ pub record Compares (folder key : List ℕ) (c : Command) (w : World) (compared 
   pub first : FirstDifference folder key c w (difference_in compared)
   pub carries : CarriesReplayed (records folder w key) compared
 
--- the number was next and was taken, and the number after it is now next
+-- this was the next number and was taken, and the number after it is now the next one
 abbrev pub IsGiven : ℕ → Option ℕ → Option ℕ → Type 0
 IsGiven number old new = (old ≡ Some number) × (new ≡ after number)
 
--- The record of a unit after a call that was to put `put` there. After a success it is `put`. After
--- a fault it is none, the old record, or `put`.
+-- The record of a unit after a call that was to put `put` there. After a success this is `put`.
+-- After a fault no record counts, or it is the old record or `put`.
 abbrev pub IsAfterPut : {T : Type 0} → Result T StoreFault → Option Record → Option Record → Option Record → Type 0
 IsAfterPut result put old new = MatchResult result (λ x. new ≡ put) (λ e. Leaves put old new)
 
@@ -209,8 +209,8 @@ pub record DropsRecord (child : Answers) (key : List ℕ) (result : Result ℕ S
   pub spent : old.next ≡ None → now ≡ before
 
 -- What putting a record guarantees. If `MayPut` is true, the folder stays sound. After a success
--- the record counts for its key. A number above all others stays above them, if the record has and
--- names only lower numbers.
+-- the record counts for its key. A number above all others stays above them, if the record's own
+-- number and those that it names are lower.
 pub record PutsRecord (child : Answers) (folder key : List ℕ) (r : Record) (result : Result Unit StoreFault) (old new : World) : Type 0 where
   pub sound : (judge : Judge) (number : ℕ) → MayPut reading judge child folder key old r number → Sound reading judge child folder old.files → Sound reading judge child folder new.files
   pub stands : IsAfterPut result (Some r) (records folder old key) (records folder new key)

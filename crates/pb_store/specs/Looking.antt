@@ -31,15 +31,15 @@ use Rattle.pb_store.specs.declared.fault.StoreFault.{StoreFault}
 use Rattle.pb_store.specs.declared.fault.StoreFault.TheVariants.{Place, NumbersSpent, OutOfMemory}
 
 -- How these calls ended with this fault of the store. For a fault of the place, one of these calls
--- failed. If memory ran out, the first few were made. No other fault is possible.
+-- failed. If memory ran out, only the first few of the calls were made. No other fault is possible.
 abbrev pub StopsAt : StoreFault → List Call → Counts → Counts → Type 0
 StopsAt (Place fault) calls old new = FailsAt fault calls old new
 StopsAt NumbersSpent calls old new = ⊥
 StopsAt OutOfMemory calls old new = MakesSome calls old new
 
--- After a success, exactly these calls were made. After an error, the first of them were. Each call
--- is counted and the failed call is recorded, so the counters also determine the order of the
--- calls.
+-- After a success, exactly these calls were made. After an error, the first few of them were made.
+-- Each call is counted and the failed call is recorded, so the counters also determine the order of
+-- the calls.
 abbrev pub Looks : {T : Type 0} → Result T StoreFault → List Call → Counts → Counts → Type 0
 Looks result calls old new = MatchResult result (λ x. new ≡ past_calls calls old) (λ e. StopsAt e calls old new)
 
@@ -52,7 +52,8 @@ OpeningStopsAt open_fault.OutOfMemory calls old new = MakesSome calls old new
 abbrev pub OpensLooking : {T : Type 0} → Result T OpenFault → List Call → Counts → Counts → Type 0
 OpensLooking result calls old new = MatchResult result (λ x. new ≡ past_calls calls old) (λ e. OpeningStopsAt e calls old new)
 
--- the calls for the items of a row, item by item, up to the first item that differs, and including its calls
+-- the calls for the items of a row, item by item; those for the first item that differs are the
+-- last
 abbrev pub looked_up_to : {A : Type 0} → (A → Bool) → (A → List Call) → List A → List Call
 looked_up_to is_same look [] = []
 looked_up_to is_same look (x ∷ xs) = look x ++ (if is_same x then looked_up_to is_same look xs else [])
@@ -67,7 +68,8 @@ abbrev pub folder_looked : List ℕ → World → List ℕ → Option (List ℕ)
 folder_looked target w path (Some bytes) = []
 folder_looked target w path None = call.ListOutside path target ∷ map call.Read (listed path (removed target w))
 
--- the calls for an input: for a path those for its file or its folder, and for a variable the one for its value
+-- the calls for an input: for a path, the calls for its file or its folder; for a variable, the
+-- call for its value
 abbrev pub name_looked : List ℕ → World → InputName → List Call
 name_looked target w (Path path) = source_looked target path ++ folder_looked target w path (finite.get (from_nothing target w).files path)
 name_looked target w (Variable name) = call.Variable name ∷ []
@@ -99,8 +101,8 @@ is_present target w i = same_input (input_in target w (name_of i)) i
 abbrev pub inputs_looked : List ℕ → World → List Input → List Call
 inputs_looked target w inputs = looked_up_to (is_present target w) (λ i. name_looked target w (name_of i)) inputs
 
--- The calls for a unit of which a record has copies. The unit's folder is listed, and then each
--- file there is read. If the unit is not named by a relative path, no call is made.
+-- The calls for a unit whose files a record has as copies. The unit's folder is listed, and then
+-- each file there is read. If the unit is not named by a relative path, no call is made.
 abbrev pub out_looked : List ℕ → World → List ℕ → List Call
 out_looked folder w key = if is_relative key then call.List (out_of folder key) ∷ map call.Read (listed (out_of folder key) w) else []
 
@@ -108,7 +110,8 @@ out_looked folder w key = if is_relative key then call.List (out_of folder key) 
 unfoldable pub has_files : List ℕ → Map → List ℕ × List (List ℕ × List ℕ) → Bool
 has_files folder files need = is_relative need.0 && same_files (contents (out_of folder need.0) files) need.1
 
--- the calls for the units of which a record has copies, unit by unit, up to the first unit that differs
+-- the calls for the units whose files a record has as copies, unit by unit, up to the first unit
+-- that differs
 abbrev pub copies_looked : List ℕ → World → List (List ℕ × List (List ℕ × List ℕ)) → List Call
 copies_looked folder w copies = looked_up_to (has_files folder w.files) (λ need. out_looked folder w need.0) copies
 
@@ -118,8 +121,8 @@ abbrev pub needed_looked : List ℕ → World → Needed → List Call
 needed_looked folder w (Copies copies) = copies_looked folder w copies
 needed_looked folder w (Numbers number needs) = []
 
--- The calls for a record with the right command. Those for its inputs come first. If each input has
--- its present value, those for the needed units follow.
+-- The calls for a record with the right command. The calls for its inputs come first. If each input
+-- has its present value, the calls for the needed units follow.
 unfoldable pub around_looked : List ℕ → List ℕ → World → Record → List Call
 around_looked folder target w r = inputs_looked target w r.inputs ++ (if list_all (is_present target w) r.inputs then needed_looked folder w r.needed else [])
 
@@ -138,7 +141,8 @@ from_looked folder c w r = if is_asked r.asked c then around_looked folder c.tar
 unfoldable pub unit_looked : List ℕ → List ℕ → commands.Command → World → List Call
 unit_looked folder key c w = call.Read (place_of folder key) ∷ option_map_or (from_looked folder c w) (records folder w key) []
 
--- the calls that read those of these files that have the name of a record, in their order
+-- the calls that read files of this list, in its order; only files with the name of a record are
+-- read
 abbrev pub records_looked : List (List ℕ) → List Call
 records_looked paths = map call.Read (filter ends_as_record paths)
 
@@ -160,8 +164,8 @@ kept_called folder key target w names = names_looked target w names ++ (call.Wri
 abbrev pub migrated_called : List ℕ → List ℕ → World → List Call
 migrated_called folder key w = call.Read (place_of folder key) ∷ (if lacks_number (records folder w key) then call.Write (place_of folder key) ∷ [] else [])
 
--- The calls of the first list were made, and then no run number was left. Or the calls of the
--- second list were made, as `Looks` states.
+-- Either the calls of the first list were made, and then no run number was left, or the calls of
+-- the second list were made, as `Looks` states.
 abbrev pub LooksOrSpent : {T : Type 0} → Result T StoreFault → List Call → List Call → Counts → Counts → Type 0
 LooksOrSpent result first calls old new = ((result ≡ Err NumbersSpent) × (new ≡ past_calls first old)) ⊎ Looks result calls old new
 

@@ -1,4 +1,5 @@
--- Records that name other records by run numbers, down to records that name none.
+-- Grounded units: their records name other records by run numbers, step by step down to records
+-- that name none.
 use Rattle.std.specs.Prelude.{◌≡◌, ◌<◌, ℕ, List, Option, Some, Contains}
 use Rattle.pb_record.specs.declared.record.Record.{Record}
 use Rattle.pb_store_soundness.specs.Records.{number_of, needs_of}
@@ -8,7 +9,8 @@ abbrev pub RecordMap : Type 0
 RecordMap = List ℕ → Option Record
 
 -- A unit is grounded with a number if its record has this number and each unit that the record
--- names is grounded. Each of these units is grounded with the number that is named, which is less.
+-- names is grounded. Each of these units is grounded with the number that the record names for it,
+-- and this number is less.
 pub data Grounded (at : RecordMap) : List ℕ → ℕ → Type 0 where
   grounded : (key : List ℕ) (r : Record) (number : ℕ) (here : at key ≡ Some r) (numbered : number_of r ≡ Some number)
       (less : (need : List ℕ) (n : ℕ) → Contains (needs_of r) (need, n) → n < number)

@@ -1,5 +1,5 @@
--- On what a unit's answer rests besides its command and the units that it reaches, and when a child
--- repeats a good reply.
+-- What a unit's answer rests on, apart from its command and the units that it reaches, and when a
+-- child repeats a good reply.
 use Rattle.std.specs.Prelude.{◌≡◌, ℕ, true, List, map, length, drop, ◌+◌, Option, Some, None}
 use Rattle.std.specs.FinMap as finite
 use Rattle.std.specs.List.{AllByRecursion, list_any}
@@ -22,8 +22,9 @@ abbrev pub path_input : List ℕ → Map → Option (List ℕ) → Input
 path_input path m (Some bytes) = File path bytes
 path_input path m None = Tree path (contents path m)
 
--- The input with this name and its present value. For a path it is what the sources have there, so
--- nothing at or below the target folder counts. For a variable it is the inherited text, or none.
+-- The input with this name and its present value. The value of a path is what the sources have
+-- there, so nothing at or below the target folder counts. The value of a variable is the inherited
+-- text, or none.
 abbrev pub input_in : List ℕ → World → InputName → Input
 input_in target w (Path path) = path_input path (from_nothing target w).files (finite.get (from_nothing target w).files path)
 input_in target w (Variable name) = Value name (finite.get w.variables name)
@@ -46,7 +47,7 @@ SameBelow folders m n = (q : List ℕ) → list_any (λ folder. is_below folder 
 abbrev pub reply_in : Answers → Command → World → Reply
 reply_in child c w = child c (seen_by c w)
 
--- a judge has, for a good reply to a command, the names of its inputs, and nothing for a bad reply
+-- for a good reply to a command a judge returns the names of the inputs, for a bad reply `None`
 abbrev pub Judge : Type 0
 Judge = Command → Reply → Option (List InputName)
 

@@ -10,19 +10,20 @@ use Rattle.pb_store_soundness.specs.Records.{RecordParser, is_key, out_of, place
 use Rattle.pb_store_soundness.specs.Grounded.{RecordMap}
 use Rattle.pb_store_soundness.specs.Sound.{Sound, IsTrueRecord}
 
--- no record that counts names this unit with this number
+-- among the records that count, none contains this unit's key together with this run number
 abbrev pub Unnamed : RecordMap → List ℕ → ℕ → Type 0
 Unnamed at key number = (other : List ℕ) (r : Record) → at other ≡ Some r → Contains (needs_of r) (key, number) → ⊥
 
--- What became of a unit. No record counts for it. Or its record and its files are unchanged. Or it
--- has a new record, of which `Said` is true, and with whose number no record named the unit.
+-- What became of a unit. Either no record counts for it, or its record and its files are unchanged,
+-- or it has a new record. `Said` is true of the new record. No old record names the unit together
+-- with the new record's number.
 pub data Became (read : RecordParser) (folder : List ℕ) (old new : Map) (Said : List ℕ → Record → Type 0) (key : List ℕ) : Type 0 where
   gone : record_at read folder new key ≡ None → Became read folder old new Said key
   stays : record_at read folder new key ≡ record_at read folder old key → files_in (out_of folder key) new ≡ files_in (out_of folder key) old → Became read folder old new Said key
   renewed : (r : Record) (number : ℕ) → record_at read folder new key ≡ Some r → number_of r ≡ Some number → Unnamed (record_at read folder old) key number → Said key r → Became read folder old new Said key
 
--- A folder stays sound if each record is gone, is unchanged, or is a true record whose number no
--- record named for its unit.
+-- A folder stays sound if each record is gone, is unchanged, or is new. A new record must be true,
+-- and no old record may name its unit together with its number.
 abbrev pub StaysSound : Type 0
 StaysSound = (read : RecordParser) (judge : Judge) (child : Answers) (folder : List ℕ) (old new : Map)
     → ((key : List ℕ) → Became read folder old new (IsTrueRecord judge child folder (record_at read folder new) new) key) → Sound read judge child folder old → Sound read judge child folder new
@@ -42,8 +43,8 @@ abbrev pub WithoutRecordLaw : Type 0
 WithoutRecordLaw = (read : RecordParser) (judge : Judge) (child : Answers) (folder : List ℕ) (old new : Map) (key : List ℕ) → is_path folder ≡ true → is_key key ≡ true
     → record_at read folder new key ≡ None → AgreeBut (is_at_or_below (place_of folder key)) old new → Sound read judge child folder old → Sound read judge child folder new
 
--- A folder stays sound if a true record of format 2 is written. No record that counts may name its
--- unit with its number.
+-- A folder stays sound if a true record of format 2 is written. No record that counts may contain
+-- the key of this record's unit together with this record's number.
 abbrev pub PutLaw : Type 0
 PutLaw = (read : RecordParser) (judge : Judge) (child : Answers) (folder : List ℕ) (old new : Map) (key : List ℕ) (r : Record) (number : ℕ) → is_path folder ≡ true → is_key key ≡ true
     → record_at read folder new key ≡ Some r → number_of r ≡ Some number → Unnamed (record_at read folder old) key number → AgreeBut (is_at_or_below (place_of folder key)) old new

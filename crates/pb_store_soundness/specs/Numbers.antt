@@ -1,10 +1,10 @@
--- Run numbers: which are in no record, and which is the next.
+-- Run numbers: which numbers are in no record, and which number is the next.
 use Rattle.std.specs.Prelude.{◌≡◌, ◌≢◌, ◌⊎◌, ◌<◌, ◌==◌, ◌+◌, if◌then◌else◌, ℕ, List, Option, Some, None, Contains}
 use Rattle.pb_record.specs.declared.record.Record.{Record}
 use Rattle.pb_store_soundness.specs.Records.{number_of, needs_of}
 use Rattle.pb_store_soundness.specs.Grounded.{RecordMap}
 
--- no record that counts has this number or names a unit with it
+-- among the records that count, none has this number and none names a unit with it
 abbrev pub NoneNames : RecordMap → ℕ → Type 0
 NoneNames at number = (other : List ℕ) (r : Record) → at other ≡ Some r → (number_of r ≢ Some number) × ((need : List ℕ) → Contains (needs_of r) (need, number) → ⊥)
 
@@ -24,12 +24,13 @@ abbrev pub IsBefore : Option ℕ → ℕ → Type 0
 IsBefore None n = Unit {0}
 IsBefore (Some next) n = n < next
 
--- all numbers that the record has or names are below the next one
+-- the record's own number and all numbers that it names are below the next number
 pub record NamesBefore (next : Option ℕ) (r : Record) : Type 0 where
   pub own : (n : ℕ) → number_of r ≡ Some n → IsBefore next n
   pub named : (need : List ℕ) (n : ℕ) → Contains (needs_of r) (need, n) → IsBefore next n
 
--- all numbers that any record that counts has or names are below the next one
+-- for each record that counts, its own number and all numbers that it names are below the next
+-- number
 abbrev pub IsAhead : RecordMap → Option ℕ → Type 0
 IsAhead at next = (key : List ℕ) (r : Record) → at key ≡ Some r → NamesBefore next r
 
@@ -38,11 +39,12 @@ IsAhead at next = (key : List ℕ) (r : Record) → at key ≡ Some r → NamesB
 abbrev pub StaysAheadLaw : Type 0
 StaysAheadLaw = (old new : RecordMap) (next : Option ℕ) → ((key : List ℕ) → (new key ≡ None) ⊎ ((new key ≡ old key) ⊎ ((r : Record) → new key ≡ Some r → NamesBefore next r))) → IsAhead old next → IsAhead new next
 
--- if the next number is taken and the one after it becomes the next, the new next number is above
--- all others, too
+-- If the next number is taken, the number after it becomes the next number. The new next number is
+-- above all others, too.
 abbrev pub GivenAheadLaw : Type 0
 GivenAheadLaw = (at : RecordMap) (number : ℕ) → IsAhead at (Some number) → IsAhead at (after number) × IsBefore (after number) number
 
--- No record has or names the next number, and each record that counts has a number below it.
+-- No record that counts has or names the next number. If a record that counts has a number, this
+-- number is below the next one.
 abbrev pub NextIsNewLaw : Type 0
 NextIsNewLaw = (at : RecordMap) (number : ℕ) → IsAhead at (Some number) → NoneNames at number × ((key : List ℕ) (r : Record) (n : ℕ) → at key ≡ Some r → number_of r ≡ Some n → n < number)

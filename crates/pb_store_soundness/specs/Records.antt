@@ -26,7 +26,8 @@ out_of folder key = below folder key
 abbrev pub place_of : List ℕ → List ℕ → List ℕ
 place_of folder key = below folder (key ++ codes ".record")
 
--- A function from texts to records. For a text that is not the text of a record, the function has no record.
+-- A function that reads texts as records. For a text that is not the text of a record, it returns
+-- `None`.
 abbrev pub RecordParser : Type 0
 RecordParser = List ℕ → Option Record
 
@@ -47,8 +48,8 @@ record_at read folder files key = if is_key key then if_of_key key (read_text re
 abbrev pub records : List ℕ → World → List ℕ → Option Record
 records folder w = record_at reading folder w.files
 
--- A record's own number, if it has one. `numbered_in` are the units that it names with numbers. A
--- record of format 1 has neither.
+-- A record's own number, if it has one. `numbered_in` lists the units that the record names, each
+-- with a number. A record of format 1 has neither.
 abbrev pub number_in : Needed → Option ℕ
 number_in (Copies copies) = None
 number_in (Numbers number needs) = Some number

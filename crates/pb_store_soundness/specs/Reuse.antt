@@ -1,4 +1,4 @@
--- When a record contains what its unit would answer, and on what a new record rests.
+-- When a record contains what its unit would answer, and what a new record rests on.
 use Rattle.std.specs.Prelude.{◌≡◌, ◌≢◌, ◌↔◌, ◌<◌, ℕ, true, List, Option, Some, None, Contains}
 use Rattle.pb_place_types.specs.Folders.{files_in}
 use Rattle.pb_place_types.specs.Paths.{is_path, is_at_or_below}
@@ -19,21 +19,22 @@ abbrev pub number_if : Option Record → Option ℕ
 number_if None = None
 number_if (Some r) = number_of r
 
--- The needed units are as the record names them. With numbers, these are the present numbers of
--- their records. With copies, these are their present files.
+-- The needed units are as the record names them. If the record names the units with numbers, these
+-- are the present numbers of the units' records. If the record has copies, these are the units'
+-- present files.
 abbrev pub NeededNow : List ℕ → RecordMap → Map → Needed → Type 0
 NeededNow folder at files (Copies copies) = HoldsCopies folder copies files
 NeededNow folder at files (Numbers number needs) = (need : List ℕ) (n : ℕ) → Contains needs (need, n) → number_if (at need) ≡ Some n
 
--- Nothing differs from the record. The record counts and has this command. Its inputs have their
--- present values, and the needed units are as the record names them.
+-- Nothing differs from the record. The record counts and has this command. The recorded inputs have
+-- their present values, and the needed units are as the record names them.
 pub record IsSame (read : RecordParser) (folder key : List ℕ) (c : Command) (w : World) (r : Record) : Type 0 where
   pub stands : record_at read folder w.files key ≡ Some r
   pub asked : command_of r.asked ≡ c
   pub inputs : Agrees c.target r.inputs w
   pub needed : NeededNow folder (record_at read folder w.files) w.files r.needed
 
--- each unit whose output folder is among these is grounded
+-- each unit whose output folder is among these folders is grounded
 abbrev pub AreGrounded : RecordMap → List ℕ → List (List ℕ) → Type 0
 AreGrounded at folder reads = (v : List ℕ) → Contains reads (out_of folder v) → (n : ℕ) × Grounded at v n
 
@@ -44,27 +45,28 @@ GroundsLaw = (read : RecordParser) (judge : Judge) (child : Answers) (folder key
     → IsSame read folder key c w r → AreGrounded (record_at read folder w.files) folder c.reads → number_of r ≡ Some number → Grounded (record_at read folder w.files) key number
 
 -- If nothing differs from a unit's record, and each unit that the command reads is grounded, the
--- child would now reply what the record has. The files of the reply would be those in the unit's
+-- child's reply would now be the recorded one. The files of the reply would be those in the unit's
 -- folder.
 abbrev pub ReuseLaw : Type 0
 ReuseLaw = (read : RecordParser) (judge : Judge) (child : Answers) (folder key : List ℕ) (c : Command) (w : World) (r : Record) → Sound read judge child folder w.files
     → IsSame read folder key c w r → AreGrounded (record_at read folder w.files) folder c.reads → Backs judge r (out_of folder key) (files_in (out_of folder key) w.files) (reply_in child c w)
 
--- The folder `f` is the output folder of one of the named units, or the record of such a unit says
--- that it reads `f`.
+-- The folder `f` is the output folder of one of the named units, or is read by the command in such
+-- a unit's record.
 pub data ReadByNeeds (at : RecordMap) (folder : List ℕ) (needs : List (List ℕ × ℕ)) (f : List ℕ) : Type 0 where
   own : (need : List ℕ) (n : ℕ) → Contains needs (need, n) → f ≡ out_of folder need → ReadByNeeds at folder needs f
   beyond : (need : List ℕ) (n : ℕ) (s : Record) → Contains needs (need, n) → at need ≡ Some s → Contains s.asked.reads f → ReadByNeeds at folder needs f
 
--- What a record names is there. The record names each unit with the number of the unit's record,
--- which is less than its own. The record's command reads exactly the folders of these units and the
--- folders that their records read.
+-- What a record names is there. The record names each unit with the number of the unit's own
+-- record, and this number is less than that of the naming record. The naming record's command reads
+-- exactly the folders of these units and the folders that the commands in their records read.
 pub record NamesNeeds (at : RecordMap) (folder : List ℕ) (r : Record) (number : ℕ) : Type 0 where
   pub stand : (need : List ℕ) (n : ℕ) → Contains (needs_of r) (need, n) → (s : Record) × (at need ≡ Some s) × (number_of s ≡ Some n)
   pub less : (need : List ℕ) (n : ℕ) → Contains (needs_of r) (need, n) → n < number
   pub reads : (f : List ℕ) → Contains r.asked.reads f ↔ ReadByNeeds at folder (needs_of r) f
 
--- This record was written, and nothing else has changed. No record named its unit with its number.
+-- This record was written, and nothing else has changed. No record contained the unit's key
+-- together with this number.
 pub record IsPut (read : RecordParser) (folder key : List ℕ) (r : Record) (number : ℕ) (old new : Map) : Type 0 where
   pub path : is_path folder ≡ true
   pub key_is : is_key key ≡ true
@@ -85,7 +87,9 @@ RenewLaw = (read : RecordParser) (judge : Judge) (child : Answers) (folder key :
 abbrev pub SparesLaw : Type 0
 SparesLaw = (old new : RecordMap) (key v : List ℕ) (n : ℕ) → ((l : List ℕ) → l ≢ key → new l ≡ old l) → Grounded old v n → v ≢ key → (Reaches old v key → ⊥) → Grounded new v n
 
--- A new record is grounded if the units that it names were grounded, and its own unit was not grounded before.
+-- The unit of a new record is grounded if each unit that the record names was grounded with the
+-- named number, which is lower than the record's, and the new record's unit was not grounded
+-- before.
 abbrev pub PutGroundsLaw : Type 0
 PutGroundsLaw = (old new : RecordMap) (key : List ℕ) (r : Record) (number : ℕ) → ((l : List ℕ) → l ≢ key → new l ≡ old l) → new key ≡ Some r → number_of r ≡ Some number → ((n : ℕ) → Grounded old key n → ⊥)
     → ((need : List ℕ) (n : ℕ) → Contains (needs_of r) (need, n) → (n < number) × Grounded old need n) → Grounded new key number

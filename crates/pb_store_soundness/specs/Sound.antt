@@ -16,7 +16,8 @@ use Rattle.pb_store_soundness.specs.Grounded.{RecordMap, Grounded, Reaches}
 abbrev pub replied_files : List ℕ → Reply → Map
 replied_files out r = files_in out (put_files out r.files finite.empty)
 
--- the reply is good, has the record's two streams and input names, and puts exactly the files `made`
+-- the reply is good, has the record's two streams and input names, and writes exactly the files
+-- `made`
 pub record Backs (judge : Judge) (r : Record) (out : List ℕ) (made : Map) (reply : Reply) : Type 0 where
   pub good : judge (command_of r.asked) reply ≡ Some (map name_of r.inputs)
   pub status : reply.status ≡ pos 0
@@ -24,20 +25,20 @@ pub record Backs (judge : Judge) (r : Record) (out : List ℕ) (made : Map) (rep
   pub stderr : reply.stderr ≡ r.stderr
   pub files : replied_files out reply ≡ made
 
--- each unit of which there is a copy has the same files in the world
+-- for each unit in `copies`, the unit's files in the world are those of its copy
 abbrev pub HoldsCopies : List ℕ → List (List ℕ × List (List ℕ × List ℕ)) → Map → Type 0
 HoldsCopies folder copies m = (need : List ℕ) (files : List (List ℕ × List ℕ)) → Contains copies (need, files) → contents (out_of folder need) m ≡ files
 
 -- A true record of format 1. The record's command reads the folder of each unit of which the record
--- has a copy. In each world that agrees with the inputs and the copies, the child would reply what
--- the record has.
+-- has a copy. In each world that agrees with the inputs and the copies, the child's reply would be
+-- the recorded one.
 pub record TrueCopies (judge : Judge) (child : Answers) (folder : List ℕ) (made : Map) (r : Record) (out : List ℕ) (copies : List (List ℕ × List (List ℕ × List ℕ))) : Type 0 where
   pub read : (need : List ℕ) (files : List (List ℕ × List ℕ)) → Contains copies (need, files) → Contains r.asked.reads (out_of folder need)
   pub gives : (x : World) → Agrees r.asked.target r.inputs x → HoldsCopies folder copies x.files → Backs judge r out made (reply_in child (command_of r.asked) x)
 
 -- A record rests on the present files. The record's command reads exactly the folders of the units
 -- that the record's unit reaches. In each world that agrees with the inputs and has the present
--- files below these folders, the child would reply what the record has.
+-- files below these folders, the child's reply would be the recorded one.
 pub record Rests (judge : Judge) (child : Answers) (folder : List ℕ) (at : RecordMap) (files : Map) (key : List ℕ) (r : Record) : Type 0 where
   pub reads : (f : List ℕ) → Contains r.asked.reads f ↔ ((v : List ℕ) × Reaches at key v × (f ≡ out_of folder v))
   pub gives : (x : World) → Agrees r.asked.target r.inputs x → SameBelow r.asked.reads files x.files → Backs judge r (out_of folder key) (files_in (out_of folder key) files) (reply_in child (command_of r.asked) x)
@@ -54,7 +55,7 @@ abbrev pub TrueBy : Judge → Answers → List ℕ → RecordMap → Map → Lis
 TrueBy judge child folder at files key r (Copies copies) = TrueCopies judge child folder (files_in (out_of folder key) files) r (out_of folder key) copies
 TrueBy judge child folder at files key r (Numbers number needs) = TrueNumbers judge child folder at files key r number needs
 
--- the record is true as the record of this key
+-- the record, taken as the record of this key, is true
 pub record IsTrueRecord (judge : Judge) (child : Answers) (folder : List ℕ) (at : RecordMap) (files : Map) (key : List ℕ) (r : Record) : Type 0 where
   pub says : TrueBy judge child folder at files key r r.needed
 

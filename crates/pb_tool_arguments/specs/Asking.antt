@@ -97,15 +97,16 @@ ShowsProgress here rows progress =
 abbrev pub ShowsCounts : Here → List Row → Bool → Type 0
 ShowsCounts here rows counts = (quiet : Bool) × IsFlag (codes "quiet") rows quiet × (counts ≡ (here.is_terminal && not quiet))
 
--- Says whether levels have colours. The option's value may be `always` or `never`. With any other
--- value, or without the option, levels have colours if `shows` is true.
+-- Says whether levels have colours. They always have colours if the option's value is `always`, and
+-- never if it is `never`. With any other value, or without the option, levels have colours if
+-- `shows` is true.
 abbrev pub IsColored : Bool → Option Text → Bool → Type 0
 IsColored shows None colors = colors ≡ shows
 IsColored shows (Some text) colors =
     (text ≡ codes "always" → colors ≡ true) × (text ≡ codes "never" → colors ≡ false)
     × (text ≢ codes "always" → text ≢ codes "never" → colors ≡ shows)
 
--- what is shown of a build besides its message lines is what these values express
+-- these values say what is shown of a build besides its message lines
 pub record IsShown (here : Here) (rows : List Row) (shown : Shown) : Type 0 where
   pub explain : IsFlag (codes "explain") rows shown.explain
   pub render : IsFlag (codes "render") rows shown.render
@@ -210,8 +211,8 @@ abbrev pub ClapRefuses : Choices → List Text → Type 0
 ClapRefuses choices words = (found : ErrorKind) × (is_help found ≡ false) × IsAmong found (fault_of (program choices) words)
 
 -- Why the words request nothing, and the text that is reported. We promise nothing about the texts
--- of `clap`. Wrong values are reported only for words that `clap` accepts, so never if help is
--- requested.
+-- of `clap`. Wrong values are reported only for words that `clap` accepts, so they are never
+-- reported if help is requested.
 abbrev pub Unasks : List Text → Text → ArgumentsError → Type 0
 Unasks words folder (Help text) = (choices : Choices) × AreChoices choices × AsksForHelp choices words
 Unasks words folder (Wrong text) = (choices : Choices) × AreChoices choices × (ClapRefuses choices words ⊎ IsTaken choices words × AsksWrongly folder (subcommand_of (program choices) words) text)

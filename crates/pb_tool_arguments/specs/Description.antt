@@ -46,7 +46,8 @@ telling colors =
 abbrev pub places : List Rule
 places = option (codes "manifest-path") ∷ option (codes "target-dir") ∷ []
 
--- the options for the form of messages, for the runner, and for how children see the tool
+-- the options for the form of messages, for the runner, and for the value of `CARGO` that children
+-- see
 abbrev pub children : ValueParser → List Rule
 children formats = record (option (codes "message-format")) { parser = Some formats } ∷ option (codes "runner") ∷ option (codes "tool") ∷ []
 
@@ -76,7 +77,7 @@ abbrev pub with_rules : List Rule → App → App
 with_rules [] app = app
 with_rules (rule ∷ rules) app = with_rules rules (with_rule app rule)
 
--- the command after the options are added that choose what is built, and how
+-- the command to which the options were added that choose what is built, and how it is built
 abbrev pub choosing : App → App
 choosing app = with_rules features (with_rules selection app)
 
@@ -110,7 +111,8 @@ session = with_rule (new_app (codes "session")) record (new_rule (codes "FILE"))
 abbrev pub explain : App
 explain = with_rule (new_app (codes "explain")) record (new_rule (codes "NAME")) { required = true }
 
--- the command, but it has a version and requires a subcommand; without any words it shows help
+-- the same command, which now has a version, requires a subcommand, and shows help if there are no
+-- words
 abbrev pub wanting : App → App
 wanting app = record app { top = record app.top { has_version = true; arg_required_else_help = true; subcommand_required = true } }
 

@@ -11,7 +11,7 @@ use Rattle.pb_tool_clean.specs.Names.{is_among}
 use Rattle.pb_tool_clean.specs.declared.fault.CleanFault.{CleanFault}
 use Rattle.pb_tool_clean.specs.declared.fault.CleanFault.TheVariants.{Call, OutOfMemory, Nothing, NoSuchProfile}
 
--- a place at one moment, as far as a removal is about it
+-- the parts of a place at one moment that a removal uses
 pub record Moment : Type 0 where
   pub world : World
   pub counts : Counts

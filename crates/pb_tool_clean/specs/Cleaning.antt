@@ -73,13 +73,14 @@ is_bare listed = are_none listed.files listed.folders
     are_none [] [] = true
     are_none files folders = false
 
--- Only its tag is left in the target folder. Nothing is in the folders of its profiles, and the tag
--- is its only file, if it has one. On a machine, only the first list shows a folder without files,
--- or another target folder.
+-- Nothing is left in the target folder but its tag. Nothing is in the folders of its profiles, and
+-- the target folder has no file other than the tag. On a machine, only the first list shows a
+-- folder without files, or another target folder.
 abbrev pub is_emptied : List ℕ → World → Bool
 is_emptied target w = is_bare (listed_in target w) && is_tag_alone (tag_in target) (listed target w)
 
--- if only its tag is left in the target folder, the whole folder is removed; otherwise nothing is removed
+-- if nothing but its tag is left in the target folder, the whole folder is removed; otherwise
+-- nothing is removed
 pub record RemovesRest (is_modelled : Bool) (target : List ℕ) (result : Result (Unit {0}) CleanFault) (old new : Moment) : Type 0 where
   pub removes : Removes (is_at_or_below target) result old new
   pub kept : IsTrue is_modelled → is_emptied target old.world ≡ false → new.world ≡ old.world
@@ -134,9 +135,9 @@ of_all_packages choice = record choice { packages = [] }
 abbrev pub looked_in : Choice → List ℕ
 looked_in choice = unwrap_or choice.profile choice.target
 
--- What is missing: the first of three things that was not listed. The three are any record or
--- unit's folder, one under the profile, and one of the packages. If something that is chosen was
--- listed, nothing is missing.
+-- What is missing: the first of three things that was not listed. These are any record or unit's
+-- folder, a record or unit's folder under the profile, and one that belongs to one of the packages.
+-- If something that is chosen was listed, nothing is missing.
 abbrev pub ReportsMissing : Choice → Listed → Option Wanted → Type 0
 ReportsMissing choice listed (Some wanted.All) = chosen_of (all_of choice.target) listed ≡ []
 ReportsMissing choice listed (Some wanted.OfProfile) =
@@ -178,8 +179,8 @@ pub record Chooses (is_modelled : Bool) (options : Options) (one_profile : Bool)
   pub profile : IsProfile choice.target options.profile one_profile choice.profile
   pub target : IsTrue is_modelled → choice.target ≡ target_of options w.variables
 
--- Why nothing is removed. Nothing that the options choose exists, or the folder of the profile
--- would have no name, or a call failed.
+-- Why nothing is removed. Either there is nothing to remove that the options choose, or the folder
+-- of the profile would have no name, or a call failed.
 abbrev pub Refuses : Bool → Options → Bool → World → Counts → Counts → CleanFault → Type 0
 Refuses is_modelled options one_profile w old new (Nothing some folder) =
     (choice : Choice) × Chooses is_modelled options one_profile w choice × (folder ≡ folder_for some choice)
@@ -187,8 +188,8 @@ Refuses is_modelled options one_profile w old new (Nothing some folder) =
 Refuses is_modelled options one_profile w old new NoSuchProfile = HasNoFolder options one_profile × NoneFailed old new
 Refuses is_modelled options one_profile w old new fault = NamesCall old new fault
 
--- The choice of the options was found, and something of it exists, or the choice is refused.
--- Nothing has changed.
+-- Either the choice of the options was found and there is something to remove, or the choice is
+-- refused. Nothing has changed.
 pub record Finds (is_modelled : Bool) (options : Options) (one_profile : Bool) (result : Result Choice CleanFault) (old new : Moment) : Type 0 where
   pub looked : Looked old new
   pub chooses : IfOk result (Chooses is_modelled options one_profile old.world)

@@ -6,7 +6,7 @@ use Rattle.std.specs.Str.{bytes_eq}
 use Rattle.pb_place_types.specs.Paths.{is_below, is_at_or_below, last_part}
 use Rattle.pb_tool_clean.specs.declared.choice.Choice.{Choice}
 
--- the words of a name, which dots separate
+-- the words of a name, which are separated by dots
 abbrev pub words_in : List ℕ → List (List ℕ)
 words_in name = slice_split (λ b. b == 46) name
 
@@ -57,7 +57,8 @@ is_chosen_record choice path = is_record (words_in (last_part path)) && is_chose
 abbrev pub is_chosen_folder : Choice → List ℕ → Bool
 is_chosen_folder choice path = is_unit (words_in (last_part path)) && is_chosen choice (words_in (last_part path)) path
 
--- The paths of chosen records among these paths, in order. `folders_among` are those of chosen units' folders.
+-- Of these paths, those of chosen records, in order. `folders_among` lists those of chosen units'
+-- folders.
 abbrev pub records_among : Choice → List (List ℕ) → List (List ℕ)
 records_among choice [] = []
 records_among choice (path ∷ paths) = if is_chosen_record choice path then path ∷ records_among choice paths else records_among choice paths

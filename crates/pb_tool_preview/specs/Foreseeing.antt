@@ -53,14 +53,14 @@ ends_badly (Some Bad) = true
 ends_badly (Some (Waits index)) = false
 ends_badly (Some (Unreached index)) = true
 
--- The fate of a unit that reaches a unit which is not kept. The first such unit has this index. If
+-- The fate of a unit that reaches units which are not kept. The first of these has this index. If
 -- that first unit ends badly, the unit is not reached. If not, the unit waits for that first unit.
 abbrev pub waits_for : List Fate → ℕ → Fate
 waits_for fates index = if ends_badly (slice_get fates index) then Unreached index else Waits index
 
 -- Units that can be compared.
 
--- this result of a unit determines that its fate is kept or bad, and determines its directives
+-- this result of a unit determines these directives and this fate, which is kept or bad
 abbrev pub Judges : Ran → Fate → Option (List Directive) → Type 0
 Judges ran fate said = (fate ≡ (if is_some ran.bad then Bad else Kept)) × (said ≡ ran.directives)
 
@@ -72,8 +72,8 @@ pub record IsReplay (project : Project) (w : World) (u : Planned) (c : Command) 
   pub replays : IsReplayed (records (records_folder project) w u.key) again
   pub judged : Judges (ran_of project u c again.ended w.files) fate said
 
--- How a unit compares with its record, for this command. If a build would start its child, the fate
--- has the first difference. If not, the fate is that of what the record replays.
+-- How a unit compares with its record, for this command. If a build would start a child for the
+-- unit, the fate has the first difference. If not, the fate is that of what the record replays.
 abbrev pub IsCompared : Project → World → Planned → Command → Fate → Option (List Directive) → Type 0
 IsCompared project w u c (Starts difference) said = FirstDifference (records_folder project) u.key c w (Some difference) × (said ≡ None)
 IsCompared project w u c Kept said = IsReplay project w u c Kept said
@@ -84,8 +84,8 @@ IsCompared project w u c (Unreached index) said = ⊥
 -- The units of a plan.
 
 -- The fate of a unit, given the fates and the directives of the units before it. If all units that
--- the unit reaches are kept, the unit is compared with its record. The command is the one that a
--- build would give it.
+-- the unit reaches are kept, the unit is compared with its record. The command is the one that the
+-- unit would have in a build.
 abbrev pub IsFate : Setup → Project → World → List Fate → List (Option (List Directive)) → Planned → Fate → Option (List Directive) → Type 0
 IsFate setup project w fates done u fate said =
     MatchOption (first_unkept fates u.reaches) (IsCompared project w u (command_of setup project u done) fate said) (λ index. (fate ≡ waits_for fates index) × (said ≡ None))
@@ -99,7 +99,8 @@ pub data Foresees (setup : Setup) (project : Project) (w : World) : List Planned
 
 -- How a look changes the place.
 
--- Nothing has changed but counters, and no child was started. If a call failed, it was the last.
+-- Nothing has changed but counters, and no child was started. If a call failed, no call came after
+-- it.
 pub record Looks {T : Type 0} (result : Result T BuildFault) (old new : At) : Type 0 where
   pub world : new.world ≡ old.world
   pub most : new.most ≡ old.most

@@ -52,7 +52,7 @@ abbrev pub row_at : List Planned → List ℕ → Option Fate → List Row
 row_at units key None = []
 row_at units key (Some fate) = row_of key (said_of units fate)
 
--- a row for each of these units that has a text
+-- a row for each of these units, unless the unit has no text
 abbrev pub rows_of : List Planned → List Planned → List Fate → List Row
 rows_of units [] fates = []
 rows_of units (u ∷ us) fates = row_at units u.key (slice_get fates 0) ++ rows_of units us (drop 1 fates)
@@ -70,7 +70,7 @@ started_text started kept = decimal started ++ codes " would be started, " ++ ke
 abbrev pub counts_text : ℕ → ℕ → ℕ → ℕ → List ℕ
 counts_text started kept waiting unreached = started_text started kept ++ others_text waiting unreached
 
--- the number of units that would neither be started, nor wait, nor stay unreached
+-- the number of kept units: those that would not be started, would not wait, and are not unreached
 abbrev pub count_kept : List Fate → ℕ
 count_kept fates = length fates - count_by is_started fates - count_by is_waiting fates - count_by is_unreached fates
 

@@ -34,8 +34,8 @@ abbrev pub status_of : Result Summary BuildFault → ℕ
 status_of (Ok summary) = success_status summary.success
 status_of (Err fault) = 101
 
--- The line for a unit that will be built again. A path that its child read was changed while the
--- child was at work.
+-- The line for a unit that will be built again. A path that the unit's child read was changed while
+-- the child was at work.
 abbrev pub moved_note : List ℕ → List ℕ → List ℕ
 moved_note path key = codes "note: " ++ path ++ codes " was changed while " ++ key ++ codes " was built: that unit will be built again\n"
 
@@ -71,8 +71,8 @@ report_lost = codes "note: out of memory: the details of the fault are not shown
 abbrev pub look_lost : List ℕ
 look_lost = codes "note: out of memory: the notes are not shown\n"
 
--- What is written at the end of a build: nothing if all its units are good. If the build failed,
--- the reason is written, or that memory ran out for the reason.
+-- What is written at the end of a build. If all its units are good, nothing is written. If the
+-- build failed, the reason is written, or one line says that memory ran out for the reason.
 abbrev pub TellsWhy : ℕ → Result Summary BuildFault → SinkState → SinkState → Type 0
 TellsWhy zero answer old new = new ≡ old
 TellsWhy (suc status) answer old new = Tells (error_of answer) old new ⊎ Tells why_lost old new
@@ -83,7 +83,8 @@ units_if false (Ok plan) = None
 units_if true (Ok plan) = Some (length plan.project.plan.planned)
 units_if explain (Err fault) = None
 
--- why the children of these units were started, or that memory ran out for the reasons
+-- the lines that say why the children of these units were started, or one line which says that
+-- memory ran out for the reasons
 abbrev pub TellsStarted : ℕ → List (List ℕ) → List Difference → List Detail → ℕ → SinkState → SinkState → Type 0
 TellsStarted units keys differences details kept old new = Tells (explanation units keys differences details kept) old new ⊎ Tells reasons_lost old new
 
@@ -94,7 +95,7 @@ abbrev pub TellsSummary : ℕ → Summary → SinkState → SinkState → Type 0
 TellsSummary units summary old new = (details : List Detail) × TellsStarted units summary.started summary.differences details (length summary.kept) old new
 
 -- The reasons of a build with this number of units that a fault ended. The place has noted all of
--- them. If memory ran out for a note, only that is written.
+-- them. If memory ran out for a note, only a line about this is written.
 abbrev pub TellsNotedUnless : Bool → ℕ → Noted → SinkState → SinkState → Type 0
 TellsNotedUnless true units noted old new = Tells reasons_lost old new
 TellsNotedUnless false units noted old new = TellsStarted units noted.started noted.differences noted.details noted.kept old new
@@ -102,22 +103,23 @@ TellsNotedUnless false units noted old new = TellsStarted units noted.started no
 abbrev pub TellsNoted : ℕ → Noted → SinkState → SinkState → Type 0
 TellsNoted units noted old new = TellsNotedUnless noted.lost units noted old new
 
--- What is written if the reasons of a build with this number of units are requested: why children
--- were started, or that memory ran out for the reasons. In any other case nothing is written.
+-- What is written if the reasons of a build with this number of units are requested: lines that say
+-- why children were started, or one line which says that memory ran out for the reasons. In any
+-- other case nothing is written.
 abbrev pub TellsReasons : Option ℕ → Result Summary BuildFault → Noted → SinkState → SinkState → Type 0
 TellsReasons None answer noted old new = new ≡ old
 TellsReasons (Some units) (Err fault) noted old new = TellsNoted units noted old new
 TellsReasons (Some units) (Ok summary) noted old new = TellsSummary units summary old new
 
 -- What is written if a build ended without a fault. What a bad unit's child printed is written, if
--- no message line contains it, or that memory ran out for this output. Without such output nothing
--- is written.
+-- no message line contains it. If memory ran out for this output, one line says so. Without such
+-- output nothing is written.
 abbrev pub TellsSaid : Result Summary BuildFault → SinkState → SinkState → Type 0
 TellsSaid (Err fault) old new = new ≡ old
 TellsSaid (Ok summary) old new = TellsOr said_lost (said_by_bad summary.bad summary.said) old new
 
--- What is written about the fault of a build: the fault's detail, or that memory ran out for the
--- detail. If all units are good, nothing is written.
+-- What is written about the fault of a build: the fault's detail, or one line which says that
+-- memory ran out for the detail. If all units are good, nothing is written.
 abbrev pub TellsDetail : Bool → Result Summary BuildFault → SinkState → SinkState → Type 0
 TellsDetail rendered answer old new = TellsOr detail_lost (detail rendered answer) old new
 
@@ -129,14 +131,14 @@ Reported (Err (build.Device unit fault)) texts = AreReported texts
 Reported (Err build.Toolchain) texts = AreReported texts
 Reported answer texts = texts ≡ []
 
--- What is written about a report: a line `note: TEXT` for each text, or that memory ran out for the
--- report. Without texts nothing is written.
+-- What is written about a report: a line `note: TEXT` for each text, or one line which says that
+-- memory ran out for the report. If there are no texts, nothing is written.
 abbrev pub TellsReport : List (List ℕ) → SinkState → SinkState → Type 0
 TellsReport texts old new = TellsOr report_lost (lines_of texts) old new
 
--- How a build with this answer ends. The build has a status. Why children were started, if this is
--- requested, is written beside the output, and then what a failing child printed. The fault's
--- detail, the place's report, the notes, and the reason of a failure follow.
+-- How a build with this answer ends. The build has a status. If it is requested, the build writes
+-- beside the output why children were started. Then it writes what a failing child printed, the
+-- fault's detail, the place's report, the notes, and the reason of a failure.
 pub record Concludes (explain : Option ℕ) (rendered : Bool) (answer : Result Summary BuildFault) (report notes : List (List ℕ)) (status : ℕ) (old new : SinkState) : Type 0 where
   pub told : status ≡ status_of answer
   pub noted : Noted
@@ -171,8 +173,8 @@ abbrev pub folder_of : Result BuildPlan BuildFault → Option (List ℕ)
 folder_of (Ok plan) = Some plan.environment.target
 folder_of (Err fault) = None
 
--- A build was planned, and this plan was carried out. No further call was made but those of a
--- second look. `moved` is the list that the place then has.
+-- A build was planned, and this plan was carried out. No further call was made except those of a
+-- second look. `moved` is the list that the place has afterwards.
 pub record BuildsTold (is_modelled : Bool) (child : Answers) (Guards : Option (List ℕ) → Counts → SinkState → SinkState → Type 0) (moved : List Moved) (options : Options) (explain rendered : Bool) (status : ℕ) (old new : BuildState) (said_before said_after : SinkState) : Type 0 where
   -- the plan of the build
   pub plan : Result BuildPlan BuildFault
@@ -194,7 +196,8 @@ pub record BuildsTold (is_modelled : Bool) (child : Answers) (Guards : Option (L
   pub notes_again : List (List ℕ)
   pub are_notes : AreNotes notes_again
   pub looked : LooksTwice answer notes_again built new
-  -- Each path that has changed while a child was at work is reported. Over a modelled place no path has.
+  -- Each path that has changed while a child was at work is reported. Over a modelled place no path
+  -- has changed.
   pub stood : IsTrue is_modelled → moved ≡ []
   pub marked : SinkState
   pub marks : TellsOr moved_lost (moved_notes moved) held marked

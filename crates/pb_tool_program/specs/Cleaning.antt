@@ -20,7 +20,7 @@ use Rattle.pb_tool_program.specs.Writing.{Tells}
 use Rattle.pb_unit.specs.declared.fault.PlanFault.TheVariants as plan
 use Rattle.pb_workspace_types.specs.declared.options.Options.{Options}
 
--- the words of the note that say what was wanted
+-- the words in the note that say what was wanted
 abbrev pub of_what : Wanted → List ℕ
 of_what wanted.All = []
 of_what wanted.OfProfile = codes " under the profile"
@@ -43,7 +43,8 @@ build_fault_of (Call name fault) = build_fault.Device name (device.Place fault)
 build_fault_of NoSuchProfile = build_fault.Plan (refusal.Plan (plan.Profile profile.NoSuchProfile))
 build_fault_of fault = build_fault.OutOfMemory
 
--- what is written about a fault is what a build with this fault writes, with what the place reports about it
+-- the same is written about a fault that a build with this fault writes, with what the place
+-- reports about the fault
 pub record TellsFault (fault : BuildFault) (status : ℕ) (old new : SinkState) : Type 0 where
   pub report : List (List ℕ)
   pub reports : Reported (Err fault) report
@@ -70,9 +71,9 @@ CleansFound is_modelled (Err fault) answer old new = (answer ≡ Err fault) × (
 abbrev pub seen : BuildState → Moment
 seen s = record { world = s.world; counts = s.counts; most = s.most }
 
--- What the options choose was looked for, and this changed nothing. If something of it exists, the
--- target folder was guarded, and then what is chosen was removed. Otherwise nothing was done. No
--- further call was made, and nothing was written as output.
+-- What the options choose was looked for, and this changed nothing. If there was something to
+-- remove, the target folder was guarded, and then what was chosen was removed. Otherwise nothing
+-- was done. No further call was made, and nothing was written as output.
 pub record CleansTold (is_modelled : Bool) (Guards : Option (List ℕ) → Counts → SinkState → SinkState → Type 0) (options : Options) (one_profile : Bool) (status : ℕ) (old new : BuildState) (said_before said_after : SinkState) : Type 0 where
   pub heard : new.heard ≡ old.heard
   pub found : Result Choice CleanFault

@@ -1,4 +1,4 @@
--- Notes on packages without a library that dependencies name.
+-- Notes on the packages that dependencies name and that have no library.
 use Rattle.std.specs.Prelude.{◌≡◌, ℕ, codes, List, Result, Ok, Err}
 use Rattle.pb_build.specs.declared.builder.BuildPlan.{BuildPlan}
 use Rattle.pb_build_result.specs.declared.fault.BuildFault.{BuildFault}
@@ -9,8 +9,9 @@ use Rattle.pb_tool_sentences.specs.Libraries.{notes_of}
 abbrev pub notes_lost : List ℕ
 notes_lost = codes "note: out of memory: the packages without a library are not shown\n"
 
--- what is written before a build: notes on the packages without a library in its plan, or that memory ran out for them;
--- nothing if there are no such packages, or no plan
+-- What is written before a build: a note on each package in its plan that lacks a library. If
+-- memory runs out for these notes, one line says so. If there are no such packages, or no plan,
+-- nothing is written.
 abbrev pub NotesOf : Result BuildPlan BuildFault → SinkState → SinkState → Type 0
 NotesOf (Ok plan) old new = TellsOr notes_lost (notes_of plan.project.workspace.packages plan.project.plan.without_library) old new
 NotesOf (Err fault) old new = new ≡ old

@@ -11,7 +11,7 @@ use Rattle.pb_tool_program.specs.Writing.{Writes, Tells}
 abbrev pub Prints : List ℕ → ℕ → SinkState → SinkState → Type 0
 Prints text status old new = (whole : Bool) × Writes whole text old new × (status ≡ (if whole then 0 else 1))
 
--- the text about the most similar name, if there is one
+-- the text about the most similar name, if there is such a name
 abbrev pub near_told : Option (List ℕ) → List ℕ
 near_told None = []
 near_told (Some near) = codes " (near: " ++ near ++ codes ")"
@@ -20,12 +20,14 @@ near_told (Some near) = codes " (near: " ++ near ++ codes ")"
 abbrev pub no_such_name : Option (List ℕ) → List ℕ → List ℕ
 no_such_name near name = codes "error: no error has the name " ++ name ++ near_told near ++ codes "\n"
 
--- No error has this name. Either this is written, or that memory ran out for it.
+-- No error has this name. Either `no_such_name` is written, or a line says that memory ran out for
+-- this text.
 abbrev pub Unmeant : Option (List ℕ) → List ℕ → ℕ → SinkState → SinkState → Type 0
 Unmeant near name status said_before said_after =
     (status ≡ 1) × Tells (no_such_name near name) said_before said_after ⊎ (status ≡ 101) × Tells (error_of (Err build_fault.OutOfMemory)) said_before said_after
 
--- The text that a page has about a name is output. If the page has none, this is written beside the output.
+-- The text that a page has about a name is output. If the page has no such text, this fact is
+-- written beside the output.
 abbrev pub MeansText : Option (List ℕ) → Option (List ℕ) → List ℕ → ℕ → SinkState → SinkState → SinkState → SinkState → Type 0
 MeansText (Some text) near name status old new said_before said_after = (said_after ≡ said_before) × Prints text status old new
 MeansText None near name status old new said_before said_after = (new ≡ old) × Unmeant near name status said_before said_after

@@ -20,22 +20,24 @@ use Rattle.pb_tool_program.specs.Writing.{Tells}
 use Rattle.pb_unit.specs.declared.plan.Planned.{Planned}
 use Rattle.pb_workspace_types.specs.declared.options.Options.{Options}
 
--- what is written if memory runs out for what would be started
+-- the line that is written if memory runs out for the text about what would be started
 abbrev pub fates_lost : List ℕ
 fates_lost = codes "note: out of memory: the units that would be started are not shown\n"
 
--- what is written is what a build would do with these units, or that memory ran out for this
+-- either the lines say what a build would do with these units, or one line says that memory ran out
+-- for this
 abbrev pub TellsFates : List Planned → List Fate → SinkState → SinkState → Type 0
 TellsFates units fates old new = Tells (preview_lines units fates) old new ⊎ Tells fates_lost old new
 
--- The fates of the units were written. Or the look at the units ended with a fault, and nothing was written.
+-- Either the fates of the units were written, or the look at the units ended with a fault and
+-- nothing was written.
 abbrev pub TellsBy : List Planned → Result (List Fate) BuildFault → Result (Unit {0}) BuildFault → SinkState → SinkState → Type 0
 TellsBy units (Ok fates) answer old new = (answer ≡ Ok tt) × TellsFates units fates old new
 TellsBy units (Err fault) answer old new = (answer ≡ Err fault) × (new ≡ old)
 
 -- The prepared units were looked at, and what a build would do with them was written. The fates are
--- those that the records in this world say. Nothing changed but counters. If a call failed, it was
--- the last.
+-- those that the records in this world say. Nothing changed but counters. If a call failed, no call
+-- came after it.
 pub record Foretells (is_modelled : Bool) (prepared : Prepared) (answer : Result (Unit {0}) BuildFault) (old new : BuildState) (said_before said_after : SinkState) : Type 0 where
   pub fates : Result (List Fate) BuildFault
   pub are : IsTrue is_modelled → IfOk fates (λ found. (done : List (Option (List Directive))) × Foresees prepared.setup prepared.project old.world prepared.project.plan.planned found done)
@@ -47,7 +49,7 @@ pub record Foretells (is_modelled : Bool) (prepared : Prepared) (answer : Result
   pub at : IfErr fates (LooksAtSome prepared.project)
   pub told : TellsBy prepared.project.plan.planned fates answer said_before said_after
 
--- The prepared units were looked at. Or the preparation failed, and nothing more was done.
+-- Either the prepared units were looked at, or the preparation failed and nothing more was done.
 abbrev pub ForetellsIf : Bool → Result Prepared BuildFault → Result (Unit {0}) BuildFault → BuildState → BuildState → SinkState → SinkState → Type 0
 ForetellsIf is_modelled (Ok prepared) answer old new said_before said_after = Foretells is_modelled prepared answer old new said_before said_after
 ForetellsIf is_modelled (Err fault) answer old new said_before said_after = (answer ≡ Err fault) × (new ≡ old) × (said_after ≡ said_before)
@@ -60,7 +62,7 @@ pub record LooksAhead (is_modelled : Bool) (child : Answers) (options : Options)
   pub foretells : ForetellsIf is_modelled prepared answer readied new said_before said_after
 
 -- A build was planned and prepared, and its units were looked at, but none has begun. Nothing was
--- changed, and nothing was output. No child was started but that of the compiler's query.
+-- changed, and nothing was output. No child was started except that of the compiler's query.
 pub record PreviewsTold (is_modelled : Bool) (child : Answers) (options : Options) (status : ℕ) (old new : BuildState) (said_before said_after : SinkState) : Type 0 where
   -- what is true of the whole preview
   pub unchanged : IsTrue is_modelled → new.world ≡ old.world

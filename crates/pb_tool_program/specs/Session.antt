@@ -17,7 +17,8 @@ use Rattle.pb_tool_program.specs.Writing.{Writes}
 abbrev pub bad_session : List ℕ
 bad_session = codes "error: bad session\n"
 
--- The session is reported as bad. Or the sink failed, and took only some first bytes of the report.
+-- Either the session is reported as bad, or the sink failed and took only some first bytes of the
+-- report.
 abbrev pub Refused : SinkState → SinkState → Type 0
 Refused old new = (Appends old.taken new.taken bad_session × (new.faults ≡ old.faults)) ⊎ (TakesPart bad_session old.taken new.taken × (new.faults ≡ up old.faults))
 
@@ -44,8 +45,8 @@ Written whole steps before after = (end : Point) × Course small_compiler steps 
 abbrev pub SessionWritten : Bool → List ℕ → SinkState → SinkState → Type 0
 SessionWritten whole bytes before after = (steps : List SessionStep) × (session_of bytes ≡ Ok steps) × Written whole steps before after
 
--- Memory ran out in a step, and the steps before it were taken one by one. Or memory ran out after
--- the last step, and no result line was written.
+-- Either memory ran out in a step, and the steps before it were taken one by one, or memory ran out
+-- after the last step, and no result line was written.
 abbrev pub Stopped : List SessionStep → SinkState → SinkState → Type 0
 Stopped steps before after =
     ((left : Point) × Breaks small_compiler steps (at_first before) left × (after ≡ left.moment.heard))

@@ -1,4 +1,4 @@
--- How lines about units are written, and one line for many units about which the text is the same.
+-- How lines about units are written. Many units with the same text have one line.
 use Rattle.std.specs.Prelude.{ℕ, Bool, nat_lt, if◌then◌else◌, codes, count_by, List, [], ◌∷◌, ◌++◌}
 use Rattle.std.specs.Fmt.{decimal}
 use Rattle.std.specs.List.{list_any}

@@ -19,13 +19,13 @@ abbrev pub spaced : List (List ℕ) → List ℕ
 spaced [] = []
 spaced (name ∷ names) = codes " " ++ name ++ spaced names
 
--- What follows the sentence. For packages that depend on one another, their names follow.
+-- What follows the sentence. If packages depend on one another, these are their names.
 abbrev pub with_names : BuildFault → List ℕ
 with_names (build.Plan (refusal.Plan (plan.Cycle names))) = codes ":" ++ spaced names
 with_names fault = []
 
 -- The unit is bad because of the status of its compiler. Only the key of a script's run ends in
--- `.run`.
+-- `.run`, and the unit's key does not.
 abbrev pub is_by_compiler : List ℕ → UnitFault → Bool
 is_by_compiler key (unit.Status status) = not (ends_with nat_eq key (codes ".run"))
 is_by_compiler key fault = false

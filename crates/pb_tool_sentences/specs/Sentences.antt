@@ -1,4 +1,5 @@
--- The sentence of each fault that ends a build. It is what the fault's `Display` writes: a test compares them.
+-- The sentence of each fault that ends a build. The fault's `Display` writes the same sentence, and
+-- a test compares the two.
 use Rattle.std.specs.Prelude.{ℕ, codes, List, ◌++◌}
 use Rattle.std.specs.Fmt.{decimal, signed_decimal}
 use Rattle.pb_build_result.specs.declared.fault.BuildFault.{BuildFault}

@@ -1,5 +1,5 @@
--- Units as the nodes of a graph. By their numbers, six nodes for each package come first. The
--- binaries that are roots come after all of them. Only private functions need these definitions.
+-- Units as the nodes of a graph. The first numbers are those of six nodes for each package. The
+-- binaries that are roots come after all of these. Only private functions need these definitions.
 use Rattle.std.specs.Prelude.{◌≡◌, ◌↔◌, ℕ, ◌+◌, ◌*◌, Bool, true, false, not, ◌&&◌, ◌||◌, if◌then◌else◌, List, [], ◌∷◌, ◌++◌, map, Contains, Option, Some, None, slice_get}
 use Rattle.std.specs.List.{list_all}
 use Rattle.std.specs.List.Sorted.{IsStrictlySortedBy}
@@ -58,17 +58,17 @@ needed need.Lib p s = unit p s Lib
 needed need.Tool p s = unit p Host Lib
 needed need.Run p s = unit p s Run
 
--- an entry makes a need of this kind
+-- the entry leads to a unit by this kind of need
 abbrev pub leads : Need → Workspace → Entry → Bool
 leads need.Lib ws e = is_normal e.kind && has_library (slice_get ws.packages e.to)
 leads need.Tool ws e = is_build e.kind && has_library (slice_get ws.packages e.to)
 leads need.Run ws e = is_normal e.kind && hands_on (slice_get ws.packages e.to)
 
--- the number of the unit that an enabled entry makes needed by this kind of need, if there is one
+-- the number of the unit to which an enabled entry leads by this kind of need, if there is one
 abbrev pub numbers_by : Need → Workspace → Features → ℕ → Side → ℕ → Entry → List ℕ
 numbers_by w ws features p s n e = if is_enabled features p s n && leads w ws e then number (needed w e.to s) ∷ [] else []
 
--- the numbers of the units that all entries of a package make needed by this kind of need
+-- the numbers of the units to which the entries of a package lead by this kind of need
 abbrev pub all_numbers : Need → Workspace → Features → ℕ → Side → List ℕ
 all_numbers w ws features p s = placed (numbers_by w ws features p s) 0 (entries_at ws p)
 
@@ -162,7 +162,7 @@ owner_of (Some u) = u.owner
 abbrev pub name_behind : Workspace → List Unit → ℕ → List ℕ
 name_behind ws units n = name_at ws (owner_of (slice_get units n))
 
--- the fault of a plan for this reason why there is no order
+-- the fault of a plan whose graph has no order for this reason
 abbrev pub IsRefusal : Workspace → List Unit → OrderFault → PlanFault → Type 0
 IsRefusal ws units order_fault.OutOfMemory e = e ≡ OutOfMemory
 IsRefusal ws units order_fault.TooMany e = e ≡ TooManyUnits
@@ -170,7 +170,8 @@ IsRefusal ws units (order_fault.Circle circle) e = (names : List (List ℕ)) × 
 
 -- Planned units.
 
--- a planned unit is made from a step of the order, with its folder and its settings
+-- a planned unit is made from a step of the order; its output is in `folder`, and its settings come
+-- from `line`
 pub record IsPlannedFrom (ws : Workspace) (line : List Seen) (folder : List ℕ) (units : List Unit) (step : Step) (p : Planned) : Type 0 where
   pub unit_at : slice_get units step.node ≡ Some p.unit
   pub key : p.key ≡ step.key

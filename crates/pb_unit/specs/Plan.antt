@@ -1,5 +1,5 @@
--- The plan of a build: the roots and all units that they reach, by level and then by key. Also, why
--- there is no plan (The Cargo Book, cargo build).
+-- The plan of a build: the roots and all units that they reach, by level and then by key. These
+-- definitions also say why there is no plan (The Cargo Book, cargo build).
 use Rattle.std.specs.Prelude.{◌≡◌, ◌≢◌, ◌⊎◌, ◌↔◌, ℕ, ◌+◌, ◌<◌, ◌≤◌, max, false, true, if◌then◌else◌, List, [], ◌∷◌, map, All, AllPairs, Contains, length, Option, Some, None, Result, Ok, Err, slice_get}
 use Rattle.std.specs.List.Sorted.{IsStrictlyIncreasing}
 use Rattle.std.specs.Ordering.{nat_cmp}
@@ -73,7 +73,7 @@ profile_line ws profile = checked_line ws.profiles profile >>= (λ line. if is_r
 abbrev pub profile_folder : Workspace → List ℕ → List ℕ
 profile_folder ws profile = below ws.target (folder_of profile)
 
--- the unit has the settings that its package has along the line, in the unit's role
+-- the unit's settings are those of its package along the line, in the unit's role
 pub record HasSettings (ws : Workspace) (line : List Seen) (p : Planned) : Type 0 where
   pub owner : Package
   pub package_at : slice_get ws.packages p.unit.owner ≡ Some owner
@@ -81,7 +81,8 @@ pub record HasSettings (ws : Workspace) (line : List Seen) (p : Planned) : Type 
 
 -- The names of packages.
 
--- the names of those packages without a library to which enabled entries lead, in byte order, each once
+-- the names of the packages to which an enabled entry leads and that have no library, in byte
+-- order, each once
 pub record AreWithoutLibrary (ws : Workspace) (features : Features) (names : List (List ℕ)) : Type 0 where
   pub order : IsAscending names
   pub same : (name : List ℕ) → Contains names name ↔ ((p : ℕ) × (s : Side) × (n : ℕ) × (e : Entry) × (is_enabled features p s n ≡ true) × HasEntry ws p n e × (has_library (slice_get ws.packages e.to) ≡ false) × (name ≡ name_at ws e.to))
@@ -138,7 +139,7 @@ pub data LacksPlan (ws : Workspace) (features : Features) (selection : Selection
   by_number : (straight : IsStraight ws features selection) (crowd : IsCrowd ws features selection) → LacksPlan ws features selection TooManyUnits
   by_nothing : (none : (u : Unit) → IsPlanned ws features selection u → ⊥) → LacksPlan ws features selection NothingToBuild
 
--- Why there is no plan. The profile has no line, or otherwise the units have no plan.
+-- Why there is no plan. Either the profile has no line, or it has one and the units have no plan.
 pub data Refuses (ws : Workspace) (features : Features) (selection : Selection) (profile : List ℕ) : PlanFault → Type 0 where
   by_profile : (fault : ProfileFault) (told : profile_line ws profile ≡ Err fault) → Refuses ws features selection profile (Profile fault)
   by_units : (fault : PlanFault) (usable : IsUsable ws profile) (stops : LacksPlan ws features selection fault) → Refuses ws features selection profile fault

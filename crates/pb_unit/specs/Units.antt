@@ -65,8 +65,8 @@ abbrev pub has_script : Option Package → Bool
 has_script None = false
 has_script (Some p) = is_some p.script
 
--- The package has a library, and its script passes metadata on because of `links`. A package with
--- `links` must have a script.
+-- The package has a library and `links`, so its script passes metadata on. A package with `links`
+-- must have a script.
 abbrev pub hands_on : Option Package → Bool
 hands_on None = false
 hands_on (Some p) = is_some p.library && is_some p.links && is_some p.script
@@ -139,7 +139,7 @@ pub data Reaches (ws : Workspace) (features : Features) : Unit → Unit → Type
 
 -- Roots.
 
--- the options do not restrict what is built of the selected packages
+-- the options do not restrict which units of the selected packages are built
 abbrev pub asks_all : Selection → Bool
 asks_all selection = not (selection.lib || selection.bins || not (length selection.bin == 0))
 

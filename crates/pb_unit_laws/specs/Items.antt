@@ -1,4 +1,4 @@
--- Which fault the items of a package's features have (The Cargo Book, Features).
+-- The fault of the items of a package's features, if they have one (The Cargo Book, Features).
 use Rattle.std.specs.Prelude.{◌≡◌, ℕ, Bool, true, false, ◌&&◌, ◌||◌, not, if◌then◌else◌, List, Option, Some, None, slice_get}
 use Rattle.std.specs.List.{filter_map, flat_map, list_any}
 use Rattle.std.specs.Str.{bytes_eq}
@@ -12,15 +12,15 @@ use Rattle.pb_workspace_types.specs.Workspace.{has_feature_named}
 use Rattle.pb_workspace_types.specs.declared.package.Entry.{Entry}
 use Rattle.pb_workspace_types.specs.declared.package.Package.{Package}
 
--- The fault of a name that must be that of an entry, or of an optional entry. If only entries that
--- are not optional have the name, the fault is `NotOptional`. If neither an entry nor a key of
--- `[dev-dependencies]` has the name, the fault is `NoSuchDependency`.
+-- The fault of a name that must be the name of an entry, or the name of an optional entry. If only
+-- entries that are not optional have the name, the fault is `NotOptional`. If neither an entry nor
+-- a key of `[dev-dependencies]` has the name, the fault is `NoSuchDependency`.
 abbrev pub name_fault : Package → Bool → List ℕ → Option FeatureFault
 name_fault p optional name =
     if list_any (λ (e : Entry). bytes_eq name e.key && (e.optional || not optional)) p.entries then None
     else (if list_any (λ (e : Entry). bytes_eq name e.key) p.entries then Some NotOptional else (if list_any (bytes_eq name) p.development then None else Some NoSuchDependency))
 
--- the fault of an item, if it has one
+-- the fault of an item, if the item has a fault
 abbrev pub fault_of : Package → FeatureItem → Option FeatureFault
 fault_of p (Own feature) = if has_feature_named p.features feature then None else Some NoSuchFeature
 fault_of p (Of name feature) = name_fault p false name

@@ -7,7 +7,7 @@ use Rattle.pb_unit.specs.Plan.{above, level_at}
 use Rattle.pb_unit.specs.Units.{has_library, name_at}
 use Rattle.pb_unit.specs.declared.plan.Planned.{Planned}
 
--- `above` of the levels at some indices is one more than the greatest of these levels, or 0 if
+-- For the levels at some indices, `above` is one more than the greatest of these levels, or 0 if
 -- there are no indices.
 abbrev pub LevelsAreThese : Type 0
 LevelsAreThese = (units : List Planned) (places : List ℕ)

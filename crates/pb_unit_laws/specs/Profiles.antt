@@ -40,7 +40,7 @@ LinesAreThese = (profiles : List Profile) (name : List ℕ) (answer : Result (Li
 abbrev pub overrides_of : List Seen → List Said
 overrides_of line = flat_map (λ (p : Profile). option_to_list p.build_override ++ map (λ (o : ProfileOverride). o.keys) p.packages) (filter_map (λ (s : Seen). s.table) line)
 
--- what an override sets has no value for `panic`, `lto` and `rpath`
+-- an override sets none of `panic`, `lto` and `rpath`
 abbrev pub sets_no_other : Said → Bool
 sets_no_other values = is_none (says values key.Panic) && is_none (says values key.Lto) && is_none (says values key.Rpath)
 

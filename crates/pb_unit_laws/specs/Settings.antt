@@ -33,8 +33,8 @@ set_for_role Target = []
 set_for_role Host = (λ (s : Seen). option_map says (option_and_then (λ (p : Profile). p.build_override) s.table)) ∷ (λ (s : Seen). Some (λ k. (defaults k).beside_override)) ∷ []
 
 -- The sets that count for a package in a role, the strongest first. `package.NAME` is the first.
--- `package."*"` follows, if the package is no member. The role's sets, the profile's own keys and
--- the built-in values come after it. Each set is taken from the profiles of the line in turn.
+-- `package."*"` follows, if the package is no member. Then come the role's sets, the profile's own
+-- keys, and the built-in values. Each set is taken from the profiles of the line in turn.
 abbrev pub sets_for : Package → Side → List Seen → List Set
 sets_for p role line = flat_map (λ index. filter_map index line) (set_for p.name ∷ (if p.is_member then [] else set_for (codes "*") ∷ []) ++ set_for_role role ++ (λ (s : Seen). option_map says (option_map (λ (p : Profile). p.keys) s.table)) ∷ built_in_set ∷ [])
 

@@ -35,8 +35,8 @@ pub record Makes (project : Project) (u : Planned) (p : Package) (crate : List �
   pub file_is : made_file_of project u ≡ file_in u.out file
   pub told : dep_info_of project u ≡ file_in u.out (crate ++ codes ".d")
 
--- Each unit of a package compiles its target, if the package's binaries are sorted by name. In a
--- workspace that was read they are sorted.
+-- Each unit of a package compiles its own target, if the package's binaries are sorted by name.
+-- They are sorted in a workspace that was read.
 abbrev pub UnitsMakeTargets : Type 0
 UnitsMakeTargets = (project : Project) (u : Planned) (p : Package) (crate : List ℕ) (types : List CrateType) (source file : List ℕ) → package_of project u ≡ Some p → IsAscending (map (λ (b : Binary). b.name) p.binaries)
     → IsTarget p u.unit.what crate types source file → Makes project u p crate types source file

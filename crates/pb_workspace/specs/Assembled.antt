@@ -16,7 +16,7 @@ use Rattle.pb_workspace.specs.Members.{means}
 use Rattle.pb_workspace.specs.Places.{places_of}
 use Rattle.pb_workspace.specs.Selected.{places_where}
 
--- an entry that was read, as an entry that has the index of the package to which it leads
+-- the entry of a workspace for one that was read; it has the index of the package to which it leads
 abbrev pub entry_at : List (List ℕ × ℕ) → Wanted → Entry
 entry_at places w = record {
   key = w.key;

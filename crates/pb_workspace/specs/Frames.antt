@@ -31,6 +31,6 @@ frame_of root manifest (Some w) = record { root = root; manifest = manifest; is_
 abbrev pub is_member : WorkspaceRoot → List (List ℕ × Unit {0}) → List ℕ → Bool
 is_member f meant folder = bytes_eq folder f.root || (f.is_workspace && (has folder meant || (is_at_or_below f.root folder && not (is_excluded f.root f.exclude folder))))
 
--- what a package may inherit from its workspace: nothing if it is no member
+-- what a package may inherit from its workspace; a package that is no member may inherit nothing
 abbrev pub given_to : WorkspaceRoot → Bool → Given
 given_to f member = if member then f.given else nothing

@@ -1,5 +1,5 @@
--- The meaning of a glob, defined without its computation. Texts are UTF-8 bytes. Which signs of a
--- glob we support is our own choice. (The Cargo Book, Workspaces)
+-- The meaning of a glob, defined without its computation. Texts are UTF-8 bytes. We have chosen
+-- which signs of a glob we support. (The Cargo Book, Workspaces)
 use Rattle.std.specs.Prelude.{◌≡◌, ◌↔◌, ℕ, Bool, true, false, not, ◌||◌, ◌==◌, List, [], ◌∷◌, ◌++◌}
 use Rattle.std.specs.List.{list_all}
 use Rattle.pb_data.specs.Ascii.{star, question_mark}

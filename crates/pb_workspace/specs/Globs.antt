@@ -1,5 +1,5 @@
 -- Globs of members, with `*` and `?` within one part of a path. Texts are UTF-8 bytes. `GlobWords`
--- defines the same matches as a relation. Which signs of a glob we support is our own choice. (The
+-- defines the same matches as a relation. We have chosen which signs of a glob we support. (The
 -- Cargo Book, Workspaces)
 use Rattle.std.specs.Prelude.{ℕ, Bool, true, false, ◌&&◌, ◌||◌, ◌==◌, nat_le, if◌then◌else◌, List, [], ◌∷◌}
 use Rattle.std.specs.List.{list_any}

@@ -33,13 +33,14 @@ at_root f = record { root = f.root; folder = f.root; manifest = f.manifest }
 abbrev pub nothing_read : LoadState
 nothing_read = record { found = []; ahead = [] }
 
--- What was read after the root package. The root package is a member and is read first, if there is one.
+-- What was read after the root package. If there is a root package, it is a member and is read
+-- first.
 unfoldable pub root_read : World → WorkspaceRoot → Tables → Option Package → Result LoadState LoadFault
 root_read sources f tables None = Ok nothing_read
 root_read sources f tables (Some p) = draft_of sources (at_root f) true f.given p tables >>= (λ d. Ok (with_draft nothing_read f.root d))
 
--- What was read after all other packages. The members are read first. Then, in rounds, the packages
--- to which path dependencies lead are read.
+-- What was read in the end, after all other packages. The other members are read first. Then the
+-- packages to which path dependencies lead are read, in rounds.
 unfoldable pub others_read : World → WorkspaceRoot → LoadState → Result LoadState LoadFault
 others_read sources f begun =
     all_read (draft_at sources f (member_folders sources f)) begun (folders_of (member_folders sources f)) >>= (λ read.
@@ -48,7 +49,7 @@ others_read sources f begun =
 unfoldable pub packages_read : World → WorkspaceRoot → Tables → Option Package → Result LoadState LoadFault
 packages_read sources f tables p = root_read sources f tables p >>= (λ begun. others_read sources f begun)
 
--- The workspace, unless a check failed. All packages are checked together at the end.
+-- The workspace, or the fault of a check that failed. All packages are checked together at the end.
 abbrev pub unless : Option LoadFault → Workspace → Result Workspace LoadFault
 unless None ws = Ok ws
 unless (Some fault) ws = Err fault

@@ -64,12 +64,12 @@ abbrev pub walk_looked : List ℕ → World → WorkspaceRoot → List Part → 
 walk_looked target sources f [] folders = []
 walk_looked target sources f (part ∷ parts) folders = flat_map (step_looked target part) folders ++ walk_looked target sources f parts (flat_map (kept_step sources f part) folders)
 
--- the call that asks if a folder has a manifest
+-- the call that asks whether a folder has a manifest
 abbrev pub manifest_looked : List ℕ → List ℕ → List Call
 manifest_looked target folder = looked target (call.IsFile (below folder (codes "Cargo.toml")))
 
--- The calls for a glob. The glob is walked first. Then each folder to which it leads is asked for a
--- manifest, unless `exclude` lists the folder.
+-- The calls for a glob. The glob is walked first. Then the place is asked whether each folder to
+-- which the glob leads has a manifest, unless `exclude` lists this folder.
 abbrev pub glob_looked : List ℕ → World → WorkspaceRoot → List Part → List Call
 glob_looked target sources f parts = walk_looked target sources f parts (codes "/" ∷ []) ++ flat_map (manifest_looked target) (folders_kept sources f parts)
 
@@ -88,7 +88,7 @@ others_looked target sources f begun =
     ++ (all_looked (draft_at sources f (member_folders sources f)) (folder_looked target sources f) begun (folders_of (member_folders sources f))
     ++ after (all_read (draft_at sources f (member_folders sources f)) begun (folders_of (member_folders sources f))) (λ read. rounds_looked 257 (draft_at sources f (member_folders sources f)) (folder_looked target sources f) read))
 
--- the calls for all packages, with those for the root package first if there is one
+-- the calls for all packages; if there is a root package, the calls for it come first
 unfoldable pub packages_looked : List ℕ → World → WorkspaceRoot → Tables → Option Package → List Call
 packages_looked target sources f tables p = package_looked target f.root p ++ after (root_read sources f tables p) (λ begun. others_looked target sources f begun)
 

@@ -21,7 +21,8 @@ plain_parts names = map (λ name. record { text = name; is_pattern = false }) na
 abbrev pub further : List Part → List ℕ → List Part
 further parts part = if stays part then parts else (if leads_up part then take (length parts - 1) parts else parts ++ record { text = part; is_pattern = true } ∷ [])
 
--- the parts with which the parts of a text begin: the root folder's names, or no parts if the text is absolute
+-- the parts that come before those of a text: the root folder's names, or no parts if the text is
+-- absolute
 abbrev pub start_of : List ℕ → List ℕ → List Part
 start_of root text = if is_absolute text then [] else plain_parts (names_in root)
 

@@ -1,7 +1,8 @@
--- That 257 rounds are enough, and which folders contain the packages of a workspace (The Cargo
--- Book, Workspaces and Specifying Dependencies). The definitions of folders serve proofs. `Folders`
--- of `pb_workspace_laws` defines these folders independently. `sources` is the world without the
--- files at or below the target folder. `f` is what the root manifest says about its workspace.
+-- Why 257 rounds are enough, and which folders contain the packages of a workspace (The Cargo Book,
+-- Workspaces and Specifying Dependencies). The definitions of folders are only used in proofs.
+-- `Folders` of `pb_workspace_laws` defines these folders independently. `sources` is the world
+-- without the files at or below the target folder. `f` is what the root manifest says about its
+-- workspace.
 use Rattle.std.specs.Prelude.{◌≡◌, ℕ, ◌+◌, ◌≤◌, List, length, Option, Some, Ok, Result, Contains}
 use Rattle.pb_data.specs.Limits.{max_packages}
 use Rattle.pb_place_types.specs.Paths.{folder_of}
@@ -30,7 +31,7 @@ pub record LeadsTo (sources : World) (f : WorkspaceRoot) (from to : List ℕ) : 
   pub is_there : Contains owner.wanted entry
   pub leads : entry.folder ≡ to
 
--- The folder is that of the root package, if there is one, or a text of `members` means it.
+-- The folder contains the root package, or a text of `members` means this folder.
 pub data IsRootOrMember (sources : World) (f : WorkspaceRoot) (found : Option WrittenPackage) : List ℕ → Type 0 where
   root : (p : WrittenPackage) (is : found ≡ Some p) → IsRootOrMember sources f found f.root
   member : (text folder : List ℕ) (written : Contains f.members text) (means : Contains (folders_meant sources f text) folder) → IsRootOrMember sources f found folder
@@ -44,7 +45,7 @@ IsPackageFolder sources f found = Reached (IsRootOrMember sources f found) (Lead
 abbrev pub frame_at : List ℕ → Parts → WorkspaceRoot
 frame_at manifest parts = frame_of (folder_of manifest) manifest parts.workspace
 
--- 257 rounds are enough, because at most 256 packages are read. More rounds read no more packages
--- and find no other fault.
+-- 257 rounds are enough, because at most 256 packages are read. Further rounds would not change
+-- what was read, or the fault.
 abbrev pub FuelIsEnough : Type 0
 FuelIsEnough = (read : List ℕ → Result UnresolvedPackage LoadFault) (r : LoadState) (more : ℕ) → length r.found ≤ max_packages → rounds (257 + more) read r ≡ rounds 257 read r

@@ -1,6 +1,6 @@
 -- What is true whenever packages are read, whatever the files contain, and what a root manifest
--- promises about its workspace. The promise that each workspace that was read is settled needs
--- these definitions.
+-- promises about its workspace. We need these definitions to promise that each workspace is settled
+-- once it is read.
 use Rattle.std.specs.Prelude.{◌≡◌, ℕ, ◌≤◌, true, All, IfSome, List, map, length, Option}
 use Rattle.std.specs.List.{AllByRecursion}
 use Rattle.pb_data.specs.Limits.{max_packages}
@@ -18,7 +18,8 @@ use Rattle.pb_workspace_package.specs.Drafted.{ArePromised, IsDraft}
 abbrev pub HasSharedInOrder : WorkspaceTable → Type 0
 HasSharedInOrder w = IsAscending (map (λ (d : WorkspaceDependency). d.key) w.dependencies)
 
--- what each manifest that was read promises about its `[package]`, if it has one, and about its other tables
+-- what is promised about the `[package]` of each manifest that was read, if it has one, and about
+-- its other tables
 pub record ManifestsAreRead (tables : Tables) (found : Option Package) : Type 0 where
   pub named : IfSome found (λ p. is_name p.name ≡ true)
   pub binaries : All (λ b. is_name b.name ≡ true) tables.binaries

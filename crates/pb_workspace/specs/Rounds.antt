@@ -1,6 +1,6 @@
--- Which packages are read, in which order, and when no more are read (The Cargo Book, Workspaces
--- and Specifying Dependencies). The order is our own choice. `sources` is the world without the
--- files at or below the target folder.
+-- Which packages are read, in which order, and when reading ends (The Cargo Book, Workspaces and
+-- Specifying Dependencies). The order is our own choice. `sources` is the world without the files
+-- at or below the target folder.
 use Rattle.std.specs.Prelude.{ℕ, zero, suc, Bool, nat_le, if◌then◌else◌, codes, List, [], ◌∷◌, length, map, Option, Some, None, Result, Ok, Err}
 use Rattle.std.specs.FinMap as finite
 use Rattle.std.specs.Str.{bytes_eq}
@@ -48,7 +48,7 @@ parts_at sources path = manifest_at sources path >>= (λ m. Ok (parts_in m))
 abbrev pub no_package : List ℕ → LoadFault
 no_package manifest = Manifest manifest (BadKind key.Package)
 
--- The package of a manifest that was read. Without `[package]` this is a fault.
+-- The package of a manifest that was read. A manifest without `[package]` is a fault.
 unfoldable pub draft_if : World → WorkspaceRoot → Bool → PackageLocation → Tables → Option Package → Result UnresolvedPackage LoadFault
 draft_if sources f member at tables None = Err (no_package at.manifest)
 draft_if sources f member at tables (Some p) = draft_of sources at member (given_to f member) p tables
@@ -60,8 +60,8 @@ standing_in f folder = record { root = f.root; folder = folder; manifest = below
 unfoldable pub draft_in_file : World → WorkspaceRoot → Bool → PackageLocation → Result UnresolvedPackage LoadFault
 draft_in_file sources f member at = parts_at sources at.manifest >>= (λ parts. draft_if sources f member at parts.tables parts.found)
 
--- The package of a folder. The root's manifest is not read again: if it has a package, this package
--- was read first.
+-- The package of a folder. The manifest of the root is not read again: if there is a root package,
+-- it was read first.
 unfoldable pub draft_at : World → WorkspaceRoot → List (List ℕ × Unit {0}) → List ℕ → Result UnresolvedPackage LoadFault
 draft_at sources f meant folder =
     if bytes_eq folder f.root then Err (no_package f.manifest)

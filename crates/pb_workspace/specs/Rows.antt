@@ -1,13 +1,13 @@
--- How a glob is matched with one walk through the name for each byte of the pattern. A row says,
--- for each end of the name, if the rest of the pattern matches this end. Only private functions
+-- How a glob is matched with one walk through the name for each byte of the pattern. For each end
+-- of the name, a row says whether the rest of the pattern matches this end. Only private functions
 -- need these definitions.
 use Rattle.std.specs.Prelude.{ℕ, Bool, false, ◌&&◌, ◌||◌, ◌==◌, if◌then◌else◌, List, [], ◌∷◌}
 use Rattle.pb_workspace.specs.Globs.{goes_on}
 use Rattle.pb_workspace.specs.declared.glob.Cell.{Cell}
 use Rattle.pb_workspace.specs.declared.glob.Row.{Row}
 
--- The cells of those ends of a name that are longer than `walked`, the shortest first. `before` has
--- the name's bytes before `walked`, the last byte first.
+-- The cells of those ends of a name that are longer than `walked`; the shortest end comes first.
+-- `before` has the name's bytes before `walked`, in reverse order.
 abbrev pub cells_from : (List ℕ → Bool) → List ℕ → List ℕ → List Cell
 cells_from test walked [] = []
 cells_from test walked (b ∷ before) = record { byte = b; matched = test (b ∷ walked) } ∷ cells_from test (b ∷ walked) before

@@ -55,14 +55,15 @@ by_default Unwritten root packages = Ok (root_or_members root packages)
 by_default (Named places) root packages = Ok places
 by_default Unknown root packages = Err NoSuchPackage
 
--- The indices of the packages to build. The first of these that is there decides: `--workspace`
--- (all members), `-p`, `default-members`, the root package, all members.
+-- The indices of the packages to build. With `--workspace` these are all members. Otherwise the
+-- first of `-p`, `default-members` and the root package that is there decides. If none of the three
+-- is there, these are all members, too.
 abbrev pub selected_packages : Workspace → Bool → List (List ℕ) → Result (List ℕ) LoadFault
 selected_packages ws all names =
     if all then Ok (members_of ws.packages)
     else (if not (length names == 0) then named_members names ws.packages else by_default ws.default_members ws.root_package ws.packages)
 
--- the words of a text that spaces separate
+-- the words of a text, which are separated by spaces
 abbrev pub spaced_words : List ℕ → List (List ℕ)
 spaced_words part = filter is_word (slice_split (λ b. b == space) part)
 

@@ -26,12 +26,12 @@ abbrev pub places : List ℕ → List ℕ → List (List ℕ)
 places package_name name = if bytes_eq name package_name then codes "src/main.rs" ∷ in_bin name else in_bin name
 
 -- The source of a `[[bin]]`: its written path, or the first of these names that is a file. If none
--- is a file, it is the first name.
+-- is a file, the source is the first name.
 abbrev pub source_of : World → List ℕ → List (List ℕ) → Option (List ℕ) → List ℕ
 source_of sources folder names path = option_map_or (resolved folder) path (below folder (unwrap_or (first_file sources folder names) (get_or names 0 [])))
 
--- A binary is either written as a `[[bin]]`, or it was found. A found binary counts unless
--- `autobins = false` is written or a `[[bin]]` has its name.
+-- A binary is either written as a `[[bin]]`, or found. A found binary counts unless `autobins =
+-- false` is written, or a `[[bin]]` has the same name.
 pub data IsBinary (sources : World) (folder : List ℕ) (m : Manifest) (w : Written) (b : Binary) : Type 0 where
   written : (t : WrittenBinary) (table : Contains m.binaries t) (name : b.name ≡ t.name) (source : b.source ≡ source_of sources folder (places w.name t.name) t.path) (features : b.required_features ≡ t.required_features)
       → IsBinary sources folder m w b

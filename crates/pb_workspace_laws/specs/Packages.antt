@@ -65,7 +65,7 @@ abbrev pub with_colons : List (List ℕ) → List ℕ
 with_colons authors = join_by (λ author. author) (codes ":") authors
 
 -- The path of a text, rewritten so that it starts at the member's folder instead of the root. A
--- text that is no path stays as it is written.
+-- text that is no path stays unchanged.
 abbrev pub from_member : List ℕ → List ℕ → List ℕ → List ℕ
 from_member root folder text = option_map_or (text_between folder) (result_ok (joined root text)) text
 
@@ -77,8 +77,8 @@ readme_path (readme.At path) = Some path
 
 -- Targets.
 
--- The build script's path. If `build` is missing, it is `build.rs`, provided that there is such a
--- file. Otherwise `build` is `true`, `false` or a path.
+-- The build script's path. If `build` is missing, the path is `build.rs`, provided that there is
+-- such a file. Otherwise `build` decides, which is `true`, `false` or a path.
 abbrev pub script : World → List ℕ → Build → Option (List ℕ)
 script sources folder build.Discovered = first_path sources folder (codes "build.rs" ∷ [])
 script sources folder build.Standard = Some (below folder (codes "build.rs"))
@@ -90,7 +90,7 @@ abbrev pub kinds_or_lib : List CrateType → List CrateType
 kinds_or_lib [] = Lib ∷ []
 kinds_or_lib (kind ∷ kinds) = kind ∷ kinds
 
--- The library of a package. With `[lib]` it is the library of this table; the source is
+-- The library of a package. With `[lib]`, this is the library of the table, whose source is
 -- `src/lib.rs` unless a path is written. Without `[lib]` a package has a library only if
 -- `src/lib.rs` is a file.
 abbrev pub library : World → List ℕ → List ℕ → Option WrittenLibrary → Option Library
@@ -109,10 +109,10 @@ pub data IsFeature (m : Manifest) (f : Feature) : Type 0 where
 
 -- Entries.
 
--- What a dependency requests. A dependency with its own path starts at its package's folder. If it
--- inherits the workspace's entry with its key, the path is that of the entry and starts at the
--- root's folder. An inherited dependency requests the features of both entries, and `default` if
--- one of the two entries does.
+-- What a dependency requests. If a dependency has its own path, this path starts at its package's
+-- folder. If the dependency inherits the workspace's entry with the same key, the path is that of
+-- the entry, and starts at the root's folder. An inherited dependency requests the features of both
+-- entries, and `default` if one of the two entries does.
 pub data RequestsPackage (root folder : List ℕ) (entries : List WorkspaceDependency) (d : Dependency) : List ℕ → PathSource → Bool → List (List ℕ) → Type 0 where
   path : (s : PathSource) (is : d.source ≡ source.Path s) → RequestsPackage root folder entries d (resolved folder s.path) s s.default_features d.features
   workspace : (default : Bool) (is : d.source ≡ source.Workspace default) (w : WorkspaceDependency) (there : Contains entries w) (same : w.key ≡ d.key) (s : PathSource) (has_path : w.source ≡ shared.Path s)

@@ -25,12 +25,13 @@ abbrev pub first_some : {A : Type 0} → Option A → Option A → Option A
 first_some None second = second
 first_some (Some x) second = Some x
 
--- the first of `src/bin/NAME.rs` and `src/bin/NAME/main.rs` that is a file of the sources
+-- whichever of `src/bin/NAME.rs` and `src/bin/NAME/main.rs` is a file of the sources; the first, if
+-- both are
 abbrev pub looked_in_bin : List ℕ → World → List ℕ → Option (List ℕ)
 looked_in_bin folder sources name = first_some (own_source folder sources (flat_source name)) (own_source folder sources (nested_source name))
 
 -- The source of a `[[bin]]` without a written path: the first of three paths that is a file. The
--- paths are `src/main.rs`, if the binary is named as its package, and the two in `src/bin`. If none
+-- paths are `src/main.rs`, if the binary has its package's name, and the two in `src/bin`. If none
 -- is a file, the source is the first of these paths.
 abbrev pub looked_for : List ℕ → World → Bool → List ℕ → List ℕ
 looked_for folder sources is_packages name =

@@ -22,7 +22,7 @@ is_outside (Place path fault) = true
 is_outside OutOfMemory = true
 is_outside _ = false
 
--- the fault is that of a file that could not be read, or of a folder that could not be listed
+-- the fault says that a file could not be read, or that a folder could not be listed
 abbrev pub is_read_fault : PlaceFault → Bool
 is_read_fault place.Read = true
 is_read_fault place.List = true
@@ -52,13 +52,13 @@ fault_at path fault = Place path fault
 abbrev pub UnlessFailed : {A : Type 0} → Result A LoadFault → Result A LoadFault → Type 0
 UnlessFailed result answer = MatchResult result (λ x. answer ≡ Ok x) (λ e. is_outside e ≡ false → answer ≡ Err e)
 
--- No child was started. The fault says that a call failed if and only if a call failed. This call
--- then had the fault and the path that are reported, and was the last call.
+-- No child was started. A call failed if and only if the fault says so. In this case the fault has
+-- the failed call's own fault and path, and no call came after it.
 abbrev pub ReadsOnly : {T : Type 0} → Result T LoadFault → Counts → Counts → Type 0
 ReadsOnly result old new = MatchResult result (λ _. (new.failures ≡ old.failures) × (new.starts ≡ old.starts))
     (λ e. (new.starts ≡ old.starts) × (is_failure e ≡ false → new.failures ≡ old.failures) × (is_failure e ≡ true → new.failures ≡ up old.failures) × (is_failure e ≡ true → new.late ≡ 0) × (is_failure e ≡ true → new.last ≡ failure_of e) × (is_failure e ≡ true → named_in new ≡ path_told e) × (is_read e ≡ true))
 
--- The step changes nothing but the counters. If a call failed, it was the last call.
+-- The step changes nothing but the counters. If a call failed, no call came after it.
 pub record OnlyLooks {T : Type 0} (result : Result T LoadFault) (old new : At) : Type 0 where
   pub world : new.world ≡ old.world
   pub most : new.most ≡ old.most

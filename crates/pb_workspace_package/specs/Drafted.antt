@@ -1,5 +1,5 @@
--- What is true of every package that was read, whatever the files contain. The promise that each
--- workspace that was read is settled needs these definitions.
+-- What is true of every package that was read, whatever the files contain. We need these
+-- definitions to promise that each workspace is settled once it is read.
 use Rattle.std.specs.Prelude.{◌≡◌, ◌||◌, true, List, map, IfSome}
 use Rattle.std.specs.List.{AllByRecursion}
 use Rattle.pb_manifest_types.specs.Letters.{is_name, is_crate_name, is_feature_name}

@@ -1,6 +1,6 @@
--- What a package is as a whole. A package is described by its manifest and its folder, and inherits
--- from its workspace (The Cargo Book, Manifest Format and Workspaces). `sources` is the world
--- without the files at or below the target folder.
+-- A package as a whole. Its manifest and its folder describe it, and it inherits from its workspace
+-- (The Cargo Book, Manifest Format and Workspaces). `sources` is the world without the files at or
+-- below the target folder.
 use Rattle.std.specs.Prelude.{ℕ, Bool, List, Result, Ok}
 use Rattle.pb_data.specs.UnlessOom.{◌>>=◌}
 use Rattle.pb_place_types.specs.World.{World}
@@ -46,7 +46,7 @@ draft_from at is_member keys lists development targets = record {
   has_same_binaries = lists.has_same_binaries;
 }
 
--- the package whose keys are settled already, or the first fault of an entry
+-- the package, given its settled keys, or the first fault of an entry
 unfoldable pub draft_with : World → PackageLocation → Bool → Given → Tables → Keys → Result UnresolvedPackage LoadFault
 draft_with sources at is_member given t keys =
     lists_of at given t.dependencies t.build_dependencies t.features t.binaries >>= (λ lists.

@@ -22,12 +22,14 @@ is_enabled_by_name name features = list_any (λ f. list_any (enables name) f.ite
 abbrev pub makes_feature : List Feature → Dependency → Bool
 makes_feature written d = d.optional && not (is_enabled_by_name d.key written)
 
--- the features after these entries have added the features that they make; each has the single item `dep:KEY`
+-- the features after these entries have added theirs; an added feature has the single item
+-- `dep:KEY`
 abbrev pub with_made : List Feature → List (List ℕ × List FeatureItem) → List Dependency → List (List ℕ × List FeatureItem)
 with_made written entries [] = entries
 with_made written entries (d ∷ ds) = with_made written (if makes_feature written d then with_entry entries d.key (item.Dependency d.key ∷ []) else entries) ds
 
--- the features after the written features are added; a written feature replaces a made one of the same name
+-- the features after the written features were added; a written feature replaces the feature of the
+-- same name that an entry made
 abbrev pub with_written : List (List ℕ × List FeatureItem) → List Feature → List (List ℕ × List FeatureItem)
 with_written entries [] = entries
 with_written entries (f ∷ fs) = with_written (with_entry entries f.name f.items) fs

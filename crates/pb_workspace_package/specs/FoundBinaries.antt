@@ -49,7 +49,7 @@ found_at path (Some name) = Some record { name = name; source = path; required_f
 abbrev pub binary_at : Bool → List ℕ → List ℕ → Option Binary
 binary_at nested bin path = found_at path (name_inside nested (inside bin path))
 
--- the binary with the source `src/main.rs`, if that is a file; it is named as the package
+-- the binary with the source `src/main.rs`, if that is a file; its name is that of the package
 abbrev pub main_binary : List ℕ → Option (List ℕ) → List Binary
 main_binary name None = []
 main_binary name (Some path) = record { name = name; source = path; required_features = [] } ∷ []

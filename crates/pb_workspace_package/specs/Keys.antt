@@ -1,5 +1,5 @@
--- How the keys of a package are settled. These definitions are about one package and what its
--- workspace offers it.
+-- How the keys of a package are settled. These definitions are about one package, and about what
+-- its workspace lets it inherit.
 use Rattle.std.specs.Prelude.{ℕ, List, Result, Ok}
 use Rattle.pb_data.specs.UnlessOom.{◌>>=◌}
 use Rattle.pb_place_types.specs.World.{World}

@@ -21,13 +21,13 @@ FailsOn (Place path fault) calls old new = FailsAt fault calls old new
 FailsOn e calls old new = ⊥
 
 -- How a step ended with this error. A refusal came after all of these calls. Memory may run out
--- after the first few. A failed call is one of these calls, and the last.
+-- after the first few. A failed call is one of these calls, and no call came after it.
 abbrev pub LooksUntil : LoadFault → List Call → Counts → Counts → Type 0
 LooksUntil e calls old new = (is_outside e ≡ false → new ≡ past_calls calls old) × (is_failure e ≡ false → MakesSome calls old new) × (is_failure e ≡ true → FailsOn e calls old new)
 
--- After a success, exactly these calls were made. After an error, the first of them were. Each call
--- is counted and the failed call is recorded. So the counters also determine the order of the
--- calls.
+-- After a success, exactly these calls were made. After an error, the first few of them were made.
+-- Each call is counted and the failed call is recorded. So the counters also determine the order of
+-- the calls.
 abbrev pub Looks : {T : Type 0} → Result T LoadFault → List Call → Counts → Counts → Type 0
 Looks result calls old new = MatchResult result (λ _. new ≡ past_calls calls old) (λ e. LooksUntil e calls old new)
 
@@ -40,11 +40,11 @@ abbrev pub after : {A : Type 0} → Result A LoadFault → (A → List Call) →
 after (Ok x) next = next x
 after (Err e) next = []
 
--- the call that asks if a package's folder has a certain file at a fixed path
+-- the call that asks whether a package's folder has a certain file at a fixed path
 abbrev pub own_asked : List ℕ → List ℕ → OwnFile → List Call
 own_asked target folder file = looked target (call.IsFile (below folder (name_of file)))
 
--- The calls for a package's folder. One call for each file at a fixed path asks if the file is
+-- The calls for a package's folder. One call for each file at a fixed path asks whether the file is
 -- there. Then the files below `src/bin` are listed.
 abbrev pub listings_at : List ℕ → List ℕ → List Call
 listings_at target folder = flat_map (own_asked target folder) own_files ++ looked target (call.ListOutside (bin_folder folder) target)

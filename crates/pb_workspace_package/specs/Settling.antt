@@ -24,8 +24,8 @@ use Rattle.pb_workspace_package.specs.FoundBinaries.{found_binaries}
 use Rattle.pb_workspace_package.specs.Sources.{found_readme, library_of, script_of}
 use Rattle.pb_workspace_package.specs.Wanted.{each_wanted, wanted_of}
 
--- the name of the README that is found in the folder; nothing is looked for if the manifest says
--- something about a README
+-- the name of the README that is found in the folder; if the manifest mentions a README, none is
+-- looked for
 abbrev pub readme_found : List ℕ → World → Inheritable Readme → List ℕ
 readme_found folder sources (Written readme) = []
 readme_found folder sources Workspace = []
@@ -50,7 +50,7 @@ targets_of folder sources name autobins build library binaries = record {
   script = script_of folder sources build;
 }
 
--- a name of the list is among the earlier names, or occurs twice in the list
+-- some name of the list is also among the earlier names, or occurs twice in the list
 abbrev pub comes_again : List (List ℕ) → List (List ℕ) → Bool
 comes_again before [] = false
 comes_again before (name ∷ names) = is_mentioned before name || comes_again (mentioned before name) names

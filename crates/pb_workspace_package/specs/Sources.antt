@@ -20,20 +20,20 @@ has_own_file folder sources name = has_file (below folder name) sources
 abbrev pub own_source : List ℕ → World → List ℕ → Option (List ℕ)
 own_source folder sources name = if has_own_file folder sources name then Some (below folder name) else None
 
--- the README of a package whose manifest says nothing about one: the first of these three names
--- that is a file of its folder
+-- the README of a package whose manifest does not mention one: the first of these three names that
+-- is a file in the package's folder
 abbrev pub found_readme : List ℕ → World → List ℕ
 found_readme folder sources =
     if has_own_file folder sources (codes "README.md") then codes "README.md"
     else (if has_own_file folder sources (codes "README.txt") then codes "README.txt"
     else (if has_own_file folder sources (codes "README") then codes "README" else []))
 
--- the path that a written text means; a relative text starts at the folder
+-- the path that a text means; a relative path starts at the folder
 abbrev pub resolved : List ℕ → List ℕ → List ℕ
 resolved folder text = path_of (names_of (if is_absolute text then text else folder ++ slash ∷ text))
 
 -- The build script of a package. If `build` is missing, the script is `build.rs`, provided that
--- this is a file. Otherwise the script is what `build` says.
+-- there is such a file. Otherwise `build` decides.
 abbrev pub script_of : List ℕ → World → Build → Option (List ℕ)
 script_of folder sources build.Discovered = own_source folder sources (codes "build.rs")
 script_of folder sources build.Standard = Some (below folder (codes "build.rs"))
