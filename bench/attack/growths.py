@@ -3,14 +3,14 @@ from concurrent.futures import ThreadPoolExecutor
 
 program, compiler, folder, every, workers, only = sys.argv[1:]
 FAILED = b'{"reason":"build-finished","success":false}\n'
-NOTES = (b"note: out of memory", b"note: out of memory: the sentence of the fault is not shown")
-ERRORS = (b"error: fault memory OutOfMemory", b"error: the build failed; out of memory: the reason is not shown")
+NOTES = (b"note: out of memory", b"note: there is no memory to describe the fault")
+ERRORS = (b"error: fault memory OutOfMemory", b"error: the build failed; there is no memory to show the reason")
 # The second of each is said if memory for the first is refused too. So the first pair comes first.
 MEMORY = [note + b"\n" + error for note in NOTES for error in ERRORS]
 # Before the program has read its words, there is no note.
 EARLY = [*MEMORY, ERRORS[0]]
 # What `--explain` says at its end, or where memory for it is refused.
-EXPLAINED = re.compile(rb"(\d+ started, \d+ kept(, \d+ not reached)?|note: out of memory: the reasons are not shown)")
+EXPLAINED = re.compile(rb"(\d+ started, \d+ kept(, \d+ not reached)?|note: there is no memory to show the reasons)")
 
 
 def manifest(name, more=""):

@@ -16,9 +16,9 @@ again=${artifact%false\}}true\}
 failed='{"reason":"build-finished","success":false}'
 # The note and the result line, and for each the line that takes no memory, where none is left for the other.
 noted='note: out of memory'
-unnoted='note: out of memory: the sentence of the fault is not shown'
+unnoted='note: there is no memory to describe the fault'
 error='error: fault memory OutOfMemory'
-unsaid='error: the build failed; out of memory: the reason is not shown'
+unsaid='error: the build failed; there is no memory to show the reason'
 within() (
     MALLOC_MMAP_THRESHOLD_=0
     export MALLOC_MMAP_THRESHOLD_

@@ -51,25 +51,25 @@ error_of answer = codes "error: " ++ result_line answer ++ codes "\n"
 -- What is written if memory runs out for the reason of a failure. The next definitions are for
 -- notes, moved files, reasons, a child's output, and the detail of a fault.
 abbrev pub why_lost : List ℕ
-why_lost = codes "error: the build failed; out of memory: the reason is not shown\n"
+why_lost = codes "error: the build failed; there is no memory to show the reason\n"
 
 abbrev pub moved_lost : List ℕ
-moved_lost = codes "note: out of memory: what was changed during the build is not shown\n"
+moved_lost = codes "note: there is no memory to show what was changed during the build\n"
 
 abbrev pub reasons_lost : List ℕ
-reasons_lost = codes "note: out of memory: the reasons are not shown\n"
+reasons_lost = codes "note: there is no memory to show the reasons\n"
 
 abbrev pub said_lost : List ℕ
-said_lost = codes "note: out of memory: the output of a child process is not shown\n"
+said_lost = codes "note: there is no memory to show the output of a child process\n"
 
 abbrev pub detail_lost : List ℕ
-detail_lost = codes "note: out of memory: the sentence of the fault is not shown\n"
+detail_lost = codes "note: there is no memory to describe the fault\n"
 
 abbrev pub report_lost : List ℕ
-report_lost = codes "note: out of memory: the details of the fault are not shown\n"
+report_lost = codes "note: there is no memory to show the details of the fault\n"
 
 abbrev pub look_lost : List ℕ
-look_lost = codes "note: out of memory: the notes are not shown\n"
+look_lost = codes "note: there is no memory to show the notes\n"
 
 -- What is written at the end of a build. If all its units are good, nothing is written. If the
 -- build failed, the reason is written, or one line says that memory ran out for the reason.

@@ -7,7 +7,7 @@ use Rattle.pb_tool_program.specs.Writing.{TellsOr}
 use Rattle.pb_tool_sentences.specs.Libraries.{notes_of}
 
 abbrev pub notes_lost : List ℕ
-notes_lost = codes "note: out of memory: the packages without a library are not shown\n"
+notes_lost = codes "note: there is no memory to show the packages without a library\n"
 
 -- What is written before a build: a note on each package in its plan that lacks a library. If
 -- memory runs out for these notes, one line says so. If there are no such packages, or no plan,

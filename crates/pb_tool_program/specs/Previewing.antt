@@ -22,7 +22,7 @@ use Rattle.pb_workspace_types.specs.declared.options.Options.{Options}
 
 -- the line that is written if memory runs out for the text about what would be started
 abbrev pub fates_lost : List ℕ
-fates_lost = codes "note: out of memory: the units that would be started are not shown\n"
+fates_lost = codes "note: there is no memory to show the units that would be started\n"
 
 -- either the lines say what a build would do with these units, or one line says that memory ran out
 -- for this

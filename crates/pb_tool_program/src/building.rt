@@ -88,7 +88,7 @@ fn mark<E: Out>(alloc: Global, err: &mut E, moved: &[Moved])
         Ok(lines) => write_all(err, lines.as_bytes()),
         Err(_) => write_all(
             err,
-            b"note: out of memory: what was changed during the build is not shown\n",
+            b"note: there is no memory to show what was changed during the build\n",
         ),
     };
 }
@@ -154,7 +154,7 @@ fn tell<E: Out>(alloc: Global, err: &mut E, status: u8, answer: &Result<Summary,
         Ok(line) => write_all(err, line.as_bytes()),
         Err(_) => write_all(
             err,
-            b"error: the build failed; out of memory: the reason is not shown\n",
+            b"error: the build failed; there is no memory to show the reason\n",
         ),
     };
 }
@@ -191,7 +191,7 @@ fn repeat_to<E: Out>(alloc: Global, err: &mut E, answer: &Result<Summary, BuildF
         Ok(text) => write_all(err, text.as_slice()),
         Err(_) => write_all(
             err,
-            b"note: out of memory: the output of a child process is not shown\n",
+            b"note: there is no memory to show the output of a child process\n",
         ),
     };
 }
@@ -211,7 +211,7 @@ fn tell_detail<E: Out>(
         Ok(about) => write_all(err, about.as_bytes()),
         Err(_) => write_all(
             err,
-            b"note: out of memory: the sentence of the fault is not shown\n",
+            b"note: there is no memory to describe the fault\n",
         ),
     };
 }
@@ -260,7 +260,7 @@ fn tell_notes<E: Out>(alloc: Global, err: &mut E, notes: &Notes)
     }
     match notes.lines(alloc) {
         Ok(lines) => write_all(err, lines.as_bytes()),
-        Err(_) => write_all(err, b"note: out of memory: the notes are not shown\n"),
+        Err(_) => write_all(err, b"note: there is no memory to show the notes\n"),
     };
 }
 

@@ -70,7 +70,7 @@ fn tell_nothing<E: Out>(alloc: Global, err: &mut E, wanted: Wanted, folder: &Pat
         Ok(text) => write_all(err, text.as_bytes()),
         Err(_) => write_all(
             err,
-            b"error: the build failed; out of memory: the reason is not shown\n",
+            b"error: the build failed; there is no memory to show the reason\n",
         ),
     };
 }

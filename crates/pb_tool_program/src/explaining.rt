@@ -15,7 +15,7 @@ use std::alloc::Global;
 fn tell_lost<E: Out>(err: &mut E)
     ensures { Tells reasons_lost (E.heard err.old) (E.heard err.new) }
 {
-    let _ = write_all(err, b"note: out of memory: the reasons are not shown\n");
+    let _ = write_all(err, b"note: there is no memory to show the reasons\n");
 }
 
 /// Writes why the children of these units were started. If memory runs out for that, it writes a

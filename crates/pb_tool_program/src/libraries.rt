@@ -43,7 +43,7 @@ pub(crate) fn note<E: Out>(alloc: Global, err: &mut E, plan: &Result<BuildPlan, 
         Ok(notes) => write_all(err, notes.as_bytes()),
         Err(_) => write_all(
             err,
-            b"note: out of memory: the packages without a library are not shown\n",
+            b"note: there is no memory to show the packages without a library\n",
         ),
     };
 }

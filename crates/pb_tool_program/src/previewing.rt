@@ -28,7 +28,7 @@ fn tell_fates<E: Out>(alloc: Global, err: &mut E, units: &[Planned], fates: &[Fa
         Ok(text) => write_all(err, text.as_bytes()),
         Err(_) => write_all(
             err,
-            b"note: out of memory: the units that would be started are not shown\n",
+            b"note: there is no memory to show the units that would be started\n",
         ),
     };
 }

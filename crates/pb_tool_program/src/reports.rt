@@ -60,7 +60,7 @@ pub(crate) fn tell_report<E: Out>(alloc: Global, err: &mut E, texts: &[Text])
         Ok(lines) => write_all(err, lines.as_bytes()),
         Err(_) => write_all(
             err,
-            b"note: out of memory: the details of the fault are not shown\n",
+            b"note: there is no memory to show the details of the fault\n",
         ),
     };
 }

@@ -49,7 +49,7 @@ fn show_line<S: Out>(alloc: Global, aside: &mut S, line: &[u8]) {
     };
     match line_shown(alloc, line) {
         Ok(text) => write_all(aside, text.as_str().as_bytes()),
-        Err(_) => write_all(aside, b"note: out of memory: a line is not shown as text\n"),
+        Err(_) => write_all(aside, b"note: there is no memory to show a line as text\n"),
     };
 }
 

@@ -14,7 +14,7 @@ use pb_place_types::{
 use std::alloc::{AllocError, Global};
 
 /// The note that is written if memory runs out for another note.
-const NO_MEMORY: &[u8] = b"note: out of memory: the note on a long record is not shown\n";
+const NO_MEMORY: &[u8] = b"note: there is no memory to show the note on a long record\n";
 
 /// A place that can also name the children that it starts, and report what failed.
 pub trait Speaking: Place + Reporting {
@@ -97,7 +97,7 @@ fn name<S: Out>(alloc: Global, aside: &mut S, erases: bool, command: &Command) {
         Err(_) => write_text(
             aside,
             erases,
-            b"note: out of memory: the command of a child process is not shown\n",
+            b"note: there is no memory to show the command of a child process\n",
         ),
     };
 }
