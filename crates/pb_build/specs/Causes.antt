@@ -65,8 +65,9 @@ child_fault unit start.OutOfMemory = OutOfMemory
 child_fault unit fault = Child unit fault
 
 -- How a step changes the counters.
--- - If the step succeeds, no call has failed, and it has started the children that `Begins` says.
--- - If the step fails, `May` allows the fault with these starts, and the fault has its cause.
+-- - If the step succeeds, no call failed, and the step started the children that `Begins` names.
+-- - If the step fails, `May` allows the fault together with the children that were started. The
+--   counters show the call that caused the fault.
 abbrev pub CountsAs : {T : Type 0} → (T → Starts → Starts → Type 0) → (BuildFault → Starts → Starts → Type 0) → Result T BuildFault → Counts → Counts → Type 0
 CountsAs Begins May result old new = MatchResult result (λ x. (new.failures ≡ old.failures) × Begins x old.starts new.starts) (λ e. May e old.starts new.starts × HasCause e old new)
 

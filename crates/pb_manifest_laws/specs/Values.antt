@@ -54,8 +54,8 @@ abbrev pub HasOrTakes : {A : Type 0} → A → (A → Data) → Option Data → 
 HasOrTakes default write found (inherited.Written x) = HoldsOr default write found x
 HasOrTakes default write found inherited.Workspace = TakesWorkspace found
 
--- If the key is there, its value is a table that means the value that was read. If the key is
--- missing, no value is read.
+-- If the key is there, its value is a table, and this table means what was read. If the key is
+-- missing, nothing is read.
 abbrev pub IsTableAt : {A : Type 0} → (Members → A → Type 0) → Option Data → Option A → Type 0
 IsTableAt Is found value = AllZip (OfTable Is) (option_to_list found) (option_to_list value)
 

@@ -18,7 +18,7 @@ use std::process::Output;
 /// The key of a child without an output folder.
 const QUERY: &str = "-vV";
 
-/// The most bytes of a child's standard error that are read for a report.
+/// The greatest number of bytes of a child's standard error that are read for a report.
 const MOST_BYTES: usize = 4096;
 
 /// A child that did not answer.

@@ -15,7 +15,7 @@ use std::alloc::{AllocError, Global};
 use std::rt::Files;
 use std::{fs, io};
 
-/// The most levels that a folder may be below the listed folder.
+/// The greatest number of levels that a folder may be below the listed folder.
 const DEEPEST: u8 = 128;
 
 /// Returns whether a path is at or below the path that is left out.

@@ -12,7 +12,7 @@ use std::io::{ErrorKind, Read};
 use std::rt::{Env, Files};
 use std::{env, fs, io};
 
-/// The most bytes that a file may have.
+/// The greatest number of bytes that a file may have.
 pub(crate) const MOST_BYTES: u64 = 4_294_967_296;
 
 /// What is at a path, after following links.

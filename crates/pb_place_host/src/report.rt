@@ -7,10 +7,10 @@ use pb_data::{Items, Text};
 use std::alloc::{AllocError, Global};
 use std::marker::Model;
 
-/// The most texts of one report.
+/// The greatest number of texts in one report.
 const MOST_TEXTS: usize = 10;
 
-/// The most bytes of a text before it is cut. A path of the system has at most 4,096.
+/// The greatest number of bytes of a text that is not cut. A path of the system has at most 4,096.
 const LONGEST: usize = 8_192;
 
 /// Returns a text with `?` for each control character. A longer text is cut, and ends with `..`.

@@ -94,9 +94,9 @@ Drops (Some launched) old new = (result : Result Ended StartFault) × (new ≡ c
 
 -- Calls on files and variables that are made one after the other.
 
--- How these calls ended with this fault of a build. Either one of them failed, all calls before it
--- succeeded, and no call came after it, or memory ran out after the first few. No other fault is
--- possible.
+-- This fault of a build ended these calls. Either one of the calls failed, all calls before it
+-- succeeded, and no call came after it, or memory ran out after the first few calls. No other fault
+-- is possible.
 abbrev pub StopsAt : BuildFault → List Call → Counts → Counts → Type 0
 StopsAt (Device unit (device.Place fault)) calls old new = FailsAt fault calls old new
 StopsAt build.OutOfMemory calls old new = MakesSome calls old new

@@ -209,10 +209,7 @@ fn tell_detail<E: Out>(
     match detail(alloc, rendered, answer) {
         Ok(about) if about.is_empty() => true,
         Ok(about) => write_all(err, about.as_bytes()),
-        Err(_) => write_all(
-            err,
-            b"note: there is no memory to describe the fault\n",
-        ),
+        Err(_) => write_all(err, b"note: there is no memory to describe the fault\n"),
     };
 }
 

@@ -10,7 +10,7 @@ use pb_place_types::{Out, write_all};
 use pb_tool_sentences::notes_of;
 use std::alloc::{AllocError, Global};
 
-/// Returns whether each package that a dependency of a plan names has a library.
+/// Returns whether every package named by a dependency of the plan has a library.
 fn has_libraries(plan: &BuildPlan) -> bool
     ensures { result ≡ (length plan.now.project.plan.without_library == 0) }
 {

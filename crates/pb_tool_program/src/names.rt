@@ -23,7 +23,8 @@ fn near_told(alloc: Global, near: Option<&str>) -> Result<String, AllocError>
     Ok(text)
 }
 
-/// Returns the line that says that a page lacks this name, with a similar name of the page.
+/// Returns the line for a name that is not on the page. The line also gives a similar name from the
+/// page, if there is one.
 fn no_such_name(alloc: Global, page: &Page, name: &str) -> Result<String, AllocError>
     ensures { IfOk result
         (λ text. string_bytes text ≡ no_such_name (near_in page.now name.now) name.now) }

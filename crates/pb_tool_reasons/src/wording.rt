@@ -66,7 +66,7 @@ fn is_plain_byte(byte: u8) -> bool
     31 < byte
 }
 
-/// Returns whether a text has no such character, so no line feed.
+/// Returns whether a text has no control character below the blank. A line feed is such a character.
 fn is_plain(text: &Text) -> bool
     ensures { result ≡ is_plain text.now }
 {

@@ -1,4 +1,4 @@
-//! A unit that is compared with its record, as a place sees it.
+//! The comparison of a unit with its record, as far as the calls of a place show it.
 
 use crate::folders::{file_differs, paths_differ};
 use crate::values::words_only;
