@@ -1,5 +1,5 @@
 #!/usr/bin/env python3
-"""Measures what the gate takes for each crate: `rows.py [COMMAND..]`, by default `.ci/run`, in a clean clone.
+"""Measures what the gate takes for each crate: `rows.py .ci/run`, in a clean clone. Another command can take its place.
 
 It runs the command at the top of the repository. Each second it reads from /proc the processor time of every process below
 the command, and its folder, which says for which crate the process works. At the end it prints a row for each crate, as in
@@ -61,7 +61,9 @@ def work_of(pid):
 
 
 def main():
-    command = sys.argv[1:] or [".ci/run"]
+    command = sys.argv[1:]
+    if not command:
+        sys.exit("which command? `rows.py .ci/run` measures the gate")
     began, took = time.monotonic(), {}
     child = subprocess.Popen(command, cwd=TOP)
     while child.poll() is None:
