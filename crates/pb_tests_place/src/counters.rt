@@ -56,11 +56,16 @@ fn past_fault(failure: Failure, before: Counters) -> Counters
 
 /// The counters after a call on files or variables.
 fn after_call(answer: Result<(), PlaceFault>, before: Counters) -> Counters
-    ensures calls { result.calls ≡ (counted (call.Read []) answer (counts_of before)).calls }
-    ensures failures { result.failures ≡ (counted (call.Read []) answer (counts_of before)).failures }
-    ensures starts { result.starts ≡ (counted (call.Read []) answer (counts_of before)).starts.count }
-    ensures late { result.late ≡ (counted (call.Read []) answer (counts_of before)).late }
-    ensures last { result.last ≡ (counted (call.Read []) answer (counts_of before)).last }
+    ensures calls { result.calls ≡ (counted (call.Read []) answer
+        (counts_of before.calls before.failures before.starts before.late before.last)).calls }
+    ensures failures { result.failures ≡ (counted (call.Read []) answer
+        (counts_of before.calls before.failures before.starts before.late before.last)).failures }
+    ensures starts { result.starts ≡ (counted (call.Read []) answer
+        (counts_of before.calls before.failures before.starts before.late before.last)).starts.count }
+    ensures late { result.late ≡ (counted (call.Read []) answer
+        (counts_of before.calls before.failures before.starts before.late before.last)).late }
+    ensures last { result.last ≡ (counted (call.Read []) answer
+        (counts_of before.calls before.failures before.starts before.late before.last)).last }
 {
     match answer {
         Ok(()) => past_call(before),
@@ -71,11 +76,16 @@ fn after_call(answer: Result<(), PlaceFault>, before: Counters) -> Counters
 
 /// The counters after a start.
 fn after_start(answer: Result<(), StartFault>, before: Counters) -> Counters
-    ensures calls { result.calls ≡ (counted_start answer (counts_of before)).calls }
-    ensures failures { result.failures ≡ (counted_start answer (counts_of before)).failures }
-    ensures starts { result.starts ≡ (counted_start answer (counts_of before)).starts.count }
-    ensures late { result.late ≡ (counted_start answer (counts_of before)).late }
-    ensures last { result.last ≡ (counted_start answer (counts_of before)).last }
+    ensures calls { result.calls ≡ (counted_start answer
+        (counts_of before.calls before.failures before.starts before.late before.last)).calls }
+    ensures failures { result.failures ≡ (counted_start answer
+        (counts_of before.calls before.failures before.starts before.late before.last)).failures }
+    ensures starts { result.starts ≡ (counted_start answer
+        (counts_of before.calls before.failures before.starts before.late before.last)).starts.count }
+    ensures late { result.late ≡ (counted_start answer
+        (counts_of before.calls before.failures before.starts before.late before.last)).late }
+    ensures last { result.last ≡ (counted_start answer
+        (counts_of before.calls before.failures before.starts before.late before.last)).last }
 {
     let begun = Counters {
         starts: before.starts.saturating_add(1),

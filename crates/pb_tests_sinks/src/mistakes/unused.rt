@@ -49,7 +49,7 @@ name = "a"
 @ /w/src/main.rs
 ---
 note: --bin b: there is no such binary
-=== [manifest.ignored] more than ten
+=== [manifest.ignored] more than nine
 @ /w/Cargo.toml
 [package]
 name = "a b"
@@ -73,7 +73,6 @@ note: in /w/Cargo.toml, line 6, key package.a4: it is not used
 note: in /w/Cargo.toml, line 7, key package.a5: it is not used
 note: in /w/Cargo.toml, line 8, key package.a6: it is not used
 note: in /w/Cargo.toml, line 9, key package.a7: it is not used
-note: in /w/Cargo.toml, line 10, key package.a8: it is not used
-note: and 2 more
+note: and 3 more
 error: refused BadName
 "#;
