@@ -7,7 +7,8 @@ use Rattle.pb_build_result.specs.declared.fault.Refusal.TheVariants as refusal
 use Rattle.pb_build_result.specs.declared.summary.Summary.{Summary}
 use Rattle.pb_command_types.specs.declared.fault.UnitFault.{UnitFault}
 use Rattle.pb_command_types.specs.declared.fault.UnitFault.TheVariants as unit
-use Rattle.pb_tool_sentences.specs.Sentences.{build_sentence, unit_sentence}
+use Rattle.pb_build_result.specs.Failures.{unit_sentence}
+use Rattle.pb_build_result.specs.Sentence.{build_sentence}
 use Rattle.pb_unit.specs.declared.fault.PlanFault.TheVariants as plan
 
 -- a note with this sentence
