@@ -50,4 +50,4 @@ RecordsStayTrue = (child : Answers) (folder : List ℕ) (steps : List SessionSte
 abbrev pub AnyBuildGives : Type 0
 AnyBuildGives = (child : Answers) (options : Options) (pick : PickBy) (steps : List SessionStep) (before mid after : Point)
     → SparingCourse child (records_of options mid.moment.world.variables) steps before mid → Sound reading judge child (records_of options mid.moment.world.variables) before.moment.world.files
-    → IsHonestBuild child options mid.moment.world → (built : CarriesBuild child options pick mid after) → GivesCleanResult TrustedRecords child (ByPicked pick options) options built.answer.result mid.moment built.ended
+    → IsHonestBuild child options mid.moment.world → (built : CarriesBuild child options pick mid after) → GivesCleanResult TrustedRecords child (ByPicked pick options) options built.answer mid.moment built.ended

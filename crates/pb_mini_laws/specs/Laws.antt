@@ -36,7 +36,7 @@ SmallBuildsGive {S} Turns = (from : S) (options : Options) (result : Result Summ
 abbrev pub SmallSessionsGive : Type 0
 SmallSessionsGive = (options : Options) (pick : PickBy) (steps : List SessionStep) (before mid after : Point)
     → Sound reading judge small_compiler (records_of options mid.moment.world.variables) before.moment.world.files → SmallCourse (records_of options mid.moment.world.variables) steps before mid
-    → IsSmallBuild options mid.moment.world → (built : CarriesBuild small_compiler options pick mid after) → GivesCleanResult TrustedRecords small_compiler (ByPicked pick options) options built.answer.result mid.moment built.ended
+    → IsSmallBuild options mid.moment.world → (built : CarriesBuild small_compiler options pick mid after) → GivesCleanResult TrustedRecords small_compiler (ByPicked pick options) options built.answer mid.moment built.ended
 
 -- Each build of a session file also produces this, if the session begins without files and builds
 -- into these target folders. The builds need only be as `IsToldBuild` says.

@@ -90,7 +90,7 @@ AllTold targets (step ∷ steps) before after course = IsToldStep targets step b
 -- If the step is a build, it produces what a clean build of the workspace at that time produces. A
 -- fault may end the build after the first of its lines.
 abbrev pub StepGives : (step : SessionStep) (before after : Point) → Carries small_compiler step before after → Type 0
-StepGives (Build options pick) before after built = GivesCleanResult TrustedRecords small_compiler (ByPicked pick options) options built.answer.result before.moment built.ended
+StepGives (Build options pick) before after built = GivesCleanResult TrustedRecords small_compiler (ByPicked pick options) options built.answer before.moment built.ended
 StepGives step before after taken = ⊤
 
 -- each build among the steps produces what `StepGives` says

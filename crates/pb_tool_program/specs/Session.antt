@@ -1,5 +1,5 @@
 -- What the session program reports about its input, and how it ends.
-use Rattle.std.specs.Prelude.{◌≡◌, ◌⊎◌, ℕ, Bool, codes, List, [], ◌∷◌, ◌++◌, Ok}
+use Rattle.std.specs.Prelude.{◌≡◌, ◌⊎◌, ℕ, Bool, codes, List, [], ◌∷◌, ◌++◌, Ok, Result}
 use Rattle.std.specs.Io.KnownBytes.{Appends}
 use Rattle.std.specs.FinMap as map
 use Rattle.pb_mini.specs.Answer.{answered}
@@ -7,7 +7,8 @@ use Rattle.pb_place_types.specs.Counts.{up, no_calls}
 use Rattle.pb_place_types.specs.Sinks.{SinkState, TakesPart}
 use Rattle.pb_place_types.specs.World.{Answers}
 use Rattle.pb_build.specs.Session.{Point, Course, Breaks}
-use Rattle.pb_build.specs.declared.sessions.BuildOutcome.{BuildOutcome}
+use Rattle.pb_build_result.specs.declared.fault.BuildFault.{BuildFault}
+use Rattle.pb_build_result.specs.declared.summary.Summary.{Summary}
 use Rattle.pb_build_result.specs.ResultLine.{result_line}
 use Rattle.pb_build_session.specs.Sessions.{session_of}
 use Rattle.pb_build_session.specs.declared.step.SessionStep.{SessionStep}
@@ -23,9 +24,9 @@ abbrev pub Refused : SinkState → SinkState → Type 0
 Refused old new = (Appends old.taken new.taken bad_session × (new.faults ≡ old.faults)) ⊎ (TakesPart bad_session old.taken new.taken × (new.faults ≡ up old.faults))
 
 -- the result line of each answer, each with a line feed at its end
-abbrev pub lines_of : List BuildOutcome → List ℕ
+abbrev pub lines_of : List (Result Summary BuildFault) → List ℕ
 lines_of [] = []
-lines_of (answer ∷ answers) = result_line answer.result ++ codes "\n" ++ lines_of answers
+lines_of (answer ∷ answers) = result_line answer ++ codes "\n" ++ lines_of answers
 
 -- the small compiler as the child of a session
 abbrev pub small_compiler : Answers
