@@ -13,9 +13,7 @@ mod telling;
 mod texts;
 
 pub use bad_unit::BadUnit;
-pub use failures::{
-    device_sentence, line_sentence, place_sentence, start_sentence, unit_sentence,
-};
+pub use failures::{device_sentence, line_sentence, place_sentence, start_sentence, unit_sentence};
 pub use fault::{BuildFault, DeviceFault, Refusal};
 pub use line::result_line;
 pub use refusals::{

@@ -17,7 +17,12 @@ pub(crate) fn join_texts(alloc: Global, parts: &[&str]) -> Result<String, AllocE
 }
 
 /// Returns a text between two others.
-pub(crate) fn between(alloc: Global, before: &str, text: &str, after: &str) -> Result<String, AllocError>
+pub(crate) fn between(
+    alloc: Global,
+    before: &str,
+    text: &str,
+    after: &str,
+) -> Result<String, AllocError>
     ensures { IfOk result (λ whole. string_bytes whole ≡ before.now ++ text.now ++ after.now) }
 {
     let mut whole = String::from_str(alloc, before)?;

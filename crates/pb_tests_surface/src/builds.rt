@@ -2,8 +2,8 @@
 
 use crate::world::{options, put_files};
 use pb_build::{
-    BadSession, BuildFault, SessionStep, Summary, missing_libraries, read_session,
-    result_line, session,
+    BadSession, BuildFault, SessionStep, Summary, missing_libraries, read_session, result_line,
+    session,
 };
 use pb_data::{Items, Text};
 use pb_mini::Mini;

@@ -136,11 +136,7 @@ fn tell_load(
         LoadFault::SameBinary => tell_same_binaries(alloc, notes, pages),
         LoadFault::NoSuchPackage => tell_no_package(alloc, notes, pages, options),
         LoadFault::TooMany => tell_too_many(alloc, notes, pages),
-        LoadFault::NoManifest(_)
-        | LoadFault::NoInherited
-        | LoadFault::LinksWithoutScript
-        | LoadFault::Place(_, _)
-        | LoadFault::OutOfMemory => Ok(()),
+        _ => Ok(()),
     }
 }
 
