@@ -1,5 +1,5 @@
--- A session is a list of edits and builds. The end of a session contains how each build ended, and
--- with which cause.
+-- A session is a list of edits and builds. The end of a session lists how each build ended, with
+-- the cause.
 use Rattle.std.specs.Prelude.{◌≡◌, ◌↔◌, ⊤, ℕ, Bool, true, List, [], ◌∷◌, ◌++◌, Result}
 use Rattle.pb_place_types.specs.Sinks.{SinkState}
 use Rattle.pb_place_types.specs.World.{World, Answers, FilesHavePaths, written, removed}
@@ -24,8 +24,8 @@ use Rattle.pb_build.specs.Kept.{SourcesStay}
 use Rattle.pb_build.specs.Result.{BuildResult, IsResult}
 use Rattle.pb_workspace_types.specs.declared.options.Options.{Options}
 
--- A moment of a session. The moment has the answers of the builds so far, and the deaths that still
--- wait. `fuse` is the number of the call that will fail, or 0.
+-- A moment of a session. The moment has the answers of the builds so far, and the deaths that are
+-- still to come. `fuse` is the number of the call that will fail, or 0.
 pub record Point : Type 0 where
   pub moment : BuildState
   pub answers : List (Result Summary BuildFault)
@@ -40,17 +40,17 @@ point memory heard answers = record { moment = moment (at_in memory) heard; answ
 abbrev pub Edits : World → Point → Point → Type 0
 Edits w before after = after ≡ record before { moment = record before.moment { world = w } }
 
--- a build in which the unit that begins is picked as the session says
+-- a build with the pick that the session names
 abbrev pub Picked : Bool → Answers → Options → PickBy → Result Summary BuildFault → BuildState → BuildState → Type 0
 Picked modelled child options First result old new = BuildsFirst modelled child options result old new
 Picked modelled child options Last result old new = BuildsLast modelled child options result old new
 
--- the schedule of a build in which the unit that begins is picked as the session says
+-- the schedule of a build with the pick that the session names
 abbrev pub ByPicked : PickBy → Options → Project → List (Event BadUnit) → Type 0
 ByPicked First options = ByFirst options
 ByPicked Last options = ByLast options
 
--- the same moment, in which one more setting of failures is counted
+-- the same moment, but its counter `settings` is one higher
 abbrev pub set_anew : BuildState → BuildState
 set_anew m = record m { counts = one_setting m.counts }
 
@@ -66,13 +66,14 @@ pub record CarriesBuild (child : Answers) (options : Options) (pick : PickBy) (b
   pub paths : FilesHavePaths ended.world
   -- if nothing was set to fail, and no call had failed before, no call of the build failed
   pub unfailing : before.fuse ≡ 0 → before.deaths ≡ [] → before.moment.counts.failures ≡ 0 → ended.counts.failures ≡ 0
-  -- The answer of the build is appended. No call is set to fail any more, and this counts as one setting.
+  -- The answer of the build is appended. No call is set to fail any more, and the counter
+  -- `settings` is one higher.
   pub behind : after.moment ≡ set_anew ended
   pub answers : after.answers ≡ before.answers ++ answer ∷ []
   pub fuse : after.fuse ≡ 0
 
--- A step of a session is an edit, a build, or a setting of which calls are to fail. Such a setting
--- has no effect before the next build.
+-- A step of a session is an edit, a build, or a setting that makes calls fail. Such a setting has
+-- no effect before the next build.
 abbrev pub Carries : Answers → SessionStep → Point → Point → Type 0
 Carries child (Write path text) before after = Edits (written path text before.moment.world) before after
 Carries child (Remove path) before after = Edits (removed path before.moment.world) before after
@@ -98,7 +99,8 @@ abbrev pub Breaks : Answers → List SessionStep → Point → Point → Type 0
 Breaks child steps before left =
     (done : List SessionStep) × (step : SessionStep) × (rest : List SessionStep) × (steps ≡ done ++ step ∷ rest) × (mid : Point) × Course child done before mid × Loses child step mid left
 
--- the world after a step that is an edit; any other step leaves the world unchanged here
+-- the world after a step that is an edit; in this definition any other step leaves the world
+-- unchanged
 abbrev pub edit : SessionStep → World → World
 edit (Write path text) w = written path text w
 edit (Remove path) w = removed path w
