@@ -20,7 +20,8 @@ abbrev pub spaced : List (List ℕ) → List ℕ
 spaced [] = []
 spaced (name ∷ names) = codes " " ++ name ++ spaced names
 
--- What follows the sentence. If packages depend on one another, these are their names.
+-- What follows the sentence: the names of the packages, if the fault is that packages depend on one
+-- another.
 abbrev pub with_names : BuildFault → List ℕ
 with_names (build.Plan (refusal.Plan (plan.Cycle names))) = codes ":" ++ spaced names
 with_names fault = []
