@@ -1,6 +1,7 @@
 //! A sink on which the levels of lines have colours.
 
-ghost use Rattle.std.specs.Prelude.{◌≡◌, Bool, None};
+ghost use Rattle.std.specs.Prelude.{◌≡◌, Bool, false, None, IsTrue};
+ghost use Rattle.pb_place_types.specs.Counts.{up};
 ghost use Rattle.pb_place_types.specs.Sinks.{SinkState};
 
 use pb_place_types::{Out, write_all};
@@ -27,13 +28,13 @@ pub trait Coloring: Out {
 }
 
 /// A sink over another sink. If colours are on, the level at the start of a line, as `warning` in
-/// `warning: ..`, has a colour on the other sink. Each write starts a line.
+/// `warning: ..`, has a colour on the other sink. Each write starts a line. A write fails if and
+/// only if a write of the other sink fails.
 #[derive(Drop)]
 pub struct Colored<S> {
     inside: S,
     /// Whether levels have colours.
     on: bool,
-    failures: u64,
 }
 
 /// Returns the colour of a level, if the word is a level.
@@ -52,7 +53,10 @@ fn color_of(word: &[u8]) -> Option<&'static [u8]> {
 
 /// Writes a line. If the line begins with a level, the level has a colour. Returns whether the
 /// whole line was written.
-fn write_line<S: Out>(sink: &mut S, line: &[u8]) -> bool {
+fn write_line<S: Out>(sink: &mut S, line: &[u8]) -> bool
+    ensures whole { IsTrue result → (S.heard sink.new).faults ≡ (S.heard sink.old).faults }
+    ensures fault { result ≡ false → (S.heard sink.new).faults ≡ up (S.heard sink.old).faults }
+{
     let end = line.iter().position(|byte| *byte == b':' || *byte == b'[');
     let (word, rest) = line.split_at(end.unwrap_or(0));
     match color_of(word) {
@@ -67,7 +71,10 @@ fn write_line<S: Out>(sink: &mut S, line: &[u8]) -> bool {
 }
 
 /// Writes lines, each with its level in a colour. Returns whether all of them were written.
-fn write_lines<S: Out>(sink: &mut S, lines: &[u8]) -> bool {
+fn write_lines<S: Out>(sink: &mut S, lines: &[u8]) -> bool
+    ensures whole { IsTrue result → (S.heard sink.new).faults ≡ (S.heard sink.old).faults }
+    ensures fault { result ≡ false → (S.heard sink.new).faults ≡ up (S.heard sink.old).faults }
+{
     for line in lines.split_inclusive(|byte| *byte == b'\n') {
         if !write_line(sink, line) {
             return false;
@@ -79,16 +86,12 @@ fn write_lines<S: Out>(sink: &mut S, lines: &[u8]) -> bool {
 impl<S: Out> Colored<S> {
     /// Returns a sink over another sink. It shows no colours yet.
     pub fn new(inside: S) -> Colored<S> {
-        Colored {
-            inside,
-            on: false,
-            failures: 0,
-        }
+        Colored { inside, on: false }
     }
 }
 
 impl<S: Out> Out for Colored<S> {
-    ghost heard = { λ c. record { taken = None; faults = c.failures } };
+    ghost heard = { λ c. record { taken = None; faults = (S.heard c.inside).faults } };
 
     fn write(&mut self, bytes: &[u8]) -> Option<usize> {
         let written = if self.on {
@@ -96,16 +99,11 @@ impl<S: Out> Out for Colored<S> {
         } else {
             write_all(&mut self.inside, bytes)
         };
-        if written {
-            Some(bytes.len())
-        } else {
-            self.failures = self.failures.saturating_add(1);
-            None
-        }
+        if written { Some(bytes.len()) } else { None }
     }
 
     fn failures(&self) -> u64 {
-        self.failures
+        self.inside.failures()
     }
 }
 
