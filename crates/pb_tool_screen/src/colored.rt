@@ -1,6 +1,6 @@
 //! A sink on which the levels of lines have colours.
 
-ghost use Rattle.std.specs.Prelude.{◌≡◌, Bool, false, None, IsTrue};
+ghost use Rattle.std.specs.Prelude.{◌≡◌, ◌<◌, ◌==◌, Bool, false, length, None, IsTrue, IsFalse};
 ghost use Rattle.pb_place_types.specs.Counts.{up};
 ghost use Rattle.pb_place_types.specs.Sinks.{SinkState};
 
@@ -70,15 +70,28 @@ fn write_line<S: Out>(sink: &mut S, line: &[u8]) -> bool
     }
 }
 
+/// Returns the first line of some bytes, with its line feed, and the bytes that follow it.
+fn first_line(bytes: &[u8]) -> (&[u8], &[u8])
+    ensures { IsFalse (length bytes.now == 0) → length result.1.now < length bytes.now }
+{
+    match bytes.iter().position(|byte| *byte == b'\n') {
+        Some(end) => bytes.split_at(end + 1),
+        None => (bytes, &[]),
+    }
+}
+
 /// Writes lines, each with its level in a colour. Returns whether all of them were written.
 fn write_lines<S: Out>(sink: &mut S, lines: &[u8]) -> bool
     ensures whole { IsTrue result → (S.heard sink.new).faults ≡ (S.heard sink.old).faults }
     ensures fault { result ≡ false → (S.heard sink.new).faults ≡ up (S.heard sink.old).faults }
 {
-    for line in lines.split_inclusive(|byte| *byte == b'\n') {
+    let mut rest = lines;
+    while !rest.is_empty() {
+        let (line, after) = first_line(rest);
         if !write_line(sink, line) {
             return false;
         }
+        rest = after;
     }
     true
 }
