@@ -28,7 +28,7 @@ pub fn worlds_have_one_result()
     ensures { HasOneResult }
 {}
 
-/// The units that a build has produced are the units of its world's result.
+/// If a build has produced these units in a world, then these units are the result of this world.
 pub fn units_are_of_the_result()
     ensures { UnitsAreOfResult }
 {}
@@ -54,8 +54,8 @@ pub fn same_build_starts_none<T: Turn, U: Turn>()
     ensures { SameBuildStartsNone T.turns U.turns }
 {}
 
-/// A caller may know of a build only how its work ended and what was written after that, as the
-/// caller of the program does. The headline is true for this caller, too.
+/// The headline is true for every caller who knows how the work of a build ended and what was
+/// written afterwards. The caller of the program knows no more than that.
 pub fn builds_keep_the_headline<T: Turn>()
     ensures turns { BuildsKeepHeadline T.turns }
     ensures first { FirstBuildsKeepHeadline }

@@ -13,8 +13,8 @@ use pb_place_types::Place;
 use pb_workspace_types::Options;
 use std::alloc::Global;
 
-/// Returns the names of the packages without a library to which
-/// enabled dependencies of a plan lead.
+/// Returns the names of the packages without a library to which enabled dependencies of a plan
+/// lead.
 fn without_library(plan: BuildPlan) -> Items<Text>
     ensures { result ≡ plan.project.plan.without_library }
 {

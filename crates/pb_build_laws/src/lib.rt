@@ -20,8 +20,8 @@ pub fn asked_part_for_part()
 {}
 
 /// A law about the variable that is reported as the first difference between a record that was read
-/// and a unit's command. Its name is the least name, in byte order, that has another text, is
-/// missing, or is new.
+/// and a unit's command. Some variables have another text, are missing, or are new. The reported
+/// variable has the least name of them, in byte order.
 pub fn first_name_is_least()
     ensures { FirstNameIsLeast }
 {}

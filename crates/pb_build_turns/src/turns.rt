@@ -1,4 +1,4 @@
-//! The units of a project begin and answer in turns.
+//! Runs the units of a project: they begin and answer by the steps that a turn decides.
 
 ghost use Rattle.std.specs.Prelude.{◌≡◌, [], ℕ, List, IfOk, IsTrue, length, map, true, None};
 ghost use Rattle.pb_run_flight.specs.Table.{fresh, first_bad};
@@ -155,7 +155,7 @@ pub fn run_turns<P: Place, O: Out, T: Turn>(
         reasons,
     };
     let driven = drive(alloc, &mut crew, place, out, &mut flight, turn);
-    // No child is left before the fault is returned.
+    // No child may be in flight when the fault is returned.
     drain(alloc, &mut crew, place);
     match driven {
         Ok(()) => match sum_up(alloc, &crew, flight) {
