@@ -108,7 +108,7 @@ fn push_folders(
     Ok(())
 }
 
-/// Returns whether an entry of this kind is for a library that such a unit needs.
+/// Returns whether a unit that makes this needs the libraries of entries of this kind.
 fn leads(what: &What, kind: DependencyKind) -> bool
     ensures { result ≡ leads what.now kind }
 {

@@ -11,9 +11,9 @@ ghost use Rattle.pb_command_laws.specs.Starts.{CompilesStart, RunsStart};
 ghost use Rattle.pb_command_laws.specs.Texts.{InfosAreRead, LinesAreTrimmed, OutputsAreRead};
 ghost use Rattle.pb_command_laws.specs.Variables.{CompilesHave, RunsHave};
 
-/// A law: the arguments of a compile are read back by the compiler's own option grammar. The
-/// arguments say the crate, settings, conditions, folders and libraries of the compile, and then
-/// what the user's flags say.
+/// A law: the compiler's own option grammar reads the arguments of a compile back. The result lists
+/// the crate, settings, conditions, folders and libraries of the compile, and then what the user's
+/// flags request.
 pub fn compiles_say()
     ensures { CompilesSay }
 {}
@@ -24,14 +24,15 @@ pub fn sayings_keep_words()
     ensures { SayingsKeepWords }
 {}
 
-/// A law: a compile has the stated variables. Each has the stated value, unless the run of the
-/// compile's own package has set the variable. Apart from these variables, a compile has only
-/// variables that this run has set.
+/// A law: a compile has the variables that the definition lists. Each variable has the listed
+/// value, unless the run of the compile's own package has set the variable. Apart from these
+/// variables, a compile has only variables that this run has set.
 pub fn compiles_have()
     ensures { CompilesHave }
 {}
 
-/// A law: a run has the stated variables, each with the stated value, and no other variables.
+/// A law: a run has the variables that the definition lists, each with the listed value, and no
+/// other variables.
 pub fn runs_have()
     ensures { RunsHave }
 {}
