@@ -2,8 +2,8 @@
 
 use pb_data::{Items, Text};
 
-/// What one line of a build script's output means (The Cargo Book, "Build
-/// Scripts"). A line `rustc-flags` has a directive for each of its flags.
+/// What one line of a build script's output means (The Cargo Book, "Build Scripts"). A line
+/// `rustc-flags` has a directive for each of its flags.
 #[derive(Drop)]
 pub enum Directive {
     /// `rerun-if-changed`: a path whose change makes the script run again.
