@@ -38,7 +38,7 @@ fn is_lesser_at(packages: &[Package], place: usize, first: Option<First>) -> boo
     }
 }
 
-/// Returns what has been found after one more package.
+/// Returns the first package with a wrong item, after one more package has been checked.
 fn first_of(
     fault: Option<FeatureFault>,
     first: Option<First>,
