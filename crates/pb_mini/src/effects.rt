@@ -78,7 +78,7 @@ pub(crate) fn add_copied(effects: &mut Effects, line: &str) -> Result<(), AllocE
     Ok(())
 }
 
-/// Adds each line of a file to the image, after a mark.
+/// Adds the lines of a file to the image, each after a mark.
 pub(crate) fn add_file(
     alloc: Global,
     effects: &mut Effects,

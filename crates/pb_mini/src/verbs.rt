@@ -26,13 +26,13 @@ pub enum Verb {
     Include,
     /// The value of a variable is added to the image.
     Env,
-    /// A warning with the rest as its message.
+    /// A warning is reported. The rest of the line is its message.
     Warn,
-    /// An error with the rest as its message.
+    /// An error is reported. The rest of the line is its message.
     Fail,
     /// The line is added to the image unchanged. A run of the image carries it out.
     Copied,
-    /// No verb of the language.
+    /// The word is not a verb of the language.
     Unknown,
 }
 

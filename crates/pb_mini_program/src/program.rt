@@ -18,8 +18,7 @@ use std::alloc::Global;
 
 /// Writes files in a folder, one after another, at their paths relative to the folder.
 ///
-/// Errors: `Write`; `OutOfMemory`. In this case the files before the failing file have been
-/// written.
+/// Errors: `Write`; `OutOfMemory`. Then the files before the failing file have been written.
 fn write_files<P: Place>(
     alloc: Global,
     place: &mut P,
@@ -46,7 +45,11 @@ fn write_files<P: Place>(
 
 /// Writes the files of a reply in its output folder, if there is an output folder.
 ///
-/// Errors: `Read`, if the view fails; `Write`, if a file cannot be written; `OutOfMemory`.
+/// Errors:
+///
+/// - `Read`, if the view fails.
+/// - `Write`, if a file cannot be written.
+/// - `OutOfMemory`.
 fn leave_files<P: Place, V: View>(
     alloc: Global,
     words: &[Text],
