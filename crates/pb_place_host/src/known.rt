@@ -147,8 +147,8 @@ fn call_text(
     format!(in alloc; "cannot {verb} {path}: {}", reason.as_str())
 }
 
-/// Returns what a call on a path answered, and remembers the failure of the call. A failure becomes
-/// the call's own fault, except that out of memory is not changed.
+/// Returns what a call on a path answered, and remembers the failure of the call. If memory ran
+/// out, the fault is `OutOfMemory`. Any other failure becomes the call's own fault.
 pub(crate) fn note_answer<T>(
     alloc: Global,
     known: &mut Known,

@@ -87,8 +87,11 @@ fn add_folder(found: &mut Found, path: PathText, above: u8) -> Result<(), Failed
 
 /// Adds an entry of a folder: a file to the found files, a folder to the waiting folders.
 ///
-/// Errors: `List`, if the entry's name is not a name of a path, if the kind of the entry is
-/// unknown, or if the entry is a folder that is too deep; `OutOfMemory`.
+/// Errors:
+///
+/// - `List`, if the entry's name is not a name of a path, if the kind of the entry is unknown, or
+///   if the entry is a folder that is too deep.
+/// - `OutOfMemory`.
 fn take_entry<R: Files + AllocGlobal>(
     runtime: &R,
     alloc: Global,
@@ -119,8 +122,8 @@ fn take_entry<R: Files + AllocGlobal>(
     }
 }
 
-/// Returns whether an error means that there is no such folder, and this folder is the listed
-/// folder. The listed folder need not exist.
+/// Returns whether an error means only that the listed folder itself does not exist. The listed
+/// folder need not exist.
 fn may_be_absent(here: &Waiting, error: &io::Error) -> bool {
     here.depth == 0 && says_absent(error)
 }
@@ -166,7 +169,7 @@ fn untold(error: io::Error) -> Failed {
 
 /// Adds an entry that a folder reports.
 ///
-/// Errors: a failure that the folder reports; the errors of `take_entry`.
+/// Errors: a failure that the folder reports, and the errors of `take_entry`.
 fn take_told<R: Files + AllocGlobal>(
     runtime: &R,
     alloc: Global,

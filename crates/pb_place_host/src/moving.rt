@@ -143,7 +143,8 @@ fn has_moved<R: Files + AllocGlobal>(
     }
 }
 
-/// Returns whether a path below the watched one is skipped: a target folder, by its tag.
+/// Returns whether a path is skipped: it is below the watched path, and its tag marks it as a
+/// target folder.
 fn is_passed_over<R: Files + AllocGlobal>(
     runtime: &R,
     alloc: Global,

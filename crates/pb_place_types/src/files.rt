@@ -197,8 +197,8 @@ impl FileMap {
         Ok(())
     }
 
-    /// Removes half of the files at or below a path: the first files in byte order, as many as half
-    /// of their number, rounded down.
+    /// Removes the first half of the files at or below a path, in byte order. If the number of
+    /// these files is odd, the half is rounded down.
     ///
     /// Errors: out of memory only. Nothing changes then.
     pub fn remove_half(&mut self, alloc: Global, path: &PathText) -> Result<(), AllocError>
@@ -233,8 +233,7 @@ impl FileMap {
 
     /// Copies the files at these paths from another map, in turn.
     ///
-    /// Errors: out of memory only. Then the files at the first n of the paths have been copied, for
-    /// some n, and no other files.
+    /// Errors: out of memory only. Then the files at a prefix of these paths have been copied.
     pub fn put_from(
         &mut self,
         alloc: Global,
@@ -285,8 +284,9 @@ fn names_between(
     Ok(names)
 }
 
-/// Returns the keys below a folder, in byte order. These keys lie between the folder's stem with a
-/// slash and its stem with a `0`, since `0` is the next character after the slash.
+/// Returns the keys below a folder, in byte order. In this order, these keys are between the
+/// folder's stem with a slash and its stem with a `0`, since `0` is the next character after the
+/// slash.
 fn names_below(
     alloc: Global,
     files: &BTreeMap<Text, Bytes>,
@@ -404,7 +404,7 @@ fn paths_of(alloc: Global, names: Vec<Text>) -> Result<Items<PathText>, AllocErr
     Ok(paths)
 }
 
-/// Returns the first of two or more parts.
+/// Returns the first part, if there are two or more parts.
 fn first_folder<'a>(parts: &[&'a str]) -> Option<&'a str>
     ensures { option_copied result ≡ first_folder (each (λ part. part.now) parts.now) }
 {

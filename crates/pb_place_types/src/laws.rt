@@ -77,9 +77,9 @@ pub fn children_see_sources_and_folders()
 /// What a failing call leaves unchanged.
 ///
 /// - After a failed write, every other path has its old content. The written path has its old
-/// bytes, no bytes, or the first n of the new bytes.
+///   bytes, no bytes, or a prefix of the new bytes.
 /// - After a failed removal, every path outside the tree has its old content, and no path has new
-/// bytes.
+///   bytes.
 /// - After a start, even a failed one, every path outside the child's folder has its old content.
 /// - No variable changes.
 pub fn failing_calls_spare()
