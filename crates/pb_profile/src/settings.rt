@@ -50,10 +50,13 @@ impl Settings {
     /// The order of the locations in the host's role is our own choice. `panic` in the host's role
     /// is `unwind`.
     ///
-    /// Errors: `NoSuchProfile`, if the profile, or a profile from which it inherits, does not
-    /// exist; `InheritsCycle`, if the profile's line comes back to itself; `NotInOverride`, if an
-    /// override of the profile or of a profile from which it inherits, for any package, sets
-    /// `panic`, `lto` or `rpath`; `OutOfMemory`.
+    /// Errors:
+    ///
+    /// - `NoSuchProfile`, if the profile, or a profile from which it inherits, does not exist.
+    /// - `InheritsCycle`, if the profile's line comes back to itself.
+    /// - `NotInOverride`, if an override of the profile or of a profile from which it inherits, for
+    ///   any package, sets `panic`, `lto` or `rpath`.
+    /// - `OutOfMemory`.
     pub fn settings(
         alloc: Global,
         workspace: &Workspace,
