@@ -79,7 +79,8 @@ fn spawn_anew<P: Place>(
     ensures calls { Calls (SpawnsAnew P.child command.now) (AnewEnds out.now) result
         (P.at place.old).counts (P.at place.new).counts }
 {
-    // The folder is emptied before the child is spawned, so that no old file counts as the child's.
+    // The folder is emptied before the child is spawned. So no old file counts as a file of the
+    // child.
     empty(alloc, place, out)?;
     match spawn(alloc, place, command) {
         Ok(ticket) => Ok(ticket),

@@ -150,7 +150,8 @@ fn answer_one<P, O, F: Drop, E, C: Executor<P, O, F, E>>(
         Ok(answer) => answer,
         Err(fault) => return Err(fault),
     };
-    // The answer is recorded before lines are handed out, because its own lines may be due.
+    // The answer is recorded before lines are handed out, because the lines of this unit may be
+    // due.
     flight.answer(unit, answer);
     match tell(alloc, crew, place, out, flight) {
         Ok(()) => Ok(()),

@@ -30,8 +30,8 @@ pub trait Executor<P, O, F, E> {
     ghost story: { Self → P → O → Self → P → O → List (Event F) → ℕ → Type 0 };
 
     /// What has happened between two moments by these events, if a fault then ended the flight. The
-    /// number is that of the unit whose answer was taken at the fault, or `None` if no answer was
-    /// taken.
+    /// number is the index of the unit whose answer was taken at the fault, or `None` if no answer
+    /// was taken.
     ghost stops: { E → Option ℕ → Self → P → O → Self → P → O → List (Event F) → Type 0 };
 
     /// Returns the units in flight, in order of beginning.

@@ -396,8 +396,8 @@ impl<F: Drop> Flight<F> {
     /// order, the lines of the units that have answered are due, up to and including the first bad
     /// unit.
     ///
-    /// Errors: out of memory; then nothing has been handed out, and
-    /// the next call returns these lines too.
+    /// Errors: out of memory. Then nothing has been handed out, and the next call returns these
+    /// lines too.
     pub fn emit(&mut self, alloc: Global) -> Result<Vec<u8>, AllocError>
         ensures lines { IfOk result
             (λ lines. lines.items ≡ due_after self.old.given self.old.states) }
