@@ -76,8 +76,11 @@ impl Store {
     /// left, it removes nothing. After an error no number is taken, and the record may still exist.
     /// The contract then promises nothing about the run numbers in the store.
     ///
-    /// Errors: `NumbersSpent` if and only if no number is left; `Place` if the record cannot be
-    /// removed; `OutOfMemory`.
+    /// Errors:
+    ///
+    /// - `NumbersSpent` if and only if no number is left.
+    /// - `Place` if the record cannot be removed.
+    /// - `OutOfMemory`.
     pub fn drop_record<P: Place>(
         &mut self,
         alloc: Global,

@@ -38,8 +38,8 @@ pub fn others_stay_apart()
     ensures waits { NumberWaitsLaw }
 {}
 
-/// The next run number is above all numbers that records have or name, and later changes keep it
-/// so.
+/// The next run number is above all numbers that records have or name, and stays above them after
+/// later changes.
 pub fn numbers_stay_ahead()
     ensures stays { StaysAheadLaw }
     ensures given { GivenAheadLaw }
