@@ -76,8 +76,10 @@ fn append(
 /// compares it. The function reads what this comparison reads. If nothing differs, the function
 /// reads the unit's dep-info, too. No child is started, and nothing is changed.
 ///
-/// Errors: `Device` with a unit's key, if a file, a folder or a variable cannot be read;
-/// `OutOfMemory`.
+/// Errors:
+///
+/// - `Device` with a unit's key, if a file, a folder or a variable cannot be read.
+/// - `OutOfMemory`.
 pub fn foresee<P: Place>(
     alloc: Global,
     place: &mut P,

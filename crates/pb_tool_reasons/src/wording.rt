@@ -59,14 +59,15 @@ fn with_name(alloc: Global, name: &str, text: &Text) -> Result<String, AllocErro
     Ok(said)
 }
 
-/// Returns whether a byte is no ASCII control character below the blank.
+/// Returns whether a byte is not an ASCII control character below the blank.
 fn is_plain_byte(byte: u8) -> bool
     ensures { result ≡ nat_lt 31 byte }
 {
     31 < byte
 }
 
-/// Returns whether a text has no control character below the blank. A line feed is such a character.
+/// Returns whether a text has no control character below the blank. A line feed is such a
+/// character.
 fn is_plain(text: &Text) -> bool
     ensures { result ≡ is_plain text.now }
 {
@@ -97,8 +98,8 @@ fn word_reason(alloc: Global, difference: &Difference, text: &Text) -> Result<St
     }
 }
 
-/// Returns why a unit's child was started, and how the thing differs, if that is known and its text
-/// stays on one line.
+/// Returns why a unit's child was started. If it is known how the thing differs, and the text about
+/// this has one line, the result contains this text.
 ///
 /// Errors: out of memory.
 pub fn reason_with(

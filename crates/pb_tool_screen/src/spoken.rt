@@ -82,7 +82,7 @@ fn line_of(alloc: Global, command: &Command) -> Result<String, AllocError> {
     Ok(line)
 }
 
-/// Writes a text to a sink. If this is requested, a status line on the sink is erased first.
+/// Writes a text to a sink. If `erases` is true, a status line on the sink is erased first.
 fn write_text<S: Out>(aside: &mut S, erases: bool, text: &[u8]) {
     if erases {
         let _ = write_all(aside, ERASE);
