@@ -26,7 +26,7 @@ pub(crate) struct Named {
     pub(crate) name: Text,
 }
 
-/// Returns whether a text is one of these.
+/// Returns whether a text is one of these texts.
 fn is_mentioned(texts: &[Text], text: &Text) -> bool
     ensures { result ≡ is_mentioned texts.now text.now }
 {

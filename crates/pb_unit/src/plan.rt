@@ -56,8 +56,8 @@ pub struct Planned {
 pub struct Plan {
     /// The units by level, and then by the bytes of their keys: at least 1, at most 4,096.
     pub planned: Items<Planned>,
-    /// The names of the packages without a library to which enabled dependencies lead, in byte order,
-    /// each once.
+    /// The names of the packages without a library to which enabled dependencies lead, in byte
+    /// order, each once.
     pub without_library: Items<Text>,
 }
 
@@ -253,12 +253,15 @@ impl Plan {
     /// - a library needs the libraries of its enabled dependencies, and the run of its own script;
     /// - a binary needs its own library, and all that this library would need;
     /// - a script needs the host's libraries of its enabled build dependencies;
-    /// - a run needs its script, and the runs of the enabled
-    ///   dependencies with a library and `links`.
+    /// - a run needs its script, and the runs of the enabled dependencies with a library and
+    ///   `links`.
     ///
-    /// Errors, in this order: `Profile`, if the profile has no settings; `Cycle`, if units of the
-    /// plan reach themselves; `TooManyUnits`, if there are more than 4,096 units; `NothingToBuild`,
-    /// if there is no unit. The only other error is `OutOfMemory`.
+    /// Errors: the first of these that occurs, or `OutOfMemory` at any time.
+    ///
+    /// - `Profile`, if the profile has no settings.
+    /// - `Cycle`, if units of the plan reach themselves.
+    /// - `TooManyUnits`, if there are more than 4,096 units.
+    /// - `NothingToBuild`, if there is no unit.
     pub fn plan(
         alloc: Global,
         selected: &SelectedWorkspace<'_>,
