@@ -59,7 +59,8 @@ fn last_row(alloc: Global, before: &[u8]) -> Result<Row, AllocError>
     Ok(Row { empty: true, cells })
 }
 
-/// Returns the cells of the pattern that is a `*` and then the pattern of these cells.
+/// Returns the cells of the pattern that begins with `*` and continues as the pattern of these
+/// cells.
 fn star_cells(alloc: Global, empty: bool, cells: &[Cell]) -> Result<Items<Cell>, AllocError>
     ensures { IfOk result (λ made. made ≡ star_cells empty cells.now) }
 {
@@ -75,7 +76,8 @@ fn star_cells(alloc: Global, empty: bool, cells: &[Cell]) -> Result<Items<Cell>,
     Ok(made)
 }
 
-/// Returns the cells of the pattern that is a `?` and then the pattern of these cells.
+/// Returns the cells of the pattern that begins with `?` and continues as the pattern of these
+/// cells.
 fn one_cells(alloc: Global, empty: bool, cells: &[Cell]) -> Result<Items<Cell>, AllocError>
     ensures { IfOk result (λ made. made ≡ one_cells empty cells.now) }
 {
@@ -95,7 +97,8 @@ fn one_cells(alloc: Global, empty: bool, cells: &[Cell]) -> Result<Items<Cell>, 
     Ok(made)
 }
 
-/// Returns the cells of the pattern that is this byte and then the pattern of these cells.
+/// Returns the cells of the pattern that begins with this byte and continues as the pattern of
+/// these cells.
 fn byte_cells(
     alloc: Global,
     byte: u8,
@@ -116,7 +119,8 @@ fn byte_cells(
     Ok(made)
 }
 
-/// Returns the row of the pattern that is one byte and then the pattern of this row.
+/// Returns the row of the pattern that begins with this byte and continues as the pattern of this
+/// row.
 fn next_row(alloc: Global, byte: u8, row: &Row) -> Result<Row, AllocError>
     ensures { IfOk result (λ made. made ≡ stepped byte row.now) }
 {

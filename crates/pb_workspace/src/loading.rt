@@ -34,8 +34,10 @@ use std::alloc::{AllocError, Global};
 
 /// Returns the parts of the root manifest.
 ///
-/// Errors: `NoManifest`, if the manifest is not named `Cargo.toml` or is no file of the sources;
-/// those of `parts_at`.
+/// Errors:
+///
+/// - Those of `parts_at`.
+/// - `NoManifest`, if the manifest is not named `Cargo.toml` or is not a file of the sources.
 fn root_parts<P: Place>(
     alloc: Global,
     place: &mut P,
@@ -280,9 +282,9 @@ fn workspace_in<P: Place>(
 /// - `Manifest` with `UnsupportedSource`: a package inherits an entry of the workspace that has no
 ///   path, or has `git` or `registry`.
 /// - `NoInherited`: a package inherits a key or an entry that the workspace does not have, or the
-///   package inherits but is no member.
+///   package inherits but is not a member.
 /// - `TooMany`: a 257th package would be read.
-/// - `Place`: a call failed. It contains the path of that call.
+/// - `Place`: a call failed. The error contains the path of that call.
 /// - `SameName`, `NameMismatch`, `VersionMismatch`, `LinksTwice`, `LinksWithoutScript`,
 ///   `SameBinary`, in this order, after all packages are read.
 /// - `OutOfMemory`, at any time.

@@ -113,7 +113,7 @@ fn go_further(alloc: Global, parts: &mut Vec<Part>, part: &str) -> Result<(), Al
 
 /// Returns the parts of a text of `members` or `default-members`. The text means a folder if the
 /// folder's names match these parts. The parts of the root folder come first, and each matches only
-/// itself. The parts of the text follow, where `.` and `..` have their meaning in a path.
+/// itself. The parts of the text follow. In them `.` and `..` have their meaning in a path.
 ///
 /// Errors: out of memory only.
 pub fn parts_meant(
