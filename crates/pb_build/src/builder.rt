@@ -343,8 +343,8 @@ fn close<O: Out>(out: &mut O, inner: Result<Summary, BuildFault>) -> Result<Summ
     }
 }
 
-/// Builds what was planned, by the steps that a turn chooses, as `build_turns` does after its plan.
-/// If the plan failed, the build ends as `build_turns` ends after a failed plan.
+/// Builds what was planned, as `build_turns` does after its plan. A turn chooses the steps. If the
+/// plan failed, the build ends as `build_turns` ends after a failed plan.
 ///
 /// Suppose that since the planning began no other call of the place was made and nothing was
 /// written. Then the build ends as `build_turns` promises (`builds`), from the moment before the
@@ -410,7 +410,7 @@ pub fn build_plan<P: Place, O: Out>(
     build_plan_turns(alloc, place, out, options, plan, &mut jobs)
 }
 
-/// Builds the workspace of a root manifest as `cargo build` does, by the steps that a turn chooses.
+/// Builds the workspace of a root manifest, as `cargo build` does. A turn chooses the steps.
 ///
 /// The order is fixed. The build is planned first, as by `plan_build`. Then the query `-vV` is
 /// made, and the records of the profile's folder are opened. The units of the plan are run next,

@@ -43,7 +43,7 @@ pub fn records_stay_true()
 {}
 
 /// After any edits and builds, a build of a session produces what a clean build of the present
-/// workspace produces. If a fault ends the build, only the first of these lines have been written.
+/// workspace produces. If a fault ends the build, only a prefix of these lines has been written.
 pub fn any_build_gives()
     ensures { AnyBuildGives }
 {}

@@ -19,9 +19,9 @@ pub fn asked_part_for_part()
     ensures { AskedPartForPart }
 {}
 
-/// A law about the variable that is reported as the first difference between a record that was read
-/// and a unit's command. Some variables have another text, are missing, or are new. The reported
-/// variable has the least name of them, in byte order.
+/// A law about the case in which a variable is the first difference between a recorded command and
+/// a unit's command. Some variables have another text, are missing, or are new. The reported
+/// variable is the one with the least name, in byte order.
 pub fn first_name_is_least()
     ensures { FirstNameIsLeast }
 {}
