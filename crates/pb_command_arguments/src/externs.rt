@@ -1,4 +1,4 @@
-//! The libraries of a compile: the folders in which the compiler looks for them, and the names by
+//! The libraries of a compile: their folders, and the names under which the compiler gets them.
 //! which it gets them.
 
 ghost use Rattle.std.specs.Prelude.{◌≡◌, ◌++◌, ◌∷◌, IfOk, OnOk, string_bytes};
@@ -108,7 +108,8 @@ fn push_folders(
     Ok(())
 }
 
-/// Returns whether a unit that makes this needs the libraries of entries of this kind.
+/// Returns whether a unit needs the libraries of entries of this kind. `what` is what the unit
+/// makes.
 fn leads(what: &What, kind: DependencyKind) -> bool
     ensures { result ≡ leads what.now kind }
 {

@@ -55,7 +55,8 @@ pub fn commands_follow_plans()
 {}
 
 /// This law applies all other laws to the command of a unit in a plan. It says what the command
-/// starts, its variables, arguments and libraries, and the run whose directives it gets, if any.
+/// starts, which variables, arguments and libraries it has, and from which run it gets directives,
+/// if any.
 pub fn commands_of_plans()
     ensures compiles { CompilesOfPlans }
     ensures runs { RunsOfPlans }
