@@ -35,7 +35,7 @@ fn name_of(text: &str) -> &str
     }
 }
 
-/// Adds a variable to what dep-info names.
+/// Adds a variable to the names of dep-info.
 fn add_variable(alloc: Global, text: &str, info: &mut DepInfo) -> Result<(), Problem>
     ensures { AddsInfo result info.old info.new (variable_info text.now) }
 {
@@ -48,7 +48,7 @@ fn add_variable(alloc: Global, text: &str, info: &mut DepInfo) -> Result<(), Pro
     Ok(())
 }
 
-/// Adds the words of a rule to what dep-info names.
+/// Adds the words of a rule to the names of dep-info.
 fn add_rule(alloc: Global, text: &str, info: &mut DepInfo) -> Result<(), Problem>
     ensures { AddsInfo result info.old info.new (rule_info (after_outputs text.now)) }
 {
@@ -62,7 +62,7 @@ fn add_rule(alloc: Global, text: &str, info: &mut DepInfo) -> Result<(), Problem
     Ok(())
 }
 
-/// Adds what a line that is not empty names.
+/// Adds the names in a line that is not empty.
 fn add_full_line(alloc: Global, text: &str, info: &mut DepInfo) -> Result<(), Problem>
     ensures { AddsInfo result info.old info.new (full_line text.now) }
 {
@@ -75,7 +75,7 @@ fn add_full_line(alloc: Global, text: &str, info: &mut DepInfo) -> Result<(), Pr
     Ok(())
 }
 
-/// Adds what a line names.
+/// Adds the names in a line.
 fn add_line(alloc: Global, line: &[u8], info: &mut DepInfo) -> Result<(), Problem>
     ensures { AddsInfo result info.old info.new (line_info line.now) }
 {
