@@ -109,7 +109,8 @@ fn print_all(rt: &HostRuntime) -> io::Result<()> {
     Ok(())
 }
 
-/// Does what the program of its name does, and returns the status with which to end.
+/// Does what the program of this name does, and returns the status with which this program must
+/// end.
 fn status(rt: &HostRuntime) -> u8 {
     let Ok(name) = own_name(rt) else {
         return 1;
