@@ -1,4 +1,4 @@
-//! The order of the nodes that some nodes reach.
+//! The order of the roots and of all nodes that the roots reach.
 
 ghost use Rattle.std.specs.Prelude.{◌≡◌, ◌≢◌, ◌↔◌, ◌⊎◌, ℕ, ◌<◌, ◌≤◌, IfOk, IfErr, OnOk, All, AllPairs, Contains, map, length, slice_index, Some};
 ghost use Rattle.std.specs.List.Sorted.{IsStrictlyIncreasing};
