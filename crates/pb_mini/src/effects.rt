@@ -15,7 +15,7 @@ use std::alloc::{AllocError, Global};
 /// The effects of the lines of a source, together.
 #[derive(Drop)]
 pub struct Effects {
-    /// The lines of the image after its first, each with its line feed.
+    /// The lines of the image after the first line, each with its line feed.
     pub image: Buffer,
     /// The diagnostics about the lines.
     pub diagnostics: Items<Diagnostic>,

@@ -79,7 +79,7 @@ fn is_given(alloc: Global, given: &OrderedSet, condition: &str) -> Result<bool, 
     Ok(given.contains(&condition))
 }
 
-/// Returns the condition and the line of a line `when COND LINE`, or none for any other line.
+/// Returns COND and LINE of a line `when COND LINE`, or none for any other line.
 
 fn condition_of(line: &str) -> Option<(&str, &str)>
     ensures line { (given : List (List ℕ)) → line_meant given line.now
