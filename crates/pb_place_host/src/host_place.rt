@@ -162,10 +162,9 @@ impl<'a, R: Files + Env + Processes + AllocGlobal> HostPlace<'a, R> {
         self.moved.iter().any(|moved| &moved.out == out)
     }
 
-    /// Looks for a path at or below this path that has moved since the child with this output
-    /// folder was spawned, and remembers the first such path. If the time of the spawn is unknown,
-    /// the given path counts as moved. Nothing is done if a moved path is already known for this
-    /// child.
+    /// Looks at a path and below it for a path that has moved since the child with this output
+    /// folder was spawned. Remembers the first such path. If the time of the spawn is unknown, the
+    /// given path counts as moved. Nothing is done if a moved path is already known for this child.
     fn look_for(
         &mut self,
         alloc: Global,

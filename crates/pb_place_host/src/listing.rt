@@ -227,8 +227,8 @@ fn take_folder<R: Files + AllocGlobal>(
     }
 }
 
-/// Returns all files below a folder that are not left out, in the order in which they are found.
-/// Folders are listed one after another. The folder that was found last is listed first.
+/// Returns the files below a folder, except files that are left out, in the order in which they are
+/// found. Folders are listed one after another. The folder that was found last is listed first.
 fn files_found<R: Files + AllocGlobal>(
     runtime: &R,
     alloc: Global,
@@ -388,9 +388,9 @@ fn folders_of(alloc: Global, waiting: Vec<Waiting>) -> Result<Vec<PathText>, Fai
     Ok(folders)
 }
 
-/// Returns the paths of the folders directly in a folder that are not left out, in byte order.
-/// Returns no paths if no folder is at the path. The call does not look into these folders, so
-/// nothing in them can make the call fail. A name that is not UTF-8 is skipped.
+/// Returns the paths of the folders directly in a folder, in byte order, except folders that are
+/// left out. Returns no paths if no folder is at the path. The call does not look into these
+/// folders, so nothing in them can make the call fail. A name that is not UTF-8 is skipped.
 pub(crate) fn folders_directly<R: Files + AllocGlobal>(
     runtime: &R,
     alloc: Global,

@@ -149,8 +149,8 @@ impl FileMap {
         self.get(path).is_some()
     }
 
-    /// Returns the folders directly in a folder that have a file below them, in the order of these
-    /// files without repeats. Files at or below another path are ignored.
+    /// Returns those folders directly in a folder that have a file below them. The folders are in
+    /// the order of these files, without repeats. Files at or below another path are ignored.
     ///
     /// Errors: out of memory only.
     pub fn list_folders(
@@ -328,7 +328,7 @@ fn names_at_or_below(
     Ok(names)
 }
 
-/// Returns the texts that are neither a folder nor below it.
+/// Returns the texts that are neither equal to a folder nor below it.
 fn names_outside(
     alloc: Global,
     names: Vec<Text>,
@@ -414,7 +414,7 @@ fn first_folder<'a>(parts: &[&'a str]) -> Option<&'a str>
     }
 }
 
-/// Returns the folder directly in a given folder through which a path leads, if there is such a
+/// Returns the folder that is directly in a given folder and contains a path, if there is such a
 /// folder.
 fn folder_towards(
     alloc: Global,
@@ -459,8 +459,8 @@ fn put_new(folders: &mut Items<PathText>, folder: Option<PathText>) -> Result<()
     Ok(())
 }
 
-/// Returns the folders directly in a folder through which some paths lead, in the order of the
-/// paths, without repeats in a row.
+/// Returns those folders directly in a folder that contain some of these paths. The folders are in
+/// the order of the paths, and no folder is repeated in a row.
 fn folders_among(
     alloc: Global,
     folder: &PathText,

@@ -43,9 +43,9 @@ pub fn paths_join_again()
     ensures folder { LiesInFolder }
 {}
 
-/// Two folders with different names in one folder lie apart. Changes at or below one folder leave
-/// each folder that lies apart from it unchanged. Changes in a folder of the target folder leave
-/// the sources unchanged. Two changes in one folder are together one change in this folder. A
+/// Two folders with different names in one folder lie apart. Changes at or below a folder do not
+/// change any folder that lies apart from this folder. Changes in a folder of the target folder
+/// leave the sources unchanged. Two changes in one folder are together one change in this folder. A
 /// change in a folder is also a change in each folder above it.
 pub fn changes_stay_in_folders()
     ensures named { NamedFoldersLieApart }
@@ -56,7 +56,7 @@ pub fn changes_stay_in_folders()
     ensures alone { StandAlone }
 {}
 
-/// The content of a path in each of these: one map laid over another, a folder's files, the
+/// What is at a path in each of these maps: one map laid over another, a folder's files, the
 /// sources, and what a child sees.
 pub fn maps_look_up()
     ensures over { LooksOver }

@@ -301,8 +301,9 @@ pub trait Place {
         ensures later { fails self.new → fails self.old };
 
     /// Waits for the end of a child in flight. Whatever the result, the child's ticket is then used
-    /// up. Suppose that the child replies, and that what it sees and its folder have not changed
-    /// since the spawn. Then its reply and its folder are determined by the world at the spawn.
+    /// up. Suppose that the child replies. Suppose also that nothing that it sees, and nothing in
+    /// its folder, has changed since the spawn. Then its reply and its folder are determined by the
+    /// world at the spawn.
     ///
     /// Errors:
     ///
