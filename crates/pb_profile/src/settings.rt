@@ -54,7 +54,8 @@ impl Settings {
     ///
     /// - `NoSuchProfile`, if the profile, or a profile from which it inherits, does not exist.
     /// - `InheritsCycle`, if the profile's line comes back to itself.
-    /// - `NotInOverride`, if an override of the profile or of a profile from which it inherits, for
+    /// - `NotInOverride`, if an override sets `panic`, `lto` or `rpath`. The override may be for
+    ///   any package, in the profile or in a profile from which it inherits.
     ///   any package, sets `panic`, `lto` or `rpath`.
     /// - `OutOfMemory`.
     pub fn settings(
