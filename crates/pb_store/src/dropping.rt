@@ -90,7 +90,8 @@ impl Store {
         requires numbers { IsTrue P.is_modelled →
             HasNumbers (records self.old.folder (P.at place.old).world) self.old.numbers }
 
-        // The call returns the number that was next. After an error that number is still the next.
+        // The returned number is the one that was next before the call. After an error that number
+        // is still the next.
         ensures number { MatchResult result (λ number. IsGiven number self.old.next self.new.next)
             (λ e. self.new.next ≡ self.old.next) }
         ensures folder { self.new.folder ≡ self.old.folder }

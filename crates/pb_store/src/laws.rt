@@ -18,10 +18,9 @@ pub fn first_name_is_first()
     ensures { FirstNameIsFirst }
 {}
 
-/// `differs` uses tests to determine how far it looks. This law states that the tests decide the
-/// facts that make a difference. These facts are the present value of an input, and each part and
-/// variable of a command. The files of a needed unit are such a fact, too, if the record names the
-/// unit by its files.
+/// `differs` uses tests to determine how far it looks. This law states that the tests decide what
+/// differs: the present value of an input, or a part or a variable of a command. If the record
+/// names a needed unit by its files, a test also decides whether these files differ.
 pub fn tests_decide()
     ensures { TestsDecide }
 {}

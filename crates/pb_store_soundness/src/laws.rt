@@ -7,10 +7,11 @@ ghost use Rattle.pb_store_soundness.specs.Laws.{StaysSound, OutsideLaw, InOutput
 ghost use Rattle.pb_store_soundness.specs.Numbers.{NumberWaitsLaw, StaysAheadLaw, GivenAheadLaw, NextIsNewLaw};
 ghost use Rattle.pb_store_soundness.specs.Reuse.{GroundsLaw, ReuseLaw, RenewLaw, SparesLaw, PutGroundsLaw};
 
-/// A profile folder stays sound if each record is gone, is unchanged, or is a true record whose
-/// number no record named for its unit before. A change outside the folder keeps the folder sound.
-/// A change in the output folder of a unit for which no record counts keeps the folder sound, too.
-/// A record may be removed or may no longer count, and a true record may be written.
+/// A profile folder stays sound if each record is gone, is unchanged, or is a true record with a
+/// number that no record has named for its unit before. A change outside the folder keeps the
+/// folder sound. A change in the output folder of a unit for which no record counts keeps the
+/// folder sound, too. A record may be removed or may no longer count, and a true record may be
+/// written.
 pub fn soundness_stays()
     ensures stays { StaysSound }
     ensures outside { OutsideLaw }
