@@ -1,4 +1,4 @@
-//! What a command line requests, and why a command line requests nothing.
+//! What a command line requests, and the errors of a command line.
 
 ghost use Rattle.std.specs.Prelude.{◌≡◌, ◌≢◌};
 ghost use Rattle.clap.specs.Values.{kind_of};
@@ -62,7 +62,8 @@ pub struct Shown {
     pub colors: bool,
 }
 
-/// Why a command line requests nothing that the program does.
+/// Why a command line is not carried out: help was requested, the words are wrong, or memory ran
+/// out.
 #[derive(Drop)]
 pub enum ArgumentsError {
     /// Help or the version was requested, or there were no words. The field is the text to print.

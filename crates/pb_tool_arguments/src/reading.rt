@@ -1,4 +1,4 @@
-//! The reading of a command line: which request its words make.
+//! Reads a command line: returns what its words request.
 
 ghost use Rattle.std.specs.Prelude.{◌≡◌, Ok, IfOk, IfErr, Some, [], codes, map, unwrap_or};
 ghost use Rattle.clap.specs.Matches.{found_of};
