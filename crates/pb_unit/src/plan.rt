@@ -56,8 +56,8 @@ pub struct Planned {
 pub struct Plan {
     /// The units by level, and then by the bytes of their keys: at least 1, at most 4,096.
     pub planned: Items<Planned>,
-    /// The names of the packages without a library to which enabled dependencies lead, in byte
-    /// order, each once.
+    /// The names of the packages that have no library although enabled dependencies lead to them,
+    /// in byte order, each once.
     pub without_library: Items<Text>,
 }
 
@@ -352,8 +352,8 @@ impl Plan {
         }
     }
 
-    /// Returns the names of the packages without a library to which enabled dependencies lead, in
-    /// byte order, each once. The plan has no unit of these packages. No memory is used.
+    /// Returns the names of the packages that have no library although enabled dependencies lead to
+    /// them, in byte order, each once. The plan has no unit of these packages. No memory is used.
     pub fn without_library(&self) -> &[Text]
         ensures { result.now ≡ self.now.without_library }
     {
