@@ -72,7 +72,7 @@ fn at_root(alloc: Global, frame: &WorkspaceRoot) -> Result<PackageLocation, Allo
     })
 }
 
-/// Returns a reading without packages. No memory is used.
+/// Returns the state of a reading in which no package has been read. No memory is used.
 fn nothing_read(alloc: Global) -> LoadState
     ensures { result ≡ nothing_read }
 {
@@ -82,7 +82,7 @@ fn nothing_read(alloc: Global) -> LoadState
     }
 }
 
-/// Returns a reading with only the root package.
+/// Returns the state of a reading in which only the root package has been read.
 fn begun_with(
     alloc: Global,
     frame: &WorkspaceRoot,
@@ -219,7 +219,7 @@ fn workspace_from(
     Ok(made)
 }
 
-/// Returns the workspace of a reading.
+/// Returns the workspace of the packages that were read.
 fn workspace_of(
     alloc: Global,
     target: &PathText,
@@ -239,7 +239,7 @@ fn workspace_of(
     Ok(SettledWorkspace::new(made))
 }
 
-/// Returns the workspace of a frame and its root package, if there is one.
+/// Returns the workspace of a root manifest (`frame`) and its root package, if there is one.
 #[tactic(auto, unfolding(crate::specs::Loaded::workspace_in))]
 fn workspace_in<P: Place>(
     alloc: Global,

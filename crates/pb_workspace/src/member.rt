@@ -14,7 +14,7 @@ use pb_workspace_package::source::resolve_path;
 use pb_workspace_package::{cut_at_slashes, names_in};
 use std::alloc::{AllocError, Global};
 
-/// A part of a text, which a name of a folder's path must match if the text means the folder.
+/// A part of a text. If the text means a folder, a name in the folder's path matches this part.
 #[derive(Drop)]
 pub struct Part {
     /// A name, or a pattern for a name.

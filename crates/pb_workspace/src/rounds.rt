@@ -340,7 +340,7 @@ fn add_draft(
     led
 }
 
-/// Returns the reading with one more package.
+/// Returns the state of a reading after one more package.
 pub fn with_draft(
     alloc: Global,
     reading: LoadState,
