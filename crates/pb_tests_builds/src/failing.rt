@@ -62,7 +62,8 @@ fn prepare(alloc: Global, place: &mut Memory<Mini>, trial: &Trial) -> Result<(),
     Ok(())
 }
 
-/// The text before the line that first contains this part, or an empty text if no line contains it.
+/// Returns the text before the line that first contains this part, or an empty text if no line
+/// contains it.
 fn lines_before<'a>(lines: &'a str, part: &str) -> &'a str {
     match lines.split_once(part) {
         Some((front, _)) => match front.rsplit_once('\n') {
@@ -76,16 +77,17 @@ fn lines_before<'a>(lines: &'a str, part: &str) -> &'a str {
 /// The failing finish line.
 const FINISH: &str = r#"{"reason":"build-finished","success":false}"#;
 
-/// The folder of the unit that a fault names, as lines name it.
+/// Returns the folder of the unit that a fault names, as lines name it.
 fn folder_named(alloc: Global, fault: &str) -> Result<String, AllocError> {
     let mut folder = String::from_str(alloc, "/debug/")?;
     folder.push_str(fault.split(' ').nth(1).unwrap_or(""))?;
     Ok(folder)
 }
 
-/// Whether these are the lines of a build that a fault ends: the lines of units, as a whole build
-/// has them, and the failing finish line. If units begin one after another, they are the lines of
-/// all units before the unit that the fault names; else the lines of the first n units, for some n.
+/// Returns whether these are the lines of a build that a fault ends. Such a build has lines of
+/// units, as a whole build has them, and then the failing finish line. With one job, the lines are
+/// those of all units before the unit that the fault names. With more jobs, they are the lines of
+/// the first n units, for some n.
 fn is_stopped(lines: &str, before: &str, jobs: u64) -> bool {
     if lines == FINISH {
         return before.is_empty() || jobs > 1;
@@ -99,7 +101,7 @@ fn is_stopped(lines: &str, before: &str, jobs: u64) -> bool {
     }
 }
 
-/// Whether lines are the first of others.
+/// Returns whether lines are the first of others.
 fn is_front(front: &str, lines: &str) -> bool {
     match lines.strip_prefix(front) {
         Some(rest) => rest.starts_with("\n"),
@@ -107,8 +109,8 @@ fn is_front(front: &str, lines: &str) -> bool {
     }
 }
 
-/// Whether a build in which a call failed reports what it must report, and makes no call after the
-/// failed call.
+/// Returns whether a build in which a call failed reports what it must report, and makes no call
+/// after the failed call.
 fn is_said(
     alloc: Global,
     place: &Memory<Mini>,
@@ -122,7 +124,8 @@ fn is_said(
     Ok(is_stopped(lines.as_str(), before, jobs) && place.failures() == 1 && place.late() == 0)
 }
 
-/// Adds the fault of a build in which a call failed to `told`, and what was wrong, if something was.
+/// Adds the fault of a build in which a call failed to `told`. If something was wrong, adds what
+/// was wrong.
 fn tell(
     alloc: Global,
     place: &Memory<Mini>,
@@ -161,7 +164,7 @@ fn fail_at(
     Ok(is_failed)
 }
 
-/// Whether a build went well and had the lines of a clean build, except for `fresh`.
+/// Returns whether a build went well and had the lines of a clean build, except for `fresh`.
 fn is_whole(alloc: Global, whole: &str, said: &str) -> Result<bool, AllocError> {
     let lines = afresh(alloc, lines_but_last(said))?;
     Ok(lines.as_str() == lines_but_last(whole) && last_line(said).starts_with("ok started="))
@@ -209,7 +212,7 @@ fn try_at(
     Ok(is_failed)
 }
 
-/// What a clean build reports about the edited files of a trial, in a place without files.
+/// Returns what a clean build reports about the edited files of a trial, in a place without files.
 fn whole_in(alloc: Global, place: &mut Memory<Mini>, trial: &Trial) -> Result<String, Fail>
     requires none { (counts_in place.old).starts.flying ≡ [] }
 {
@@ -218,7 +221,7 @@ fn whole_in(alloc: Global, place: &mut Memory<Mini>, trial: &Trial) -> Result<St
     build_text(alloc, place, 1)
 }
 
-/// The same report, in a fresh place.
+/// Returns what a clean build reports about the edited files of a trial, in a fresh place.
 fn whole_of(alloc: Global, trial: &Trial) -> Result<String, Fail> {
     whole_in(alloc, &mut Memory::new(alloc, Mini), trial)
 }
@@ -242,9 +245,12 @@ fn try_afresh(
     )
 }
 
-/// Lets each call fail in turn, until none does. Returns the faults, and what was wrong. The build
-/// must report what it must report, and make no call after the failed call. The same build after it
-/// must produce what a clean build produces, and the next build must start nothing.
+/// Lets each call fail in turn, until none does. Returns the faults, and what was wrong. Three
+/// things must be right:
+///
+/// - The build reports the failure, and makes no call after the failed call.
+/// - The same build, made again, produces what a clean build produces.
+/// - The build after that starts nothing.
 fn each_fails(alloc: Global, trial: &Trial) -> Result<String, Fail> {
     let mut told = Shown::new(alloc);
     let whole = whole_of(alloc, trial)?;
@@ -356,7 +362,7 @@ static TRIALS: &[Trial] = &[
     },
 ];
 
-/// Whether nothing was wrong, from the first faults to these last.
+/// Returns whether nothing was wrong, from the first faults to these last.
 fn is_right(told: &str, last: &str) -> bool {
     !told.contains("wrong") && told.starts_with(FIRST) && told.ends_with(last)
 }

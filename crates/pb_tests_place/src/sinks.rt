@@ -24,7 +24,8 @@ impl Write for Tiring {
     }
 }
 
-/// Whether a write takes so many bytes, if it takes some, and so many writes have failed then.
+/// Returns whether a write takes this number of bytes, if it takes some, and whether this number of
+/// writes have failed then.
 fn takes<O: Out>(sink: &mut O, bytes: &str, taken: Option<usize>, failures: u64) -> bool {
     sink.write(bytes.as_bytes()) == taken && sink.failures() == failures
 }
@@ -36,7 +37,7 @@ static OVER_BYTES: &[(&str, Option<usize>, u64)] = &[
     ("c", Some(1), 0),
 ];
 
-/// The same of a tiring writer.
+/// The same, for a writer that tires.
 static OVER_A_TIRING_WRITER: &[(&str, Option<usize>, u64)] = &[
     ("abcd", Some(3), 0),
     ("d", Some(0), 1),
@@ -44,7 +45,7 @@ static OVER_A_TIRING_WRITER: &[(&str, Option<usize>, u64)] = &[
     ("", None, 3),
 ];
 
-/// Whether each write takes what it is to take.
+/// Returns whether each write takes what it is to take.
 fn takes_all<O: Out>(sink: &mut O, cases: &[(&str, Option<usize>, u64)]) -> bool {
     for case in cases {
         let (bytes, taken, failures) = *case;

@@ -1,6 +1,5 @@
-//! Each key of a profile at each place, with the places before it and without: manifests and questions as in
-//! `profiles`.
-//! Neighbouring places set each key to values that differ.
+//! Each key of a profile at each place, with the places before it and without: manifests and
+//! questions as in `profiles`. Neighbouring places set each key to values that differ.
 
 /// The cases.
 pub const PLACES: &str = r#"=== [settings.places] each key at each place

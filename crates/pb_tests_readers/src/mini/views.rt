@@ -18,7 +18,7 @@ pub struct Files {
     pub variables: Items<(Text, Text)>,
 }
 
-/// The bytes of the first file at a path.
+/// Returns the bytes of the first file at a path.
 fn file_at(alloc: Global, files: &[(Text, Bytes)], path: &str) -> Result<Option<Bytes>, AllocError>
     ensures { IfOk result (λ found. found ≡ finite.find (slice_cmp nat_cmp) path.now files.now) }
 {
@@ -31,7 +31,7 @@ fn file_at(alloc: Global, files: &[(Text, Bytes)], path: &str) -> Result<Option<
     Ok(None)
 }
 
-/// The value of the first variable of a name.
+/// Returns the value of the first variable of a name.
 fn value_of(
     alloc: Global,
     variables: &[(Text, Text)],
