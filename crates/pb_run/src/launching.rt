@@ -30,7 +30,7 @@ fn spawn<P: Place>(alloc: Global, place: &mut P, command: &Command) -> Result<u6
         ≡ max (P.at place.old).most (length (P.at place.old).counts.starts.flying + 1))
         (λ e. (P.at place.new).most ≡ (P.at place.old).most) }
 
-    // Only its folder changes, by one call.
+    // Only the child's folder changes, by one call.
     ensures only { ChangesOnlyInSome command.now.out (P.at place.old).world
         (P.at place.new).world }
     ensures still { StaysStill (P.at place.old).counts.starts.flying (P.at place.old).world
