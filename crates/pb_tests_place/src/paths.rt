@@ -113,7 +113,7 @@ const BEGINNINGS: &str = "/w/a|/w/a -> itself\n\
      /w/a|/ -> below\n\
      /|/w -> outside";
 
-/// Returns whether this is the folder of a path, and of a copy of the path.
+/// Returns whether this is the folder of a copy of a path.
 fn is_in(alloc: Global, path: &str, wanted: &str) -> Result<bool, PathFault> {
     let path = PathText::parse(alloc, path)?;
     let again = path.copy(alloc)?;
