@@ -92,7 +92,7 @@ pub fn foresee<P: Place>(
         HasNumbers (records (records_folder project.now) (P.at place.old).world)
         store.now.numbers }
 
-    // Each fate is as defined, by the records of this world.
+    // Each fate is the one that the definition requires, for the records of this world.
     ensures fates { IsTrue P.is_modelled → IfOk result (λ fates.
         (done : List (Option (List Directive))) × Foresees setup.now project.now
         (P.at place.old).world project.now.plan.planned fates done) }
