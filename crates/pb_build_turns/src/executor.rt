@@ -103,8 +103,8 @@ fn note_begun(
     reasons[unit] = Some(difference);
 }
 
-/// Begins a unit of the executor's project that is not in flight. After a fault the unit is not in
-/// flight.
+/// Begins a unit of the executor's project. The unit must not be in flight. After a fault the unit
+/// is not in flight.
 fn begin_at<P: Place>(
     alloc: Global,
     crew: &mut UnitExecutor,
