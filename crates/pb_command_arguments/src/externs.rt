@@ -1,5 +1,4 @@
 //! The libraries of a compile: their folders, and the names under which the compiler gets them.
-//! which it gets them.
 
 ghost use Rattle.std.specs.Prelude.{◌≡◌, ◌++◌, ◌∷◌, IfOk, OnOk, string_bytes};
 ghost use Rattle.std.specs.List.{flat_map};

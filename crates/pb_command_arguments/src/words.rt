@@ -276,7 +276,7 @@ fn expected_text(alloc: Global, features: &[Feature]) -> Result<String, AllocErr
     Ok(text)
 }
 
-/// Adds the features of a unit's package that are on.
+/// Adds those features of a unit's package that are on.
 fn push_unit_features(
     alloc: Global,
     words: &mut Items<Text>,
