@@ -60,7 +60,7 @@ fn first_of(
     }
 }
 
-/// Returns the first package in byte order of names that has a wrong item.
+/// Of the packages with a wrong item, returns the first in byte order of names.
 fn first_fault(packages: &[Package]) -> Option<First>
     ensures { IsSofar packages.now (length packages.now) result }
 {
