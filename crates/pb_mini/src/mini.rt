@@ -111,8 +111,8 @@ fn reply_to<V: View>(
 ///
 /// Our own choices: if the path of the source is not absolute, the error is also `no source`. An
 /// output folder that is not an absolute path, or a crate name that is not a file name, is a bad
-/// command line. A library whose path is not absolute has no file. A line of an image that is not
-/// UTF-8 is ignored.
+/// command line. A library whose path is not absolute has no file. A line of an image is ignored if
+/// it is not UTF-8.
 ///
 /// `pairs` are names and values that override the variables of the view. If several pairs have the
 /// same name, the last one counts.
