@@ -307,8 +307,8 @@ pub(crate) fn found_here<R: Files + AllocGlobal>(
     Ok(found)
 }
 
-/// Returns the paths of all files below a folder that are not left out, in byte order. Returns no
-/// paths if no folder is at the path.
+/// Returns the paths of the files below a folder, in byte order, except files that are left out.
+/// Returns no paths if no folder is at the path.
 fn files_listed<R: Files + AllocGlobal>(
     runtime: &R,
     alloc: Global,

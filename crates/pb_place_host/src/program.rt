@@ -22,8 +22,8 @@ fn is_program<R: Files>(runtime: &R, path: &str) -> bool {
     }
 }
 
-/// Returns the path of a name in a folder. The path of a folder that is not absolute starts at the
-/// current folder.
+/// Returns the path of a name in a folder. A relative path of a folder starts at the current
+/// folder.
 fn path_in<R: Files + Env + AllocGlobal>(
     runtime: &R,
     alloc: Global,

@@ -32,8 +32,8 @@ pub fn folders_nest()
     ensures names { NamesLieApart }
 {}
 
-/// A path inside a folder, joined to the folder, is the path again. Each path except the root is
-/// its last part in its folder.
+/// A path inside a folder, joined to the folder, is the path again. If the last part of a path is
+/// joined to the path's folder, the result is the path, except for the root.
 pub fn paths_join_again()
     ensures again { JoinsAgain }
     ensures found { FoundInside }
