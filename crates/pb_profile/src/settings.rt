@@ -56,7 +56,6 @@ impl Settings {
     /// - `InheritsCycle`, if the profile's line comes back to itself.
     /// - `NotInOverride`, if an override sets `panic`, `lto` or `rpath`. The override may be for
     ///   any package, in the profile or in a profile from which it inherits.
-    ///   any package, sets `panic`, `lto` or `rpath`.
     /// - `OutOfMemory`.
     pub fn settings(
         alloc: Global,
