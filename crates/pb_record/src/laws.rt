@@ -44,8 +44,8 @@ pub fn texts_have_a_reading()
 {}
 
 /// A command, turned into a request and back, is the same command. A request, turned into a command
-/// and back, is the same request. A command that requests the same and sets the same variables is
-/// the requested command.
+/// and back, is the same request. If a command requests the same (`asks_as`) and sets the same
+/// variables (`sets_as`), it is the requested command.
 pub fn commands_are_asked()
     ensures command { AskedIsCommand }
     ensures asked { CommandIsAsked }
