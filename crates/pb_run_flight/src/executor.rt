@@ -66,8 +66,8 @@ pub trait Executor<P, O, F, E> {
             × stops e None first first_place first_out self.new place.new out.new
             (Began unit spawned ∷ es)) };
 
-    /// Takes the answer of the unit at an index of the units in flight. Afterwards this unit is no
-    /// longer in flight, even after a fault.
+    /// Takes the answer of a unit in flight. The unit is given by its index among the units in
+    /// flight. Afterwards this unit is no longer in flight, even after a fault.
     fn answer(
         &mut self,
         alloc: Global,
