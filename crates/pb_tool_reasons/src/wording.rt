@@ -133,7 +133,7 @@ pub fn reason_with(
     }
 }
 
-/// Returns a number with words for what it counts, after a comma. Returns nothing for 0.
+/// Returns a comma, a number, and words for what is counted. Returns an empty text for 0.
 ///
 /// Errors: out of memory.
 pub fn if_some(alloc: Global, count: usize, words: &str) -> Result<String, AllocError>
