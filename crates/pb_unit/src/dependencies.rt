@@ -134,7 +134,7 @@ fn needed_number(need: Need, owner: usize, side: Side) -> usize
     }
 }
 
-/// Adds the needs of this kind to which the enabled entries of the package at an index lead.
+/// For the package at an index, adds the needs of this kind to which its enabled entries lead.
 pub(crate) fn add_needed(
     numbers: &mut Vec<usize>,
     workspace: &SettledWorkspace,
