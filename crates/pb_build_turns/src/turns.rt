@@ -95,9 +95,10 @@ fn sum_up(
 }
 
 /// Runs the units of a project that is in order, by the steps that a turn decides. The run ends
-/// when all units have answered, or all units up to and including the first bad unit. Then the ends
-/// of the children in flight are awaited, in the order in which they began, and their answers are
-/// dropped. After a fault the children are awaited, too, and no other call of the place is made.
+/// when all units have answered, or when all units up to and including the first bad unit have
+/// answered. Then the ends of the children in flight are awaited, in the order in which they began,
+/// and their answers are dropped. After a fault the children are awaited, too, and no other call of
+/// the place is made.
 ///
 /// Errors:
 ///
