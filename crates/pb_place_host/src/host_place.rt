@@ -157,7 +157,7 @@ impl<'a, R: Files + Env + Processes + AllocGlobal> HostPlace<'a, R> {
         }
     }
 
-    /// Returns whether a path has moved that the child with this output folder read.
+    /// Returns whether the child with this output folder read a path that has moved.
     fn has_moved(&self, out: &PathText) -> bool {
         self.moved.iter().any(|moved| &moved.out == out)
     }

@@ -84,7 +84,7 @@ fn look<R: Files>(runtime: &R, since: Moment, path: &str) -> Sight {
 }
 
 /// Returns whether there may have been something at a path that is absent now. The answer is yes if
-/// the nearest existing folder above the path has changed since.
+/// the nearest existing folder above the path has changed since the given moment.
 fn is_gone<R: Files>(
     runtime: &R,
     alloc: Global,
