@@ -392,9 +392,9 @@ impl<F: Drop> Flight<F> {
         self.reach = reach;
     }
 
-    /// Returns the lines that are due now and have not been handed out. From the start of plan
-    /// order, the lines of the units that have answered are due, up to and including the first bad
-    /// unit.
+    /// Returns the lines that are due now and have not been handed out. The lines of a unit are due
+    /// if this unit and all units before it in plan order have answered, and no unit before it is
+    /// bad.
     ///
     /// Errors: out of memory. Then nothing has been handed out, and the next call returns these
     /// lines too.

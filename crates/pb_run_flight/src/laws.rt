@@ -15,9 +15,9 @@ pub fn reached_is_good<F>()
     ensures { ReachedIsGood F }
 {}
 
-/// After each call that hands out lines, all due lines have been handed out. These are, from the
-/// start of plan order, the lines of the units that have answered, up to and including the first
-/// bad unit.
+/// After each call that hands out lines, all due lines have been handed out. The lines of a unit
+/// are due if this unit and all units before it in plan order have answered, and no unit before it
+/// is bad.
 pub fn hands_out_all_due<F>()
     ensures { HandsOutAllDue F }
 {}
