@@ -234,7 +234,7 @@ fn stood_still<P: Place>(
     Ok(place.stood_still(command))
 }
 
-/// Writes a record, unless something has moved that the child of this command read. The check comes
+/// Writes a record, unless the child of this command read something that has moved. The check comes
 /// after the record is made. A later change is a difference from the recorded value.
 fn put_still<P: Place>(
     alloc: Global,
@@ -277,7 +277,7 @@ impl Store {
     /// Requires: the command writes into the unit's folder, and its variables are sorted by name,
     /// each name once.
     ///
-    /// If something has moved that the child read (`Place::watch`), no record is written, because
+    /// If the child read something that has moved (`Place::watch`), no record is written, because
     /// the child may not have read the present values. At a modelled place nothing moves.
     pub fn keep<P: Place>(
         &mut self,
