@@ -59,15 +59,14 @@ fn with_name(alloc: Global, name: &str, text: &Text) -> Result<String, AllocErro
     Ok(said)
 }
 
-/// Returns whether a byte is not an ASCII control character below the blank.
+/// Returns whether a byte is greater than 31. The bytes up to 31 are control characters of ASCII.
 fn is_plain_byte(byte: u8) -> bool
     ensures { result ≡ nat_lt 31 byte }
 {
     31 < byte
 }
 
-/// Returns whether a text has no control character below the blank. A line feed is such a
-/// character.
+/// Returns whether all bytes of a text are greater than 31. So the text has no line feed.
 fn is_plain(text: &Text) -> bool
     ensures { result ≡ is_plain text.now }
 {
