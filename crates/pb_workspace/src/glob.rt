@@ -7,15 +7,15 @@ ghost use Rattle.pb_workspace.specs.Rows.{cells_from, row_of, plain_cells, star_
 use pb_data::Items;
 use std::alloc::{AllocError, Global};
 
-/// An end of a name: its first byte, and whether a pattern matches the end.
+/// A suffix of a name: its first byte, and whether a pattern matches the suffix.
 #[derive(Clone, Copy)]
 struct Cell {
     byte: u8,
     matched: bool,
 }
 
-/// For each end of a name, whether a pattern matches the end. The empty end comes first, and then
-/// the others, the shortest first.
+/// For each suffix of a name, whether a pattern matches this suffix. The suffixes are ordered by
+/// length, from the empty suffix to the whole name.
 #[derive(Drop)]
 struct Row {
     empty: bool,
@@ -45,7 +45,7 @@ fn backwards(alloc: Global, name: &[u8]) -> Result<Vec<u8>, AllocError>
     name.iter().rev().copied().collect(alloc)
 }
 
-/// Returns the row of the empty pattern, which matches only the empty end.
+/// Returns the row of the empty pattern, which matches only the empty suffix.
 fn last_row(alloc: Global, before: &[u8]) -> Result<Row, AllocError>
     ensures { IfOk result (λ row. row ≡ record { empty = true; cells = plain_cells before.now }) }
 {
