@@ -15,7 +15,8 @@ use std::test::Fail;
 /// A library.
 const LIBRARY: &str = "@ /w/Cargo.toml\npackage.name = 'a'\n@ /w/src/lib.rs\nwarn w\n";
 
-/// A library with a script, and a package with a script that both need.
+/// A package `r` with a library and a script. Both need the package `x`, which has a library and a
+/// script, too.
 const SIDES: &str =
     "@ /w/Cargo.toml\npackage.name = 'r'\ndependencies.x.path = 'x'\nbuild-dependencies.x.path = 'x'\n@ /w/src/lib.rs\nuse x\n@ /w/build.rs\nput a b\n@ /w/x/Cargo.toml\npackage.name = 'x'\n@ /w/x/src/lib.rs\ninclude $OUT_DIR/f\n@ /w/x/build.rs\nput f g\nput h i\n";
 
@@ -26,10 +27,10 @@ const PAIR: &str =
 /// An edit of the library of `/w`.
 const EDIT: &str = "@ /w/src/lib.rs\nprint edited\n";
 
-/// Edits of the first of two libraries, a: one changes what is made from it, one changes only its
-/// source.
+/// An edit of `a`, the first of two libraries, that changes what is made from `a`.
 const EDIT_OF_A: &str = "@ /w/a/src/lib.rs\nprint edited\n";
 
+/// An edit of `a` that changes only its source.
 const REMARK_IN_A: &str = "@ /w/a/src/lib.rs\n# c\n";
 
 /// A build in which each call fails in turn.
@@ -272,12 +273,13 @@ const FIRST: &str =
 const LAST_OF_LIBRARY: &str =
     "fault a.target.lib CannotStart, fault a.target.lib Died, fault a.target.lib Device, fault a.target.lib Device, fault a.target.lib Device, ";
 
-/// The last faults of a package on both sides: the dep-info, what it names, and the record.
+/// The last faults of a package on both sides: the dep-info, what the dep-info names, and the
+/// record.
 const LAST_OF_SIDES: &str =
     "fault r.target.lib CannotStart, fault r.target.lib Died, fault r.target.lib Device, fault r.target.lib Device, fault r.target.lib Device, ";
 
-/// The last faults of two libraries, if the second is made: its dep-info, what it names, and the
-/// record.
+/// The last faults of two libraries, if the second is made: its dep-info, what the dep-info names,
+/// and its record.
 const LAST_OF_PAIR: &str =
     "fault b.target.lib CannotStart, fault b.target.lib Died, fault b.target.lib Device, fault b.target.lib Device, fault b.target.lib Device, ";
 
@@ -362,7 +364,8 @@ static TRIALS: &[Trial] = &[
     },
 ];
 
-/// Returns whether nothing was wrong, from the first faults to these last.
+/// Returns whether nothing was wrong, and the faults begin with those of all trials and end with
+/// these.
 fn is_right(told: &str, last: &str) -> bool {
     !told.contains("wrong") && told.starts_with(FIRST) && told.ends_with(last)
 }

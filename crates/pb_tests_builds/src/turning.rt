@@ -1,5 +1,5 @@
-//! Builds by turns that the tests define. No number of jobs leads to their steps: the unit that
-//! began last answers first.
+//! Builds by turns that the tests define. In these turns the unit that began last answers first,
+//! which is not so with any number of jobs.
 
 ghost use Rattle.std.specs.Prelude.{◌≡◌, []};
 ghost use Rattle.pb_place.specs.Memory.{counts_in};

@@ -27,7 +27,7 @@ pub trait Answers {
     fn put_answer(&self, alloc: Global, question: &str, out: &mut Shown) -> Result<(), Fail>;
 }
 
-/// Returns the case of a text, if it has the three parts of one.
+/// Returns the case of a text, if the text has the three parts of a case.
 fn case_of(text: &str) -> Option<Case<'_>> {
     let (name, rest) = text.split_once('\n')?;
     let (given, wanted) = rest.split_once("---\n")?;
@@ -85,8 +85,8 @@ pub fn try_cases<T: Trial>(alloc: Global, table: &str, trial: &T) -> Result<Trie
     Ok(tried)
 }
 
-/// Writes a line `QUESTION = ANSWER` for each question of what is wanted, a line each, with the
-/// answer that comes.
+/// Writes a line `QUESTION = ANSWER` for each line of the wanted text, with the line's question and
+/// the actual answer.
 pub fn put_answers<A: Answers>(
     alloc: Global,
     answers: &A,

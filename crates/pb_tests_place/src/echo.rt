@@ -49,7 +49,7 @@ fn leave(
     files.push((name, bytes))
 }
 
-/// Returns what the child leaves, which sees this file and this variable.
+/// Returns what the child leaves if it sees this file and this variable.
 fn files_left(
     alloc: Global,
     file: &Bytes,

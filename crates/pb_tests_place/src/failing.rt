@@ -1,4 +1,4 @@
-//! What a failing call of a place may leave: its definition lets through no less than this.
+//! Laws about what a failing call of a place may leave. The definition allows at least these cases.
 
 ghost use Rattle.std.specs.Prelude.{ℕ, List, take};
 ghost use Rattle.std.specs.FinMap as map;

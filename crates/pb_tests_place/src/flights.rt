@@ -165,7 +165,8 @@ pub const FUSES: &str = "fuse 0 -> done\n\
      seen -> 0 0\n\
      file /w/a -> none";
 
-/// Behind three files a write and a removal that fail leave half, rounded down.
+/// After three files were put, a write and a removal that fail leave half of their change, rounded
+/// down.
 pub const HALVES: &str = "fuse 1 -> done\n\
      write /w/a 12345 -> Write\n\
      file /w/a -> 12\n\

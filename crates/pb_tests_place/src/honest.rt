@@ -72,8 +72,8 @@ fn removed_then_read<P: Place>(
     Ok(found)
 }
 
-/// Returns what is listed after a write: among it the path that was written, if it is below the
-/// folder.
+/// Returns what is listed after a write. If the written path is below the folder, it is in the
+/// list.
 fn written_then_listed<P: Place>(
     alloc: Global,
     place: &mut P,

@@ -21,7 +21,7 @@ fn profile_in(words: &str) -> &str {
     }
 }
 
-/// A root manifest in `/w`, all of whose folders with a manifest are members.
+/// A root manifest in `/w`. Each folder in `/w` that has a manifest is a member.
 const ROOT: &str = "@ /w/Cargo.toml\n[workspace]\nmembers = [\"*\"]\n";
 
 /// Returns the plan of a selection.
@@ -259,7 +259,7 @@ fn binary(alloc: Global) -> Result<Unit, AllocError> {
     })
 }
 
-/// Returns whether the keys of a unit, and of one of no package, are right.
+/// Returns whether the keys of two units are right. The package of the first unit does not exist.
 fn has_keys(alloc: Global, workspace: &Workspace) -> Result<bool, AllocError> {
     let run = Unit {
         owner: 2,

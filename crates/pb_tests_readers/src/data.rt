@@ -114,7 +114,8 @@ fn insert_all(alloc: Global, table: &mut Table<u8>) -> Result<(), AllocError> {
     Ok(())
 }
 
-/// Returns whether a name has this value in a table, and is there unless the value is 0.
+/// Returns whether a name has this value in a table. The value 0 means that the name is not in the
+/// table.
 fn has_value(alloc: Global, table: &Table<u8>, name: &str, wanted: u8) -> Result<bool, AllocError> {
     let name = Text::from_str(alloc, name)?;
     let value = *table.get(&name).unwrap_or(&0);

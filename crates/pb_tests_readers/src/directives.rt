@@ -69,8 +69,8 @@ fn put_names(out: &mut Shown, info: &DepInfo) {
     out.put_each("", info.variables.as_slice(), ";");
 }
 
-/// Returns whether a copy of the directives in a script's output, or why there are none, is shown
-/// as this.
+/// Returns whether this text shows a copy of the directives in a script's output, or the fault if
+/// there are no directives.
 fn says(alloc: Global, output: &[u8], wanted: &str) -> bool {
     let mut shown = Shown::new(alloc);
     match read_directives(alloc, output) {
@@ -166,7 +166,7 @@ const KEYS: &str = "cargo::rerun-if-changed=build.rs -> changed<build.rs><>;\n\
      cargo:a=b\0 -> BadValue 1\n\
      cargo::warning= -> warning<><>;";
 
-/// Lines with a value that their key may not have, and lines that are near to those.
+/// Lines with a value that their key may not have, and lines that differ little from these.
 const VALUES: &str = "cargo:rerun-if-changed= -> BadValue 1\n\
      cargo::rerun-if-env-changed=A\0 -> BadValue 1\n\
      cargo::rerun-if-env-changed== -> BadValue 1\n\

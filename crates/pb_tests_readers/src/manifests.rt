@@ -1,5 +1,5 @@
-//! The reader on tables of manifests and at the size limit, the letters of names, versions, and
-//! faults in words.
+//! Tests of the reader of manifests, on tables of cases and at the size limit. Other tests are
+//! about the letters of names, about versions, and about faults in words.
 
 mod cases;
 mod show;
@@ -49,7 +49,7 @@ impl Trial for ManifestCases {
     }
 }
 
-/// Returns whether the answer to as many line feeds is this.
+/// Returns whether the answer to a manifest of this number of line feeds is this.
 fn blank_says(alloc: Global, length: usize, wanted: &str) -> Result<bool, AllocError> {
     let bytes = of_bytes(alloc, b"", b'\n', length)?;
     Ok(says(alloc, bytes.as_slice(), wanted))
@@ -99,7 +99,7 @@ fn has_letters(case: &(&str, bool, bool, bool, bool)) -> bool {
 }
 
 /// Texts, whether each has the letters of a package's, a crate's and a feature's name, and whether
-/// it has a byte zero.
+/// it has byte 0.
 static LETTERS: &[(&str, bool, bool, bool, bool)] = &[
     ("a", true, true, true, false),
     ("z", true, true, true, false),
@@ -329,7 +329,7 @@ fn source_is_copied(alloc: Global, path: &str) -> Result<bool, AllocError> {
     }
 }
 
-/// Returns whether the copy of a readme at a path is one at a path.
+/// Returns whether the copy of a README setting with a path has a path, too.
 fn readme_is_copied(alloc: Global, path: &str) -> Result<bool, AllocError> {
     let readme = Readme::At(Text::from_str(alloc, path)?);
     let copied = readme.copy(alloc);

@@ -1,4 +1,4 @@
-//! Records as text: worked examples, texts that are none, and texts made at random.
+//! Records as text: worked examples, texts that are not records, and texts made at random.
 
 use crate::dice::Dice;
 use pb_place_types::join_pieces;
@@ -170,7 +170,7 @@ fn replace_part(alloc: Global, old: &str, new: &str) -> Result<String, AllocErro
     made.whole()
 }
 
-/// Returns whether the largest record in which one text is replaced by another is none.
+/// Replaces one text in the largest record by another. Returns whether the result is not a record.
 fn is_none_with(alloc: Global, old: &str, new: &str) -> Result<bool, AllocError> {
     let made = replace_part(alloc, old, new)?;
     Ok(is_none(alloc, made.as_bytes()))

@@ -128,11 +128,11 @@ static MANIFEST_FAULTS: &[ManifestFault] = &[
     ManifestFault::OutOfMemory,
 ];
 
-/// The names of all faults of a workspace but that of a manifest.
+/// The names of all faults of a workspace, except the fault of a manifest.
 const LOAD_FAULTS: &str =
     "NoManifest SameName NameMismatch VersionMismatch LinksTwice LinksWithoutScript NoInherited TooMany SameBinary Place NoSuchPackage OutOfMemory";
 
-/// The names of all faults of a plan but that of a profile.
+/// The names of all faults of a plan, except the fault of a profile.
 const PLAN_FAULTS: &str = "Cycle TooManyUnits NothingToBuild OutOfMemory";
 
 /// All faults of features.

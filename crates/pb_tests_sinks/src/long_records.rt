@@ -29,8 +29,8 @@ fn push_blocks(alloc: Global, record: &mut Vec<u8>, blocks: &[&str]) -> Result<(
     Ok(())
 }
 
-/// Returns a record of a unit of package `a` that was made in the folder `/w` and wrote this, whose
-/// one input is that folder, with files of these lengths.
+/// Returns a record with this key. Its child was started in the folder `/w` and printed this text.
+/// The only input is the folder `/w`, with files of these lengths.
 fn record_of(
     alloc: Global,
     key: &str,

@@ -198,8 +198,8 @@ fn is_mended(alloc: Global, first: &[u8]) -> Result<bool, Fail> {
     Ok(gives(alloc, TWICE, writer, 0, bytes.as_slice()))
 }
 
-/// Returns the first number of message bytes after which a sink that fails once is not followed by
-/// a build that is right.
+/// Lets a sink fail once, after each number of message bytes. Returns the first number for which
+/// the next build is not right, if there is such a number.
 fn wrong_after(alloc: Global, messages: &[u8]) -> Result<Option<usize>, Fail> {
     for room in 0..messages.len() {
         if !is_mended(alloc, &messages[..room])? {

@@ -9,8 +9,8 @@ use pb_tests_files::{Case, Shown, Trial, Untold, put_files};
 use std::alloc::Global;
 use std::test::Fail;
 
-/// A library, which warns, reads a file and a variable; a script, and the library for which the
-/// script runs. The units: a's library, b's script, its run and its library.
+/// The library of `a` warns, and reads a file and a variable. The package `b` has a script and a
+/// library. The units are a's library, b's script, the run of the script, and b's library.
 pub const FILES: &str =
     "@ /w/Cargo.toml\nworkspace.members = ['a', 'b']\n@ /w/a/Cargo.toml\npackage.name = 'a'\n@ /w/a/src/lib.rs\nwarn w\ninclude n\nenv V\n@ /w/a/src/n\none\n@ /w/b/Cargo.toml\npackage.name = 'b'\ndependencies.a.path = '../a'\n@ /w/b/src/lib.rs\nuse a\n@ /w/b/build.rs\nput f g\n";
 

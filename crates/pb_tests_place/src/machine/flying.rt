@@ -36,13 +36,14 @@ fn spawn<P: Place>(
     Ok(ticket)
 }
 
-/// Returns whether a program that is not there does not start.
+/// Returns whether a program that does not exist cannot be started.
 fn misses<P: Place>(alloc: Global, place: &mut P, root: &PathText) -> Result<bool, Fail> {
     let answer = spawn(alloc, place, root, &("/no/such/program", "", "", "", &[]))?;
     Ok(matches!(answer, Err(StartFault::CannotStart)))
 }
 
-/// Spawns two children: their tickets, and whether a program that is not there does not start.
+/// Spawns two children. Returns their tickets, and whether a program that does not exist cannot be
+/// started.
 fn spawn_two<P: Place>(
     alloc: Global,
     place: &mut P,

@@ -13,7 +13,7 @@ fn place_of(rt: &HostRuntime, name: &str) -> Result<String, Fail> {
 
 /// Returns an empty folder there.
 fn empty_folder(rt: &HostRuntime, text: &str) -> Result<PathText, Fail> {
-    // what a run with this number left that was cut off
+    // An earlier run with this number may have been cut off, and may have left files.
     let _ = fs::remove_dir_all(rt, text);
     fs::create_dir_all(rt, text)?;
     Ok(PathText::parse(rt.alloc(), text)?)

@@ -13,8 +13,8 @@ use std::test::Fail;
 const BEFORE: &str = "mkdir -p src/deep no/target other; echo old > src/a; echo old > b; \
      ln -s b to_b; ln -s src to_src; echo '# This is a target folder of pb_tool.' > other/CACHEDIR.TAG";
 
-/// What a child does, the path that is watched, and what has moved then. A name is one of a path in
-/// the test's folder.
+/// What a child does, the path that is watched, and what has moved then. Each name is a path
+/// relative to the test's folder.
 static SCENES: &[(&str, &str, &str)] = &[
     ("true", "src/a", "still"),
     ("true", "", "still"),

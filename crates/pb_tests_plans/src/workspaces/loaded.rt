@@ -126,8 +126,8 @@ fn count_in(answer: &Result<SettledWorkspace, LoadFault>) -> usize {
     }
 }
 
-/// Returns how many packages are loaded of a root and this number of members that are put at a
-/// place, how many calls of the place failed, and how many children were started.
+/// Puts a root and this number of members at a place, and loads the workspace. Returns how many
+/// packages were loaded, how many calls of the place failed, and how many children were started.
 fn count_loaded_at(
     alloc: Global,
     memory: &mut Memory<Silent>,
@@ -167,8 +167,8 @@ fn finds_none(
     Ok(is_none)
 }
 
-/// Manifests and target folders, and whether there is no manifest there, of the package of
-/// `TWO_MANIFESTS`.
+/// Paths of manifests with target folders, and whether the loader finds no manifest there in the
+/// files of `TWO_MANIFESTS`.
 static ROOTS: &[(&str, &str, bool)] = &[
     ("/w/Cargo.toml", "/w/target", false),
     ("/w/other.toml", "/w/target", true),

@@ -93,7 +93,7 @@ pub fn first_bad(units: &[Unit]) -> Option<usize> {
     told
 }
 
-/// Returns whether all units are good, or the first that is not is bad.
+/// Returns whether all units are good, or the first unit that is not good is bad.
 pub fn is_finished(units: &[Unit]) -> bool {
     units.iter().all(|unit| unit.standing == Standing::Good) || first_bad(units).is_some()
 }

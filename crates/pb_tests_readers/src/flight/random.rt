@@ -8,7 +8,7 @@ use pb_run_flight::{Answer, Flight};
 use std::alloc::{AllocError, Global};
 use std::test::Fail;
 
-/// Returns some of the units before one, some of them twice.
+/// Returns up to three units before a unit, at random. The same unit may occur twice.
 fn some_needs(alloc: Global, dice: &mut Dice, unit: usize) -> Result<Items<usize>, AllocError> {
     let mut needs = Items::new(alloc);
     for _ in 0..dice.below(4) {
@@ -124,7 +124,7 @@ fn agrees(alloc: Global, flight: &Flight<u8>, units: &[Unit]) -> Result<bool, Fa
     )
 }
 
-/// Hands out, and whether all that was handed out is what is due.
+/// Hands out lines. Returns whether all lines that were ever handed out are the lines that are due.
 fn emits_due(
     alloc: Global,
     flight: &mut Flight<u8>,

@@ -42,8 +42,8 @@ static STEPS: &[(Act, &str, &str)] = &[
     (Act::Good(8), "", "8 "),
 ];
 
-/// Steps in which two units are bad, the later one in plan order first in time: after it only
-/// earlier ones may begin, and no line of it is handed out.
+/// Steps in which two units are bad. The one that is later in plan order answers first. After its
+/// answer only units before it may begin, and its lines are not handed out.
 static BAD_STEPS: &[(Act, &str, &str)] = &[
     (Act::Begin(1), "0 ", ""),
     (Act::Good(1), "0 3 ", ""),

@@ -16,7 +16,7 @@ fn is_step(step: Step, begins: bool, wanted: usize) -> bool {
     }
 }
 
-/// Returns whether two jobs, the last first, make the turns that they are to make.
+/// Returns whether a turn makes the expected steps with two jobs and a pick of the last unit.
 fn two_jobs() -> bool {
     let ready: &[usize] = &[4, 6];
     let mut two = Jobs {

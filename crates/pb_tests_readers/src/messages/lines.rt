@@ -10,14 +10,14 @@ use pb_place_types::{Over, PathFault, PathText};
 use std::alloc::Global;
 use std::test::Fail;
 
-/// Returns whether a text is one line, the wanted one of this number.
+/// Returns whether a text is one line, and is the wanted line with this number.
 fn is_line(text: &str, number: usize) -> bool {
     text.ends_with('\n')
         && text.lines().count() == 1
         && text.lines().next() == WANTED.lines().nth(number)
 }
 
-/// Returns whether the line of a message is the wanted one of this number.
+/// Returns whether the line of a message is the wanted line with this number.
 fn says(
     alloc: Global,
     subject: &Subject,
@@ -124,7 +124,7 @@ fn message(alloc: Global, told: Told) -> Result<Message, Fail> {
     }
 }
 
-/// Returns whether the line about a target, with this message, is the wanted one of this number.
+/// Returns whether the line about a target, with this message, is the wanted line with this number.
 fn is_told(
     alloc: Global,
     about: About,
@@ -241,7 +241,7 @@ fn both_are_written(alloc: Global) -> Result<bool, Fail> {
     Ok(are_written(alloc, lines.as_str()))
 }
 
-/// Returns whether a last line is the wanted one of this number.
+/// Returns whether a last line is the wanted line with this number.
 fn ends(success: bool, number: usize) -> bool {
     let line = finish_line(success);
     line.ends_with('\n') && line.lines().next() == WANTED.lines().nth(number)

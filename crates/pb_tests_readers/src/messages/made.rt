@@ -51,7 +51,8 @@ pub fn artifact(
     }))
 }
 
-/// Returns the variable `A` with a value and an empty variable `B`; neither for an empty value.
+/// Returns the variable `A` with a value and an empty variable `B`. If the value is empty, returns
+/// no variable.
 fn variables(alloc: Global, value: &str) -> Result<Items<(Text, Text)>, AllocError> {
     let mut made = Items::new(alloc);
     if !value.is_empty() {

@@ -27,7 +27,7 @@ fn line_compiles_so(
     Ok(compiles_so(alloc, words, path, &case_of(text.as_str())))
 }
 
-/// Asserts what each compile of a table does, which speaks on standard error.
+/// Asserts what each compile of a table does. A compile writes only to standard error.
 fn assert_compiles(
     rt: &impl Abort,
     alloc: Global,

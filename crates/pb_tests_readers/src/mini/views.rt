@@ -9,7 +9,8 @@ use pb_data::{Bytes, Items, Text, TryCopy};
 use pb_place_types::{PathText, View, ViewFault};
 use std::alloc::{AllocError, Global};
 
-/// Files by their paths and variables by their names, of two with one name the first.
+/// Files by their paths and variables by their names. If two have the same name, the first one
+/// counts.
 #[derive(Drop)]
 pub struct Files {
     /// The paths and the bytes.

@@ -96,7 +96,8 @@ first~file /t/debug/b.target.lib/c/d~differs -> `b.target.lib` was built again,
 first~gone /t/debug/b.target.lib~differs -> `b.target.lib` was built again, 
 first~file /w/a fm~file /t/debug/b.target.lib/b.lib C~differs A B~differs~file /w/a fn~differs -> the variable `A` that its command sets has changed, `/w/a` has changed, `b.target.lib` was built again, "#;
 
-/// The next number, of folders with records of both formats and with names that are no records.
+/// The next number of folders. The folders have records of both formats, and files whose names are
+/// not names of records.
 const NEXT_NUMBERS: &str = r#"open -> next 8, 
 gone /t/debug/a.target.lib.record~open -> next 4, 
 gone /t~open -> next 1, 

@@ -43,7 +43,7 @@ pub fn put_file(
     Ok(put?)
 }
 
-/// Puts the record of format 1 in the place of the unit's.
+/// Replaces the unit's record by the record of format 1.
 pub fn put_first(alloc: Global, place: &mut Memory<Mini>) -> Result<(), Fail> {
     put_file(alloc, place, "/t/debug/a.target.lib.record", FIRST)
 }
