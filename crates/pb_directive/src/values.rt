@@ -1,4 +1,4 @@
-//! The forms of a key's value.
+//! Reads the value of a key, in each of the forms that keys require.
 
 ghost use Rattle.pb_directive.specs.Faults.{LineGives};
 ghost use Rattle.pb_directive.specs.Directives.{plain, filled, variable, halves, named_value};
