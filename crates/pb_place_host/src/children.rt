@@ -1,4 +1,4 @@
-//! Children of the machine, as a place keeps them.
+//! The machine's child processes: how they are started, and what a place stores about them.
 
 ghost use Rattle.std.specs.Prelude.{◌≡◌, ◌+◌, ◌<◌, ◌++◌, ◌∷◌, [], length, max, IfOk};
 ghost use Rattle.std.specs.Vec.{vec_len, vec_capacity};
