@@ -136,8 +136,8 @@ fn may_begin<F>(
     Some(is_open(states, met, unit, state, wanted.as_slice()))
 }
 
-/// Returns the units that may begin. The lines of the first `given` units are known to be due. No
-/// unit from index `reach` on has all needs met.
+/// Returns the units that may begin. The lines of the first `given` units are known to be due. At
+/// index `reach` and after it, no unit has all its needs met.
 fn ready_of<F>(
     alloc: Global,
     needs: &[Items<usize>],
