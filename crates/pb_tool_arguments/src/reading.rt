@@ -33,7 +33,7 @@ struct Judged {
     jobs: u64,
 }
 
-/// The options of a build that name something. Each has any number of texts.
+/// The packages, features and binaries that a command line names, any number of each.
 #[derive(Drop)]
 struct Named {
     packages: Items<Text>,
@@ -88,7 +88,7 @@ fn judged_of(alloc: Global, here: &Here, matches: &ArgMatches<'_>) -> Result<Jud
     })
 }
 
-/// Returns the options of a build that name something.
+/// Returns the packages, features and binaries that the words of a command line name.
 fn named_of(alloc: Global, matches: &ArgMatches<'_>) -> Result<Named, AllocError>
     ensures packages { IfOk result (λ named. named.packages
         ≡ values_of (codes "package") (rows_of (found_of matches.now))) }
