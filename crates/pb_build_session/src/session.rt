@@ -1,4 +1,4 @@
-//! A session file.
+//! Reads a session file: the steps of a session, one after another.
 
 ghost use Rattle.std.specs.Prelude.{◌≡◌, ℕ, List};
 ghost use Rattle.serde_json.specs.View.{view, items_view};
