@@ -1,4 +1,4 @@
-//! A value together with the next value.
+//! Puts a value and the value of a next result together.
 
 ghost use Rattle.std.specs.Prelude.{◌≡◌, Ok, Err, IfOk, IfErr, MatchResult};
 
