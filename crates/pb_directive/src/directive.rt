@@ -34,7 +34,7 @@ pub enum Directive {
     CheckCfg(Text),
     /// `rustc-env`: a variable's name and value.
     Env(Text, Text),
-    /// Metadata for the scripts of direct dependents: its key and value.
+    /// A key and a value of metadata, for the scripts of direct dependents.
     Metadata(Text, Text),
     /// `warning`: a text for the user.
     Warning(Text),
