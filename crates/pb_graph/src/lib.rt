@@ -1,4 +1,4 @@
-//! Closures and orders of graphs.
+//! Least sets, and orders of graphs.
 //!
 //! `least` computes the least set that contains some seeds and is closed under rules. `order` sorts
 //! the roots, and all nodes that the roots reach, by level and then by key. Each node then comes
