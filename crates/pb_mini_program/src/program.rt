@@ -1,4 +1,4 @@
-//! What the program does.
+//! The work of the program `pb_mini`: it replies, and writes the files and streams of the reply.
 
 ghost use Rattle.std.specs.Prelude.{◌≡◌, ◌≢◌, ◌⊎◌, ℕ, List, [], Option, Some, OnOk, IfOk, IfErr, IsTrue};
 ghost use Rattle.std.specs.Io.KnownBytes.{Appends};
@@ -65,7 +65,7 @@ fn leave_files<P: Place, V: View>(
         × IsFolderOf V.is_modelled words.now (V.shown view.now) files.now folder
         × PutsIn P.is_modelled folder files.now (kept (P.at place.old)) (kept (P.at place.new))) }
 
-    // Why it fails:
+    // If the call fails:
     ensures read { IfErr result (λ e. e ≡ Fault.Read → V.fails view.now
         × (place.new ≡ place.old)) }
     ensures write { IfErr result (λ e. e ≡ Fault.Write → (folder : List ℕ)
@@ -123,7 +123,7 @@ pub fn carry_out<V: View, P: Place, O: Out, E: Out>(
         (outside (P.at place.old) (O.heard out.old) (E.heard err.old))
         (outside (P.at place.new) (O.heard out.new) (E.heard err.new))) }
 
-    // Why it fails:
+    // If the call fails:
     ensures read { IfErr result (λ e. e ≡ Fault.Read → V.fails view.now
         × (place.new ≡ place.old) × (out.new ≡ out.old) × (err.new ≡ err.old)) }
     ensures write { IfErr result (λ e. e ≡ Fault.Write → (reply : Reply)
