@@ -1,4 +1,4 @@
-//! Paths: absolute and normalised, and relative ones inside a folder.
+//! Normalised absolute paths.
 
 ghost use Rattle.std.specs.Prelude.{◌≡◌, true, ◌∷◌, ◌++◌, map, IfOk, OnOk, string_bytes};
 ghost use Rattle.std.specs.List.{list_any, list_all};

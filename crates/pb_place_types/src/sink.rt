@@ -1,4 +1,4 @@
-//! Where message bytes go.
+//! Sinks, to which message lines are written.
 
 ghost use Rattle.std.specs.Prelude.{◌≡◌, ◌≤◌, length, take, MatchOption};
 ghost use Rattle.std.specs.Io.KnownBytes.{Keeps, Appends};
