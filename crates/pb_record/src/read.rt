@@ -1,4 +1,4 @@
-//! A record read from its text.
+//! Reads a record from its text.
 
 ghost use Rattle.std.specs.Prelude.{◌≡◌, ◌++◌, codes, ℕ, List, Option, IfOk, MatchOption};
 ghost use Rattle.pb_record.specs.Grammar.{line};

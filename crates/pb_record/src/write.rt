@@ -1,4 +1,4 @@
-//! A record written as its text.
+//! Writes a record as its text.
 
 ghost use Rattle.std.specs.Prelude.{◌≡◌, ◌++◌, ◌<◌, codes, ℕ, List, length, take, Option, Some, None, IfOk, OnOk};
 ghost use Rattle.std.specs.List.{AllByRecursion, concat};
