@@ -1,4 +1,4 @@
-//! Who begins units and takes their answers.
+//! The trait of the code that begins units and takes their answers.
 
 ghost use Rattle.std.specs.Prelude.{◌≡◌, ◌<◌, ◌++◌, ◌∷◌, [], ℕ, Bool, List, length, Option, IfOk, OnOk, MatchResult, Some, None, Contains, slice_get};
 ghost use Rattle.std.specs.List.{remove};

@@ -1,4 +1,4 @@
-//! The flight table.
+//! The flight table: the state of each unit, and which lines are due.
 
 ghost use Rattle.std.specs.Prelude.{◌≡◌, ◌<◌, ◌≤◌, ℕ, List, IfOk, OnOk, OnErr, Some, Contains, slice_get, length, map, drop, IsTrue, ◌↔◌};
 ghost use Rattle.pb_run_flight.specs.declared.flight.State.TheVariants.{Begun, Untouched};

@@ -1,4 +1,4 @@
-//! Who decides the next step.
+//! Turns, which decide the next step, and picks, which decide which unit begins.
 
 ghost use Rattle.std.specs.Prelude.{◌≡◌, ◌<◌, ◌+◌, ℕ, List, length};
 ghost use Rattle.pb_run_flight.specs.declared.turn.Step.{Step};
