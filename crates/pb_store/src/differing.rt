@@ -1,4 +1,4 @@
-//! The differences between a unit and its record.
+//! Finds the first difference between a unit and its record.
 
 ghost use Rattle.std.specs.Prelude.{◌≡◌, ◌∷◌, [], true, false, IsTrue, IfOk, MatchOption, Decides};
 ghost use Rattle.pb_place_types.specs.declared.call.Call.TheVariants as call;
