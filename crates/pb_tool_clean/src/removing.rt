@@ -1,4 +1,4 @@
-//! Removals.
+//! Removes the chosen part of a target folder.
 
 ghost use Rattle.std.specs.Prelude.{◌≡◌, IfOk, OnOk, OnErr, IsTrue, false, true};
 ghost use Rattle.pb_place_types.specs.Paths.{is_at_or_below};

@@ -1,4 +1,4 @@
-//! All units of a prepared build, one after another.
+//! Finds the fates of all units of a prepared build, one after another.
 
 ghost use Rattle.std.specs.Prelude.{◌≡◌, ◌++◌, List, [], ◌∷◌, Option, IfErr, IfOk, IsTrue, OnOk, Some, slice_get};
 ghost use Rattle.pb_directive.specs.declared.directive.Directive.{Directive};

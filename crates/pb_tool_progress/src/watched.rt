@@ -1,4 +1,4 @@
-//! A turn that is watched.
+//! A turn that shows each unit that begins.
 
 ghost use Rattle.std.specs.Prelude.{◌≡◌};
 ghost use Rattle.pb_build.specs.Ending.{PicksFirstOf};

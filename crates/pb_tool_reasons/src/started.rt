@@ -1,4 +1,4 @@
-//! Why a build started what it started.
+//! Why a build started the children of its units, as lines.
 
 ghost use Rattle.std.specs.Prelude.{◌≡◌, ◌++◌, ◌∷◌, [], IfOk, OnOk, string_bytes};
 ghost use Rattle.std.specs.List.{list_all};
