@@ -155,7 +155,7 @@ fn row_of(alloc: Global, pattern: &[u8], name: &[u8]) -> Result<Row, AllocError>
     Ok(row)
 }
 
-/// Returns whether the longest end matches.
+/// Returns whether the longest suffix matches.
 fn last_matched(row: &Row) -> bool
     ensures { result ≡ last_matched row.now.empty row.now.cells }
 {

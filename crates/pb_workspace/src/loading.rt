@@ -1,4 +1,4 @@
-//! The workspace of a manifest.
+//! Reads the workspace of a root manifest.
 
 ghost use Rattle.std.specs.Prelude.{◌≡◌, IfErr, IfOk, IsTrue, Some, false, IfSome};
 ghost use Rattle.pb_place_types.specs.Paths.{folder_of};

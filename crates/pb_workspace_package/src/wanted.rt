@@ -31,7 +31,7 @@ pub struct Wanted {
     pub name: Text,
     /// The requirement that its package's version must match.
     pub version: Option<Requirement>,
-    /// Whether `package` names another package than the key.
+    /// Whether the name at `package` differs from `key`. False if `package` is not written.
     pub renamed: bool,
     /// Whether the entry is left out unless something enables it.
     pub optional: bool,
@@ -52,7 +52,8 @@ pub struct PackageLocation {
     pub manifest: PathText,
 }
 
-/// Returns whether `package` names another package than the key.
+/// Returns whether the name at `package` differs from the key. Returns false if there is no such
+/// name.
 fn is_renamed(key: &Text, name: &Option<Text>) -> bool
     ensures { result ≡ is_renamed key.now name.now }
 {
