@@ -1,4 +1,5 @@
-//! The line of a profile: the profile, the profile from which it inherits, and so on.
+//! The line of inheritance of a profile: the profile, the profile from which it inherits, and so
+//! on.
 
 ghost use Rattle.std.specs.Prelude.{◌≡◌, map, option_map};
 ghost use Rattle.std.specs.List.{list_all};
@@ -10,7 +11,7 @@ use crate::fault::ProfileFault;
 use pb_manifest_types::{Profile, ProfileKey, ProfileKeys, ProfileOverride};
 use std::alloc::Global;
 
-/// A profile in a line.
+/// A profile in a line of inheritance.
 #[derive(Drop)]
 pub struct Ancestor<'a> {
     /// The profile's name.
@@ -85,8 +86,8 @@ fn above<'a>(
     }
 }
 
-/// Returns the line of a profile: the profile itself, the profile from which it inherits, and so on
-/// to `dev` or `release`.
+/// Returns the line of inheritance of a profile: the profile itself, the profile from which it
+/// inherits, and so on to `dev` or `release`.
 ///
 /// Errors:
 ///
@@ -118,7 +119,7 @@ fn all_allow(line: &[Ancestor]) -> bool
     line.iter().all(|ancestor| allows(ancestor))
 }
 
-/// Returns the line of a profile, whatever its overrides set.
+/// Returns the line of inheritance of a profile, whatever its overrides set.
 fn ancestors_of<'a>(
     alloc: Global,
     profiles: &'a [Profile],
