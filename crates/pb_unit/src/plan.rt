@@ -73,7 +73,7 @@ fn workspace_of<'a>(selected: &'a SelectedWorkspace<'_>) -> &'a Workspace
     selected.workspace().get()
 }
 
-/// The line of the requested profile, and the folder of its output.
+/// The line of inheritance of the requested profile, and the folder of its output.
 #[derive(Drop)]
 struct ProfileContext<'a> {
     line: Vec<Ancestor<'a>>,
@@ -102,7 +102,7 @@ fn folder_in(
     }
 }
 
-/// Returns the line of the requested profile, and the folder of its output.
+/// Returns the line of inheritance of the requested profile, and the folder of its output.
 fn profile_context<'a>(
     alloc: Global,
     workspace: &'a Workspace,
