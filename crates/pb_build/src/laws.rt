@@ -28,7 +28,7 @@ pub fn worlds_have_one_result()
     ensures { HasOneResult }
 {}
 
-/// If a build has produced these units in a world, then these units are the result of this world.
+/// The units that a build has in a world, with their outcomes, are the result of this world.
 pub fn units_are_of_the_result()
     ensures { UnitsAreOfResult }
 {}
@@ -54,8 +54,8 @@ pub fn same_build_starts_none<T: Turn, U: Turn>()
     ensures { SameBuildStartsNone T.turns U.turns }
 {}
 
-/// The headline is true for every caller who knows how the work of a build ended and what was
-/// written afterwards. The caller of the program knows no more than that.
+/// The headline follows from `Builds`, and from `BuildsFirst`. These definitions say how the work
+/// of a build ended and what was written afterwards. The program promises no more than that.
 pub fn builds_keep_the_headline<T: Turn>()
     ensures turns { BuildsKeepHeadline T.turns }
     ensures first { FirstBuildsKeepHeadline }

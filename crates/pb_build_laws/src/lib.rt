@@ -19,9 +19,9 @@ pub fn asked_part_for_part()
     ensures { AskedPartForPart }
 {}
 
-/// A law about the case in which a variable is the first difference between a recorded command and
-/// a unit's command. Some variables have another text, are missing, or are new. The reported
-/// variable is the one with the least name, in byte order.
+/// A law: the first name at which the variables of a recorded command and of a unit's command
+/// differ is the least such name, in byte order. Either the texts of this name differ, or only one
+/// of the two commands has the name.
 pub fn first_name_is_least()
     ensures { FirstNameIsLeast }
 {}
