@@ -18,9 +18,10 @@ pub fn first_name_is_first()
     ensures { FirstNameIsFirst }
 {}
 
-/// `differs` uses tests to determine how far it looks. This law states that the tests decide what
-/// differs: the present value of an input, or a part or a variable of a command. If the record
-/// names a needed unit by its files, a test also decides whether these files differ.
+/// The tests by which `differs` decides how far it looks agree with the definitions. There are
+/// three tests: whether the present value of an input is the recorded value, whether a command is
+/// the recorded command, and whether a needed unit has the files that a record of format 1
+/// contains.
 pub fn tests_decide()
     ensures { TestsDecide }
 {}
