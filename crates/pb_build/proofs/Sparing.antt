@@ -61,7 +61,7 @@ module _ {S : Type 0} (child : Answers) (Turns : S → List ℕ → List ℕ →
   pub builds_within : (result : Result Summary BuildFault) (old new : BuildState) → Builds true child Turns options from last result old new → AgreeBut (is_at_or_below (records_of options old.world.variables)) old.world.files new.world.files
   builds_within result old new builds = works_within builds.inner old record new { heard = builds.heard } builds.works
 
-picked_within : (child : Answers) (options : Options) (pick : PickBy) (result : Result Summary BuildFault) (old new : BuildState) → Picked child options pick result old new
+picked_within : (child : Answers) (options : Options) (pick : PickBy) (result : Result Summary BuildFault) (old new : BuildState) → Picked true child options pick result old new
     → AgreeBut (is_at_or_below (records_of options old.world.variables)) old.world.files new.world.files
 picked_within child options First result old new builds = builds_within child _ options _ _ result old new builds
 picked_within child options Last result old new builds = builds_within child _ options _ _ result old new builds
@@ -74,7 +74,7 @@ works_units child Turns options from last result old new (inl early) = inl (earl
 works_units child Turns options from last result old new (inr units) =
     let is = units.prepares.is refl in inr record { project = units.prepared.project; toolchain = is.toolchain; is = is.project; says = is.says }
 
-picked_units : (child : Answers) (options : Options) (pick : PickBy) (result : Result Summary BuildFault) (old new : BuildState) → Picked child options pick result old new → (new.world ≡ old.world) ⊎ UnitsOf child options old.world
+picked_units : (child : Answers) (options : Options) (pick : PickBy) (result : Result Summary BuildFault) (old new : BuildState) → Picked true child options pick result old new → (new.world ≡ old.world) ⊎ UnitsOf child options old.world
 picked_units child options First result old new builds = works_units child _ options _ _ builds.inner old record new { heard = builds.heard } builds.works
 picked_units child options Last result old new builds = works_units child _ options _ _ builds.inner old record new { heard = builds.heard } builds.works
 
@@ -123,7 +123,7 @@ module _ (child : Answers) (folder : List ℕ) where
       subst IsSound (sym (ap (λ (m : BuildState). m.world) built.behind)) (subst (λ (f : List ℕ). Sound reading judge child f built.ended.world.files) same (built.headline refl TrustedRecords there).records)
   build_sound options pick before after (inr apart) built sound =
       subst IsSound (sym (ap (λ (m : BuildState). m.world) built.behind))
-      (outside reading judge child folder before.moment.world.files built.ended.world.files (λ q within. picked_within child options pick built.answer.result before.moment built.ended built.picked q (apart q within)) sound)
+      (outside reading judge child folder before.moment.world.files built.ended.world.files (λ q within. picked_within child options pick built.answer before.moment built.ended built.picked q (apart q within)) sound)
 
   step_sound : (step : SessionStep) (before after : Point) → Spares child folder step before.moment.world → Carries child step before after → IsSound before.moment.world → IsSound after.moment.world
   step_sound (Write path text) before after out e sound = subst (λ (p : Point). IsSound p.moment.world) (sym e) (written_sound path text before.moment.world out sound)
@@ -134,7 +134,7 @@ module _ (child : Answers) (folder : List ℕ) where
   step_sound (Unset name) before after out e sound = subst (λ (p : Point). IsSound p.moment.world) (sym e) sound
   step_sound (Die key death) before after out same sound = subst (λ (p : Point). IsSound p.moment.world) (sym same) sound
   step_sound (Fuse number) before after out same sound = subst (λ (p : Point). IsSound p.moment.world) (sym same) sound
-  step_sound (Build options pick) before after spares built sound = elim (picked_units child options pick built.answer.result before.moment built.ended built.picked) [
+  step_sound (Build options pick) before after spares built sound = elim (picked_units child options pick built.answer before.moment built.ended built.picked) [
     | inl same ↦ subst IsSound (sym (ap (λ (m : BuildState). m.world) built.behind)) (subst IsSound (sym same) sound)
     | inr units ↦ build_sound options pick before after (spares units) built sound
   ]

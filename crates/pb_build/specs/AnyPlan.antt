@@ -28,7 +28,8 @@ use Rattle.pb_build.specs.declared.environment.Environment.{Environment}
 
 -- What the units of this project start from: the project, its setup and the next run number. The
 -- setup comes from these options, this environment, and the version that the compiler reports in
--- this world. The run number is one above the greatest that the project's records have or name.
+-- this world. The run number is one above the greatest number that the project's records have or
+-- name.
 pub record IsReadyFor (child : Answers) (options : Options) (environment : Environment) (project : Project) (w : World) (prepared : Prepared) : Type 0 where
   pub toolchain : List ℕ
   pub says : toolchain_of child environment project (from_nothing project.workspace.target w) ≡ Some toolchain
@@ -66,8 +67,8 @@ pub record IsUnready (is_modelled : Bool) (child : Answers) (plan : BuildPlan) (
   pub most : (new.most ≡ old.most) ⊎ (new.most ≡ max old.most 1)
   pub heard : new.heard ≡ old.heard
 
--- If the planning failed, its fault is returned and nothing is done. Otherwise the units of the
--- plan are prepared, or cannot be prepared.
+-- If the planning failed, its fault is returned and nothing is done. Otherwise `IsReadied` is true
+-- after a success, and `IsUnready` after a fault.
 abbrev pub Readies : Bool → Answers → Options → Result BuildPlan BuildFault → Result Prepared BuildFault → BuildState → BuildState → Type 0
 Readies is_modelled child options (Err fault) result old new = (result ≡ Err fault) × (new ≡ old)
 Readies is_modelled child options (Ok plan) (Err fault) old new = IsUnready is_modelled child plan fault old new
@@ -80,7 +81,8 @@ pub data WorksOn {S : Type 0} (is_modelled : Bool) (child : Answers) (Turns : S 
   worked : (prepared : Prepared) (last : S) (result : Result Summary BuildFault) (old mid new : BuildState) (ready : Readies is_modelled child options plan (Ok prepared) old mid) (ends : TurnsEnd is_modelled child Turns prepared.setup prepared.project prepared.store.next from last result mid new)
       → WorksOn is_modelled child Turns options plan from last result old new
 
--- The work of a build of a plan has ended with `inner`, and then the finish line was due.
+-- The work of a build of a plan has ended with `inner`, and then the finish line was written as
+-- `Closes` says.
 pub record BuildsOn {S : Type 0} (is_modelled : Bool) (child : Answers) (Turns : S → List ℕ → List ℕ → Step → S → Type 0) (options : Options) (plan : Result BuildPlan BuildFault) (from last : S) (result : Result Summary BuildFault) (old new : BuildState) : Type 0 where
   pub inner : Result Summary BuildFault
   pub heard : SinkState

@@ -1,5 +1,5 @@
--- What a build does before its units begin. The build starts a child and makes calls. Some faults
--- may end the build there, and such a fault names its call.
+-- What a build does before its units begin: it starts a child and makes calls. If a fault ends the
+-- build there, these definitions say which calls were made, and which call failed.
 use Rattle.std.specs.Prelude.{◌≡◌, ◌⊎◌, ◌+◌, ◌++◌, ◌∷◌, codes, length, max, List, [], Result, MatchResult, OnErr, OnOk, ℕ}
 use Rattle.pb_place_types.specs.At.{At}
 use Rattle.pb_place_types.specs.CallsInTurn.{past_calls}
@@ -21,8 +21,7 @@ use Rattle.pb_build_result.specs.declared.fault.BuildFault.TheVariants.{Plan, To
 use Rattle.pb_place_types.specs.declared.place.StartFault.{StartFault}
 use Rattle.pb_place_types.specs.declared.place.StartFault.TheVariants as start
 
--- the faults with which the planning may end; the planning comes before the query of the compiler's
--- version
+-- the faults that may end the planning, which comes before the query of the compiler's version
 abbrev pub MayPlan : BuildFault → Starts → Starts → Type 0
 MayPlan (Plan why) old new = new ≡ old
 MayPlan Toolchain old new = ⊥
@@ -32,14 +31,14 @@ MayPlan (Device unit device.NumbersSpent) old new = ⊥
 MayPlan Sink old new = ⊥
 MayPlan OutOfMemory old new = new ≡ old
 
--- the faults with which the query of the compiler's version may end
+-- the faults that may end the query of the compiler's version
 abbrev pub MayAsk : BuildFault → Starts → Starts → Type 0
 MayAsk Toolchain old new = new ≡ up_starts old
 MayAsk (Child unit fault) old new = (unit ≡ codes "-vV") × (new ≡ up_starts old)
 MayAsk OutOfMemory old new = (new ≡ old) ⊎ (new ≡ up_starts old)
 MayAsk _ old new = ⊥
 
--- the faults with which the query, or the calls after it that open the records, may end
+-- the faults that may end the query, or the calls after the query, which open the records
 abbrev pub MayReady : BuildFault → Starts → Starts → Type 0
 MayReady (Plan why) old new = ⊥
 MayReady Toolchain old new = new ≡ up_starts old
@@ -49,8 +48,8 @@ MayReady (Device unit device.NumbersSpent) old new = ⊥
 MayReady Sink old new = ⊥
 MayReady OutOfMemory old new = (new ≡ old) ⊎ (new ≡ up_starts old)
 
--- If the fault is that of a call on files or variables, the fault has the path or the name to which
--- this call applied.
+-- A fault of a call on files or variables contains the path or the name that was passed to this
+-- call.
 abbrev pub Names : BuildFault → Counts → Type 0
 Names (Device name fault) new = named_in new ≡ name
 Names _ new = Unit {0}
@@ -74,7 +73,7 @@ CountsAs Begins May result old new = MatchResult result (λ x. (new.failures ≡
 abbrev pub OneStart : {T : Type 0} → T → Starts → Starts → Type 0
 OneStart x old new = new ≡ up_starts old
 
--- the faults with which a step that starts a child of this name may end
+-- the faults that may end a step in which a child of this name is started
 abbrev pub MayStart : List ℕ → BuildFault → Starts → Starts → Type 0
 MayStart name (Child unit fault) old new = (unit ≡ name) × (new ≡ up_starts old)
 MayStart name OutOfMemory old new = (new ≡ old) ⊎ (new ≡ up_starts old)
@@ -84,8 +83,8 @@ MayStart name _ old new = ⊥
 abbrev pub RunsOnce : {T : Type 0} → T → Counts → Counts → Type 0
 RunsOnce x old new = new ≡ past_call (one_start old)
 
--- Either the one call, which spawns a child, failed, or the wait for the child's end failed. If
--- memory ran out, the call may have been made.
+-- Why a child's start failed. Either its one call, the spawn, failed, or the wait for the child's
+-- end failed. If memory ran out, the call may have been made.
 abbrev pub SpawnEnds : BuildFault → Counts → Counts → Type 0
 SpawnEnds (Child unit fault) old new = new ≡ past_start_fault fault (one_start old)
 SpawnEnds OutOfMemory old new = (new ≡ old) ⊎ (new ≡ past_call (one_start old))
@@ -119,7 +118,7 @@ abbrev pub plan_called : Options → World → List Call
 plan_called options w = variables_asked ++ looked_at options.manifest (environment_of options w.variables).target w
 
 -- If the plan is refused, all of these calls were made. After any other fault, the calls stopped at
--- one of them.
+-- one of these calls.
 abbrev pub PlanStopsAt : BuildFault → List Call → Counts → Counts → Type 0
 PlanStopsAt (Plan why) calls old new = new ≡ past_calls calls old
 PlanStopsAt e calls old new = StopsAt e calls old new
@@ -134,7 +133,7 @@ abbrev pub AskEnds : BuildFault → Counts → Counts → Type 0
 AskEnds Toolchain old new = new ≡ past_call (one_start old)
 AskEnds e old new = SpawnEnds e old new
 
--- the counters after the query, which is one call, and after these calls, which open the records
+-- the counters after the query (one call), and then after these calls, which open the records
 abbrev pub ready_called : List Call → Counts → Counts
 ready_called calls old = past_calls calls (past_call (one_start old))
 

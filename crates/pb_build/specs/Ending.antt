@@ -38,8 +38,8 @@ use Rattle.pb_store.specs.Calls.{FailedLast}
 abbrev pub Stays : Bool → World → World → Type 0
 Stays is_modelled old new = IsTrue is_modelled → new ≡ old
 
--- The plan is that of a build of this world. The plan has the environment that the world's
--- variables and the options determine, and the build's project.
+-- The plan is that of a build of this world. The plan's environment follows from the world's
+-- variables and the options. The plan's project is the project of the build.
 abbrev pub IsPlanOf : Options → World → BuildPlan → Type 0
 IsPlanOf options w plan = (plan.environment ≡ environment_of options w.variables) × IsProject options (environment_of options w.variables).target w plan.project
 
@@ -103,7 +103,7 @@ pub record UnitsEnd {S : Type 0} (is_modelled : Bool) (child : Answers) (Turns :
   pub prepares : Prepares is_modelled child options prepared old.world mid.world old.counts mid.counts old.most mid.most
   pub ends : TurnsEnd is_modelled child Turns prepared.setup prepared.project prepared.store.next from last result mid new
 
--- no unit began, for one of these reasons; nothing was changed or written
+-- no unit began, for a reason that `FailsBefore` states; nothing was changed or written
 pub record NoneBegan (is_modelled : Bool) (child : Answers) (options : Options) (result : Result Summary BuildFault) (old new : BuildState) : Type 0 where
   pub fault : BuildFault
   pub answer : result ≡ Err fault
@@ -125,7 +125,7 @@ Works is_modelled child Turns options from last result old new = StopsEarly is_m
 
 -- The finish line.
 
--- Either these bytes are written and `inner` is returned, or the sink takes only the first of these
+-- Either these bytes are written, and `inner` is returned. Or the sink takes a prefix of these
 -- bytes and fails, and the fault `Sink` is returned.
 abbrev pub EndsWith : List ℕ → Result Summary BuildFault → Result Summary BuildFault → SinkState → SinkState → Type 0
 EndsWith bytes inner result old new =
@@ -140,7 +140,7 @@ Closes (Err fault) result old new = EndsWith (finish_line false) (Err fault) res
 
 -- A build as a whole.
 
--- the work of a build has ended with `inner`, and then the finish line was due
+-- the work of a build has ended with `inner`, and then the finish line was written as `Closes` says
 pub record Builds {S : Type 0} (is_modelled : Bool) (child : Answers) (Turns : S → List ℕ → List ℕ → Step → S → Type 0) (options : Options) (from last : S) (result : Result Summary BuildFault) (old new : BuildState) : Type 0 where
   pub inner : Result Summary BuildFault
   pub heard : SinkState

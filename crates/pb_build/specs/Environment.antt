@@ -8,7 +8,7 @@ use Rattle.pb_place_types.specs.World.{Map}
 use Rattle.pb_workspace_types.specs.declared.options.Options.{Options}
 use Rattle.pb_build.specs.declared.environment.Environment.{Environment}
 
--- the text of a variable; an empty text counts as none
+-- the text of a variable; an empty text counts as no text
 abbrev pub set_text : Option (List ℕ) → Option (List ℕ)
 set_text None = None
 set_text (Some text) = if length text == 0 then None else Some text
@@ -17,12 +17,12 @@ set_text (Some text) = if length text == 0 then None else Some text
 abbrev pub rustc_of : Option (List ℕ) → List ℕ
 rustc_of found = unwrap_or found (codes "rustc")
 
--- the user's own arguments for the compiler: the words of `RUSTFLAGS`, which spaces separate
+-- the user's own arguments for the compiler: the words of `RUSTFLAGS`, separated by spaces
 abbrev pub flags_of : Option (List ℕ) → List (List ℕ)
 flags_of None = []
 flags_of (Some text) = line.words_of text
 
--- the path that was found, or the other path if the text has byte 0
+-- the path that a text spells, or the other path if the text has byte 0
 abbrev pub path_or : List ℕ → Result (List ℕ) PathFault → List ℕ
 path_or other (Ok path) = path
 path_or other (Err fault) = other

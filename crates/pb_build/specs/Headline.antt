@@ -49,8 +49,8 @@ use Rattle.pb_build.specs.Result.{toolchain_of, setup_of}
 abbrev pub records_of : Options → Map → List ℕ
 records_of options variables = below (environment_of options variables).target (folder_of options.profile)
 
--- the units that a build has in a world: those of the project that it finds there, with the version
--- that the compiler reports
+-- the units that a build has in a world: those of the project that the build finds in this world,
+-- with the version that the compiler reports
 pub record UnitsOf (child : Answers) (options : Options) (w : World) : Type 0 where
   pub project : Project
   pub toolchain : List ℕ
@@ -60,7 +60,7 @@ pub record UnitsOf (child : Answers) (options : Options) (w : World) : Type 0 wh
 abbrev pub context_of : (premise : Premise) (child : Answers) (options : Options) (w : World) → UnitsOf child options w → BuildContext
 context_of premise child options w units = build_context premise child (setup_of options (environment_of options w.variables) units.toolchain) units.project (from_nothing (environment_of options w.variables).target w)
 
--- the child is honest on the units of a build, whichever units it finds in the world
+-- the child is honest on the units of a build, whichever units the build finds in the world
 abbrev pub IsHonestBuild : Answers → Options → World → Type 0
 IsHonestBuild child options w = (units : UnitsOf child options w) → IsHonestOnUnits (context_of TrustedRecords child options w units)
 
@@ -72,20 +72,22 @@ RestsOn NoRecords child options w = (key : List ℕ) → records (records_of opt
 
 -- Schedules: which events the units of a project may have.
 
--- the events are those of steps that the turn decides, from this state of the turn on
+-- the turn, from this state on, can decide steps that have these events
 abbrev pub ByTurns : {S : Type 0} → (S → List ℕ → List ℕ → Step → S → Type 0) → S → Project → List (Event BadUnit) → Type 0
 ByTurns {S} Turns from project es = (last : S) × Flies Turns (needs_of project) Anyhow Anything from es last
 
--- the events are those of a turn with the options' number of jobs, in which this pick chooses the
--- unit that begins
+-- the events are those of a turn with the options' number of jobs; this pick chooses which unit
+-- begins
 abbrev pub ByPick : {S : Type 0} → (S → List ℕ → ℕ → S → Type 0) → Options → S → Project → List (Event BadUnit) → Type 0
 ByPick {S} Picks options pick = let from : Jobs S = record { pick = pick; jobs = options.jobs } in ByTurns (TurnsOfJobs Picks) from
 
--- the events are those of `ByPick` if the first unit that may begin is picked, in plan order
+-- the events are those of `ByPick` with the pick that chooses the first, in plan order, of the
+-- units that may begin
 abbrev pub ByFirst : Options → Project → List (Event BadUnit) → Type 0
 ByFirst options = let pick : First = record {} in ByPick PicksFirstOf options pick
 
--- the events are those of `ByPick` if the last unit that may begin is picked, in plan order
+-- the events are those of `ByPick` with the pick that chooses the last, in plan order, of the units
+-- that may begin
 abbrev pub ByLast : Options → Project → List (Event BadUnit) → Type 0
 ByLast options = let pick : Last = record {} in ByPick PicksLastOf options pick
 
@@ -99,12 +101,12 @@ outcomes_for child options w units = outcomes child (setup_of options (environme
 abbrev pub rows_for : (child : Answers) (options : Options) (w : World) → UnitsOf child options w → List Row
 rows_for child options w units = rows_of child (setup_of options (environment_of options w.variables) units.toolchain) units.project (from_nothing (environment_of options w.variables).target w)
 
--- each unit that has answered is good or bad as in these outcomes, and has the same fault
+-- each answered unit is as in these outcomes: good, or bad with the same fault
 abbrev pub AnswersAs : List Outcome → Project → List (Event BadUnit) → Type 0
 AnswersAs given project es =
     (index : ℕ) (answer : Answer BadUnit) → slice_get (states_in project es) index ≡ Some (Answered answer) → (outcome : Outcome) × (slice_get given index ≡ Some outcome) × (answer.fault ≡ fault_in outcome)
 
--- The units began and answered in events that the schedule allows. Each that answered is good or
+-- The units began and answered in events that the schedule allows. Each answered unit is good or
 -- bad as in a clean build. One child was started for the query, and one for each unit that began
 -- with a child. The first difference of each unit is noted.
 pub record UnitsFly (child : Answers) (Schedule : Project → List (Event BadUnit) → Type 0) (options : Options) (old new : BuildState) : Type 0 where
@@ -115,12 +117,12 @@ pub record UnitsFly (child : Answers) (Schedule : Project → List (Event BadUni
   pub starts : new.counts.starts.count ≡ upped (length (started_by es)) (up old.counts.starts.count)
   pub reasons : Reasons
 
--- Either all units have answered, or all units up to and including the first bad one have. Later
--- units may have been in flight, too.
+-- All units up to and including the first bad unit have answered; without a bad unit, all units
+-- have. Later units may have begun, too.
 pub record GivesAll (premise : Premise) (child : Answers) (Schedule : Project → List (Event BadUnit) → Type 0) (options : Options) (summary : Summary) (old new : BuildState) : Type 0 where
   pub flown : UnitsFly child Schedule options old new
   pub finished : is_finished (states_in flown.units.project flown.es) ≡ true
-  -- each unit that took a run number took the next number; the first number is above all that the
+  -- the new run numbers of units follow one another; the first is above all numbers that the
   -- records have or name
   pub numbers : (after : Option ℕ) × NumbersGiven (LacksNumber flown.units.project old.world) flown.es (next_in (records_of options old.world.variables) old.world) after
   pub unnoted : (index : ℕ) → slice_get (states_in flown.units.project flown.es) index ≡ Some Untouched → slice_get flown.reasons index ≡ Some None
@@ -133,9 +135,8 @@ pub record GivesAll (premise : Premise) (child : Answers) (Schedule : Project �
   -- a unit that began has a child if and only if something differed from its record
   pub began : AllBeganFor (context_of premise child options old.world flown.units) flown.es flown.reasons old.world new.world
 
--- A call for the unit with this key failed while units were missing, or no run number was left for
--- the unit. The unit has begun and not answered. The lines are those that are due: the lines of the
--- first units in plan order, as far as all of these have answered.
+-- A call for the unit with this key failed, or no run number was left for the unit, while the build
+-- was not finished. The unit has begun and not answered. Exactly the due lines were written.
 pub record UnitCallFails (project : Project) (es : List (Event BadUnit)) (rows : List Row) (key : List ℕ) (old new : Option (List ℕ)) : Type 0 where
   pub place : ℕ
   pub named : key_at project place ≡ key ∷ []
@@ -143,9 +144,8 @@ pub record UnitCallFails (project : Project) (es : List (Event BadUnit)) (rows :
   pub missing : is_finished (states_in project es) ≡ false
   pub lines : Appends old new (said_from project es 0 (take (count_due (states_in project es)) rows))
 
--- The lines that were written before this fault are those of the units that are due. If the sink
--- failed, only the first of their bytes were written. If memory ran out, only the lines of the
--- first n of these units were written.
+-- Before this fault, exactly the due lines were written. If the sink failed, only a prefix of their
+-- bytes was written. If memory ran out, only the due lines of the first n units were written.
 abbrev pub LinesBefore : BuildFault → Project → List (Event BadUnit) → List Row → Option (List ℕ) → Option (List ℕ) → Type 0
 LinesBefore (Child key fault) project es rows old new = UnitCallFails project es rows key old new
 LinesBefore (Device key fault) project es rows old new = UnitCallFails project es rows key old new
@@ -153,9 +153,9 @@ LinesBefore Sink project es rows old new = TakesPart (said_from project es 0 (ta
 LinesBefore OutOfMemory project es rows old new = (n : ℕ) × Appends old new (said_from project es 0 (take n (take (count_due (states_in project es)) rows)))
 LinesBefore fault project es rows old new = ⊥
 
--- A fault came at a unit or at the sink, or memory ran out, or no run number was left. In the last
--- case, all numbers from the next one on were given. `StandsCut` says what differed for a unit that
--- could not begin.
+-- A fault came at a unit or at the sink, or memory ran out, or no run number was left. If no run
+-- number was left, all numbers from the next one on had been taken. `StandsCut` says what differed
+-- for a unit that could not begin.
 pub record GivesFirst (premise : Premise) (child : Answers) (Schedule : Project → List (Event BadUnit) → Type 0) (options : Options) (fault : BuildFault) (old new : BuildState) : Type 0 where
   pub flown : UnitsFly child Schedule options old new
   pub spent : Spends (LacksNumber flown.units.project old.world) fault (next_in (records_of options old.world.variables) old.world) flown.es
@@ -164,8 +164,8 @@ pub record GivesFirst (premise : Premise) (child : Answers) (Schedule : Project 
   pub came : CameAfter flown.units.project fault before flown.es
   pub began : AllBeganFor (context_of premise child options old.world flown.units) before flown.reasons old.world new.world
 
--- if a call failed after the query, it was to list the folder of the records, or to read a record
--- directly in it
+-- if a call failed after the query, that call was to list the folder of the records, or to read a
+-- record directly in this folder
 abbrev pub NamesOpened : List ℕ → World → BuildFault → Starts → Starts → Type 0
 NamesOpened folder w (Device name (device.Place fault)) old new = (new ≡ old) ⊎ ((call : Call) × Contains (opened_looked folder w) call × (own_fault call ≡ fault) × (name_given call ≡ name))
 NamesOpened folder w e old new = Unit {0}

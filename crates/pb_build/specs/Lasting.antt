@@ -20,8 +20,8 @@ ShareNoPath folder other = (q : List ℕ) → is_at_or_below folder q ≡ true �
 
 -- The step spares the records of the folder.
 -- - An edit must change nothing in the folder, or remove the whole folder.
--- - A build with units must have an honest child if it keeps its records in this folder. Otherwise
---   it must keep its records in a folder that shares no path with this folder.
+-- - A build with units must either keep its records in this folder and have an honest child, or
+--   keep its records in a folder that shares no path with this folder.
 -- - A build without units spares the records.
 abbrev pub Spares : Answers → List ℕ → SessionStep → World → Type 0
 Spares child folder (Write path text) w = is_at_or_below folder path ≡ false
@@ -46,8 +46,8 @@ RecordsStayTrue = (child : Answers) (folder : List ℕ) (steps : List SessionSte
 
 -- Take steps that have spared a folder of true records, and then a build with an honest child that
 -- keeps its records in this folder. The build produces what a clean build of the present workspace
--- produces, or a fault with the first lines of that clean build.
+-- produces. If a fault ends the build, its lines are a prefix of the clean build's lines.
 abbrev pub AnyBuildGives : Type 0
 AnyBuildGives = (child : Answers) (options : Options) (pick : PickBy) (steps : List SessionStep) (before mid after : Point)
     → SparingCourse child (records_of options mid.moment.world.variables) steps before mid → Sound reading judge child (records_of options mid.moment.world.variables) before.moment.world.files
-    → IsHonestBuild child options mid.moment.world → (built : CarriesBuild child options pick mid after) → GivesCleanResult TrustedRecords child (ByPicked pick options) options built.answer.result mid.moment built.ended
+    → IsHonestBuild child options mid.moment.world → (built : CarriesBuild child options pick mid after) → GivesCleanResult TrustedRecords child (ByPicked pick options) options built.answer mid.moment built.ended

@@ -25,7 +25,7 @@ pub record IsSelected (options : Options) (target : List ℕ) (w : World) (ws : 
   pub read : workspace_of options.manifest target w ≡ Ok ws
   pub chosen : selected ws options ≡ Ok selection
 
--- no feature is refused, and these features of the selection are on
+-- no feature is refused, and the selection turns on these features
 pub record IsFeatured (ws : Workspace) (selection : Selection) (features : Features) : Type 0 where
   pub right : (fault : FeatureFault) → feature.Refuses ws selection fault → ⊥
   pub resolved : IsResolved ws selection features

@@ -22,7 +22,7 @@ use Rattle.pb_unit.specs.declared.fault.PlanFault.{PlanFault}
 use Rattle.pb_workspace.specs.Selected.{selected}
 use Rattle.pb_build.specs.Planning.{IsFeatured}
 
--- the fault is no refusal
+-- the fault is not a refusal
 abbrev pub IsUnrefused : BuildFault → Type 0
 IsUnrefused (Plan why) = ⊥
 IsUnrefused _ = Unit {0}

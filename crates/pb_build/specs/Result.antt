@@ -42,13 +42,14 @@ setup_of options environment toolchain = record { tool = options.tool; rustc = e
 -- The result.
 
 -- The result of a build. Either the build is refused, or the compiler does not report its version,
--- or the units of a project have ended in this way.
+-- or the units of a project have these outcomes.
 pub data BuildResult : Type 0 where
   Refused : (why : Refusal) → BuildResult
   NoToolchain : BuildResult
   Finished : (project : Project) (rows : List Row) → BuildResult
 
--- A build with this environment has this result in this world. The only files that count are the sources.
+-- A build with this environment has this result in this world. Of the files, only the sources
+-- count.
 pub data Comes (child : Answers) (options : Options) (environment : Environment) (w : World) : BuildResult → Type 0 where
   refused : (why : Refusal) (is : IsRefused options environment.target w why) → Comes child options environment w (Refused why)
   no_toolchain : (project : Project) (is : IsProject options environment.target w project) (silent : toolchain_of child environment project (from_nothing environment.target w) ≡ None) → Comes child options environment w NoToolchain

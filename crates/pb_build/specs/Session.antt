@@ -1,6 +1,6 @@
--- A session is a list of edits and builds. The end of a session contains how each build ended, and
--- with which cause.
-use Rattle.std.specs.Prelude.{◌≡◌, ◌↔◌, ⊤, ℕ, true, List, [], ◌∷◌, ◌++◌, Result}
+-- A session is a list of edits and builds. The end of a session lists how each build ended, with
+-- the cause.
+use Rattle.std.specs.Prelude.{◌≡◌, ◌↔◌, ⊤, ℕ, Bool, true, List, [], ◌∷◌, ◌++◌, Result}
 use Rattle.pb_place_types.specs.Sinks.{SinkState}
 use Rattle.pb_place_types.specs.World.{World, Answers, FilesHavePaths, written, removed}
 use Rattle.pb_place.specs.Memory.{Held, at_in, set, unset}
@@ -16,7 +16,6 @@ use Rattle.pb_build_session.specs.declared.pick.PickBy.{PickBy}
 use Rattle.pb_build_session.specs.declared.pick.PickBy.TheVariants.{First, Last}
 use Rattle.pb_build_session.specs.declared.step.SessionStep.{SessionStep}
 use Rattle.pb_build_session.specs.declared.step.SessionStep.TheVariants.{Write, Remove, Set, Unset, Build, Die, Fuse}
-use Rattle.pb_build.specs.declared.sessions.BuildOutcome.{BuildOutcome}
 use Rattle.pb_build.specs.Ending.{BuildsFirst, BuildsLast}
 use Rattle.pb_build_turns.specs.Executor.{BuildState, moment}
 use Rattle.pb_build.specs.Environment.{environment_of}
@@ -25,55 +24,56 @@ use Rattle.pb_build.specs.Kept.{SourcesStay}
 use Rattle.pb_build.specs.Result.{BuildResult, IsResult}
 use Rattle.pb_workspace_types.specs.declared.options.Options.{Options}
 
--- A moment of a session. The moment has the answers of the builds so far, and the deaths that still
--- wait. `fuse` is the number of the call that will fail, or 0.
+-- A moment of a session. The moment has the answers of the builds so far, and the deaths that are
+-- still to come. `fuse` is the number of the call that will fail, or 0.
 pub record Point : Type 0 where
   pub moment : BuildState
-  pub answers : List BuildOutcome
+  pub answers : List (Result Summary BuildFault)
   pub fuse : ℕ
   pub deaths : List Death
 
 -- the moment of a session whose place in memory is in this state
-abbrev pub point : Held → SinkState → List BuildOutcome → Point
+abbrev pub point : Held → SinkState → List (Result Summary BuildFault) → Point
 point memory heard answers = record { moment = moment (at_in memory) heard; answers = answers; fuse = memory.fuse; deaths = memory.deaths }
 
 -- an edit changes the world to `w`, and nothing else happens
 abbrev pub Edits : World → Point → Point → Type 0
 Edits w before after = after ≡ record before { moment = record before.moment { world = w } }
 
--- a build in which the unit that begins is picked as the session says
-abbrev pub Picked : Answers → Options → PickBy → Result Summary BuildFault → BuildState → BuildState → Type 0
-Picked child options First result old new = BuildsFirst true child options result old new
-Picked child options Last result old new = BuildsLast true child options result old new
+-- a build with the pick that the session names
+abbrev pub Picked : Bool → Answers → Options → PickBy → Result Summary BuildFault → BuildState → BuildState → Type 0
+Picked modelled child options First result old new = BuildsFirst modelled child options result old new
+Picked modelled child options Last result old new = BuildsLast modelled child options result old new
 
--- the schedule of a build in which the unit that begins is picked as the session says
+-- the schedule of a build with the pick that the session names
 abbrev pub ByPicked : PickBy → Options → Project → List (Event BadUnit) → Type 0
 ByPicked First options = ByFirst options
 ByPicked Last options = ByLast options
 
--- the same moment, in which one more setting of failures is counted
+-- the same moment, but its counter `settings` is one higher
 abbrev pub set_anew : BuildState → BuildState
 set_anew m = record m { counts = one_setting m.counts }
 
 -- A build of a session.
 pub record CarriesBuild (child : Answers) (options : Options) (pick : PickBy) (before after : Point) : Type 0 where
-  pub answer : BuildOutcome
+  pub answer : Result Summary BuildFault
   pub ended : BuildState
-  pub picked : Picked child options pick answer.result before.moment ended
+  pub picked : Picked true child options pick answer before.moment ended
   -- the build has changed no source, and the headline is true for it
   pub kept : SourcesStay (environment_of options before.moment.world.variables).target before.moment.world ended.world
-  pub headline : Headline true child (ByPicked pick options) options answer.result before.moment ended
+  pub headline : Headline true child (ByPicked pick options) options answer before.moment ended
   -- after the build, whatever it wrote, each file has a normalised absolute path
   pub paths : FilesHavePaths ended.world
   -- if nothing was set to fail, and no call had failed before, no call of the build failed
   pub unfailing : before.fuse ≡ 0 → before.deaths ≡ [] → before.moment.counts.failures ≡ 0 → ended.counts.failures ≡ 0
-  -- The answer of the build is appended. No call is set to fail any more, and this counts as one setting.
+  -- The answer of the build is appended. No call is set to fail any more, and the counter
+  -- `settings` is one higher.
   pub behind : after.moment ≡ set_anew ended
   pub answers : after.answers ≡ before.answers ++ answer ∷ []
   pub fuse : after.fuse ≡ 0
 
--- A step of a session is an edit, a build, or a setting of which calls are to fail. Such a setting
--- has no effect before the next build.
+-- A step of a session is an edit, a build, or a setting that makes calls fail. Such a setting has
+-- no effect before the next build.
 abbrev pub Carries : Answers → SessionStep → Point → Point → Type 0
 Carries child (Write path text) before after = Edits (written path text before.moment.world) before after
 Carries child (Remove path) before after = Edits (removed path before.moment.world) before after
@@ -99,7 +99,8 @@ abbrev pub Breaks : Answers → List SessionStep → Point → Point → Type 0
 Breaks child steps before left =
     (done : List SessionStep) × (step : SessionStep) × (rest : List SessionStep) × (steps ≡ done ++ step ∷ rest) × (mid : Point) × Course child done before mid × Loses child step mid left
 
--- the world after a step that is an edit; any other step leaves the world unchanged here
+-- the world after a step that is an edit; in this definition any other step leaves the world
+-- unchanged
 abbrev pub edit : SessionStep → World → World
 edit (Write path text) w = written path text w
 edit (Remove path) w = removed path w

@@ -25,4 +25,4 @@ pub use pb_build_result::{BuildFault, Refusal, Summary, result_line};
 pub use pb_build_session::{BadSession, SessionStep, read_session};
 pub use pb_command_types::UnitFault;
 pub use pb_workspace_types::Options;
-pub use sessions::{BuildOutcome, session};
+pub use sessions::session;

@@ -1,8 +1,9 @@
 //! Sessions in memory: edits and builds, one after another.
 
-ghost use Rattle.std.specs.Prelude.{◌≡◌, List, [], true, false, IfOk, OnOk, OnErr};
+ghost use Rattle.std.specs.Prelude.{◌≡◌, List, [], true, false, Result, IfOk, OnOk, OnErr, IsTrue};
 ghost use Rattle.pb_build_session.specs.declared.step.SessionStep.TheVariants.{Build};
-ghost use Rattle.pb_build.specs.declared.sessions.BuildOutcome as declared;
+ghost use Rattle.pb_build_result.specs.declared.fault.BuildFault.{BuildFault};
+ghost use Rattle.pb_build_result.specs.declared.summary.Summary.{Summary};
 ghost use Rattle.pb_build.specs.Environment.{environment_of};
 ghost use Rattle.pb_build.specs.Headline.{Headline};
 ghost use Rattle.pb_build.specs.Kept.{SourcesStay};
@@ -21,11 +22,28 @@ use pb_run_flight::Last;
 use pb_workspace_types::Options;
 use std::alloc::{AllocError, Global};
 
-/// The answer of one build of a session.
-#[derive(Drop)]
-pub struct BuildOutcome {
-    /// The build's summary, or the fault that ended it.
-    pub result: Result<Summary, BuildFault>,
+/// Builds, and begins the units that the session picks.
+fn build_picked<P: Place, O: Out>(
+    alloc: Global,
+    place: &mut P,
+    out: &mut O,
+    options: &Options,
+    pick: PickBy,
+) -> Result<Summary, BuildFault>
+    requires none { (P.at place.old).counts.starts.flying ≡ [] }
+    ensures picked { Picked P.is_modelled P.child options.now pick result
+        (moment (P.at place.old) (O.heard out.old)) (moment (P.at place.new) (O.heard out.new)) }
+    ensures headline { Headline P.is_modelled P.child (ByPicked pick options.now) options.now result
+        (moment (P.at place.old) (O.heard out.old)) (moment (P.at place.new) (O.heard out.new)) }
+    ensures kept { IsTrue P.is_modelled
+        → SourcesStay (environment_of options.now (P.at place.old).world.variables).target
+        (P.at place.old).world (P.at place.new).world }
+    ensures landed { (P.at place.new).counts.starts.flying ≡ [] }
+{
+    match pick {
+        PickBy::First => build(alloc, place, out, options),
+        PickBy::Last => build_with(alloc, place, out, options, &mut Last {}),
+    }
 }
 
 /// Builds over a place on which no call fails, and begins the units that the session picks. After
@@ -40,7 +58,7 @@ fn built_unfailing<C: Child + Copy, O: Out>(
     requires none { (counts_in memory.old).starts.flying ≡ [] }
     requires quiet { may_fail memory.old ≡ false }
     requires unfailed { (counts_in memory.old).failures ≡ 0 }
-    ensures picked { Picked C.answers options.now pick result
+    ensures picked { Picked true C.answers options.now pick result
         (moment (at_in memory.old) (O.heard out.old))
         (moment (at_in memory.new) (O.heard out.new)) }
     ensures headline { Headline true C.answers (ByPicked pick options.now) options.now result
@@ -58,57 +76,6 @@ fn built_unfailing<C: Child + Copy, O: Out>(
     result
 }
 
-/// Builds over a place on which no call fails, and begins the units that the pick chooses.
-fn build_picked<C: Child, O: Out>(
-    alloc: Global,
-    unfailing: &mut Unfailing<C>,
-    out: &mut O,
-    options: &Options,
-    pick: PickBy,
-) -> Result<Summary, BuildFault>
-    requires none { (counts_in unfailing.old).starts.flying ≡ [] }
-    ensures picked { Picked C.answers options.now pick result
-        (moment (at_in unfailing.old) (O.heard out.old))
-        (moment (at_in unfailing.new) (O.heard out.new)) }
-    ensures headline { Headline true C.answers (ByPicked pick options.now) options.now result
-        (moment (at_in unfailing.old) (O.heard out.old))
-        (moment (at_in unfailing.new) (O.heard out.new)) }
-    ensures kept { SourcesStay (environment_of options.now unfailing.old.world.variables).target
-        unfailing.old.world unfailing.new.world }
-    ensures landed { (counts_in unfailing.new).starts.flying ≡ [] }
-{
-    match pick {
-        PickBy::First => build(alloc, unfailing, out, options),
-        PickBy::Last => build_with(alloc, unfailing, out, options, &mut Last {}),
-    }
-}
-
-/// Builds over a place on which calls may fail, and begins the units that the session picks.
-fn built_anyhow<C: Child, O: Out>(
-    alloc: Global,
-    memory: &mut Memory<C>,
-    out: &mut O,
-    options: &Options,
-    pick: PickBy,
-) -> Result<Summary, BuildFault>
-    requires none { (counts_in memory.old).starts.flying ≡ [] }
-    ensures picked { Picked C.answers options.now pick result
-        (moment (at_in memory.old) (O.heard out.old))
-        (moment (at_in memory.new) (O.heard out.new)) }
-    ensures headline { Headline true C.answers (ByPicked pick options.now) options.now result
-        (moment (at_in memory.old) (O.heard out.old))
-        (moment (at_in memory.new) (O.heard out.new)) }
-    ensures kept { SourcesStay
-        (environment_of options.now memory.old.world.variables).target memory.old.world
-        memory.new.world }
-    ensures landed { (counts_in memory.new).starts.flying ≡ [] }
-{
-    match pick {
-        PickBy::First => build(alloc, memory, out, options),
-        PickBy::Last => build_with(alloc, memory, out, options, &mut Last {}),
-    }
-}
-
 /// Builds, and begins the units that the session picks. If nothing is set to fail, and nothing has
 /// failed, no call fails.
 fn build_by<C: Child + Copy, O: Out>(
@@ -119,7 +86,7 @@ fn build_by<C: Child + Copy, O: Out>(
     pick: PickBy,
 ) -> Result<Summary, BuildFault>
     requires none { (counts_in memory.old).starts.flying ≡ [] }
-    ensures picked { Picked C.answers options.now pick result
+    ensures picked { Picked true C.answers options.now pick result
         (moment (at_in memory.old) (O.heard out.old))
         (moment (at_in memory.new) (O.heard out.new)) }
     ensures headline { Headline true C.answers (ByPicked pick options.now) options.now result
@@ -136,7 +103,7 @@ fn build_by<C: Child + Copy, O: Out>(
     if memory.is_unfailing() {
         built_unfailing(alloc, memory, out, options, pick)
     } else {
-        built_anyhow(alloc, memory, out, options, pick)
+        build_picked(alloc, memory, out, options, pick)
     }
 }
 
@@ -148,7 +115,7 @@ fn add_build<C: Child + Copy, O: Out>(
     out: &mut O,
     options: &Options,
     pick: PickBy,
-    answers: &mut Items<BuildOutcome>,
+    answers: &mut Items<Result<Summary, BuildFault>>,
 ) -> Result<(), AllocError>
     requires none { (counts_in memory.old).starts.flying ≡ [] }
     ensures taken { OnOk result
@@ -164,7 +131,7 @@ fn add_build<C: Child + Copy, O: Out>(
     let result = build_by(alloc, memory, out, options, pick);
     memory.files_have_paths();
     memory.fuse(0);
-    answers.push(BuildOutcome { result })?;
+    answers.push(result)?;
     Ok(())
 }
 
@@ -175,7 +142,7 @@ fn take_step<C: Child + Copy, O: Out>(
     memory: &mut Memory<C>,
     out: &mut O,
     step: &SessionStep,
-    answers: &mut Items<BuildOutcome>,
+    answers: &mut Items<Result<Summary, BuildFault>>,
 ) -> Result<(), AllocError>
     requires none { (counts_in memory.old).starts.flying ≡ [] }
     ensures taken { OnOk result
@@ -224,14 +191,14 @@ pub fn session<C: Child + Copy, O: Out>(
     memory: &mut Memory<C>,
     out: &mut O,
     steps: &[SessionStep],
-) -> Result<Items<BuildOutcome>, AllocError>
+) -> Result<Items<Result<Summary, BuildFault>>, AllocError>
     requires none { (counts_in memory.old).starts.flying ≡ [] }
     ensures taken { IfOk result
         (λ answers.
         Course C.answers steps.now (point memory.old (O.heard out.old) [])
         (point memory.new (O.heard out.new) answers)) }
     ensures broken { OnErr result
-        ((answers : List declared.BuildOutcome)
+        ((answers : List (Result Summary BuildFault))
         × Breaks C.answers steps.now (point memory.old (O.heard out.old) [])
         (point memory.new (O.heard out.new) answers)) }
 {

@@ -14,17 +14,17 @@ use Rattle.pb_store.specs.Asking.{IsFirstName, IsLeastName, SamePart}
 use Rattle.pb_store.specs.declared.difference.CommandPart.{CommandPart}
 use Rattle.pb_unit.specs.declared.plan.Planned.{Planned}
 
--- each part of the command is equal to the recorded part; variables are no part
+-- each part of the command is equal to the recorded part; the variables are not a part
 abbrev pub HasEachPart : RecordedCommand → Command → Type 0
 HasEachPart a c = (part : CommandPart) → SamePart a c part
 
 -- A record and a command agree, except perhaps in their variables, if and only if each part is
--- equal. The command is the recorded one if and only if the variables are equal, too.
+-- equal. The command is the recorded command if and only if the variables are equal, too.
 abbrev pub AskedPartForPart : Type 0
 AskedPartForPart = (a : RecordedCommand) (c : Command) → (AsksAs a c ↔ HasEachPart a c) × ((command_of a ≡ c) ↔ (HasEachPart a c × (a.pairs ≡ c.pairs)))
 
--- The first name at which the variables of a record and of a unit's command differ is the least
--- such name, in byte order. Either the texts of this name differ, or only one side has the name.
+-- `IsFirstName` finds the least name, in byte order, at which the variables of a record differ from
+-- those of a unit's command. Either the texts of this name differ, or only one side has the name.
 abbrev pub FirstNameIsLeast : Type 0
 FirstNameIsLeast = (text : List ℕ) (r : Record) (setup : Setup) (project : Project) (u : Planned) (done : List (Option (List Directive))) (name : List ℕ) → reading text ≡ Some r
     → IsFirstName r.asked.pairs (present.command_of setup project u done).pairs name ↔ IsLeastName r.asked.pairs (present.command_of setup project u done).pairs name

@@ -20,7 +20,7 @@ use Rattle.pb_place_types.specs.World.{Answers, Map, World}
 use Rattle.pb_place_types.specs.declared.child.Reply.{Reply}
 use Rattle.pb_command_types.specs.declared.project.Project.{Project}
 
--- the text of a variable; an empty text counts as none
+-- the text of a variable; an empty text counts as no text
 abbrev pub set_in : Map → List ℕ → Option (List ℕ)
 set_in variables name = option_and_then (λ text. if is_empty text then None else Some text) (finite.get variables name)
 
@@ -40,7 +40,7 @@ EnvironmentsAreThese = (options : Options) (variables : Map) → environment_of 
 abbrev pub IsToolchain : Reply → List ℕ → Type 0
 IsToolchain r toolchain = EndedWell (ended_by r) × (is_utf8 r.stdout ≡ true) × (list_any is_host (lines_of r.stdout) ≡ true) × (toolchain ≡ r.stdout)
 
--- The compiler's version is the one in its reply to the query.
+-- The compiler's version is the version in its reply to the query.
 abbrev pub ToolchainsAreSaid : Type 0
 ToolchainsAreSaid = (child : Answers) (environment : Environment) (project : Project) (sources : World) (toolchain : List ℕ)
     → (toolchain_of child environment project sources ≡ Some toolchain) ↔ IsToolchain (child (query_of environment.rustc project.workspace.root project.workspace.target) sources) toolchain

@@ -18,12 +18,13 @@ numbers_in (Copies copies) = []
 numbers_in (Numbers number needs) = number ∷ map (λ (need : List ℕ × ℕ). need.1) needs
 
 -- The number of a record is the first of these numbers, if there is one. A unit lacks a number if a
--- record counts for it and has no number.
+-- record counts for the unit and this record has no number.
 abbrev pub RecordsAreNumbered : Type 0
 RecordsAreNumbered = ((r : Record) → number_of r ≡ slice_get (numbers_in r.needed) 0)
     × ((o : Option Record) → (number_if o ≡ option_and_then number_of o) × (lacks_number o ≡ option_map_or (λ r. is_none (number_of r)) o false))
 
--- the numbers that the record at a path has and names, whatever the record's key is
+-- the number of the record at a path, and the numbers that this record names, whatever the record's
+-- key is
 abbrev pub numbers_at : Map → List ℕ → List ℕ
 numbers_at files path = if ends_as_record path then option_map_or (λ (r : Record). numbers_in r.needed) (option_and_then reading (finite.get files path)) [] else []
 

@@ -33,7 +33,7 @@ pub record IsSummary (project : Project) (es : List (Event BadUnit)) (reasons : 
   pub started : summary.started ≡ map (λ (u : Planned). u.key) (filter_map (unit_at project) (started_by es))
   -- it has the first difference of each started unit
   pub differences : summary.differences ≡ filter_map (λ index. option_flatten (option_flatten (slice_get reasons index))) (started_by es)
-  -- it has, in plan order, the keys of those units that began and from whose record nothing differed
+  -- it has the keys, in plan order, of the units that began without a difference from their records
   pub kept : summary.kept ≡ filter_map kept_in (zip project.plan.planned reasons)
   -- it has the directives of each run, with the run's key
   pub directives : summary.directives ≡ filter_map (λ (row : Row). option_map (λ directives. (row.unit.key, directives)) (directives_in row.outcome)) rows

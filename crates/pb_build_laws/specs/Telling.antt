@@ -1,5 +1,5 @@
--- What a unit reports to people: its target, and the messages that it has if it is good, or if it
--- is bad (The Cargo Book, External Tools).
+-- What a unit reports to people: its target, and its messages if it is good or bad (The Cargo Book,
+-- External Tools).
 use Rattle.std.specs.Prelude.{◌≡◌, ◌++◌, ◌∷◌, [], ℕ, Bool, codes, not, List, Option, Some, None, find, map, option_and_then, option_map}
 use Rattle.std.specs.List.{filter_map, flat_map}
 use Rattle.std.specs.Option.{option_map_or}
@@ -69,9 +69,9 @@ abbrev pub told_well : Project → Planned → List ℕ → Option (List Directi
 told_well project u stderr None = map CompilerMessage (diagnostics_of stderr) ++ option_map_or (λ file. made_message project u file ∷ []) (made_file_of project u) []
 told_well project u stderr (Some directives) = filter_map note_in directives ++ executed u directives ∷ []
 
--- The messages of a bad unit, and what its child printed apart from them. If a stream is too long,
--- both are empty. A script that reported an error has its notes in printed order, if they can be
--- read. Any other run has no messages. A compile has its diagnostics.
+-- The messages of a bad unit, and the rest of what its child printed. If a stream is too long, both
+-- are empty. A script that reported an error has its notes in printed order, if they can be read.
+-- Any other run has no messages. A compile has its diagnostics.
 abbrev pub told_badly : What → UnitFault → List ℕ → List ℕ → List Message × List ℕ
 told_badly what fault.OutputTooLong stdout stderr = ([], [])
 told_badly what fault.ScriptError stdout stderr = (filter_map note_in (result_unwrap_or (directives_of stdout) []), stderr)
@@ -87,7 +87,6 @@ LinesAreTold = (project : Project) (u : Planned) (started : Bool) (messages : Li
 abbrev pub GoodUnitsTell : Type 0
 GoodUnitsTell = (project : Project) (u : Planned) (stderr : List ℕ) (directives : Option (List Directive)) → good_messages project u stderr directives ≡ told_well project u stderr directives
 
--- The messages of a bad unit, and what its child printed apart from them, are those of
--- `told_badly`.
+-- The messages of a bad unit, and the rest of what its child printed, are those of `told_badly`.
 abbrev pub BadUnitsTell : Type 0
 BadUnitsTell = (what : What) (fault : UnitFault) (ended : Ended) → (bad_messages what fault ended, said_by what fault ended) ≡ told_badly what fault ended.stdout ended.stderr

@@ -1,4 +1,5 @@
--- What a failing child wrote that no message line contains. The words around it are our own choice.
+-- The part of a failing child's output that no message line contains. The words around it are our
+-- own choice.
 use Rattle.std.specs.Prelude.{ℕ, ◌==◌, ◌-◌, if◌then◌else◌, codes, length, slice_get, List, [], ◌∷◌, ◌++◌, Option, Some, None}
 use Rattle.pb_data.specs.Ascii.{line_feed}
 use Rattle.pb_command_types.specs.declared.fault.UnitFault.{UnitFault}
@@ -11,8 +12,8 @@ feed_after (Some b) = if b == line_feed then [] else line_feed ∷ []
 abbrev pub ended : List ℕ → List ℕ
 ended bytes = bytes ++ feed_after (slice_get bytes (length bytes - 1))
 
--- A line with the bad unit's key, followed by what its child wrote that no message line contains.
--- If the child wrote nothing, there is no text.
+-- A line with the bad unit's key, followed by the part of its child's output that no message line
+-- contains. If this part is empty, there is no text.
 abbrev pub said_by_bad : Option (List ℕ × UnitFault) → List ℕ → List ℕ
 said_by_bad None said = []
 said_by_bad (Some bad) [] = []

@@ -1,32 +1,15 @@
 //! The line that says how a build of a session ended.
 
-ghost use Rattle.std.specs.Prelude.{◌≡◌, ◌++◌, map, IfOk, OnOk, string_bytes};
-ghost use Rattle.std.specs.List.{concat};
-ghost use Rattle.pb_build_result.specs.ResultLine.{keys_rest, keys_text, line_fault_name, unit_fault_text, summary_line, manifest_fault_name, load_fault_name, feature_fault_name, profile_fault_name, plan_fault_name, refusal_name, start_fault_name, device_fault_name, fault_at, fault_line, result_line};
+ghost use Rattle.std.specs.Prelude.{◌≡◌, ◌++◌, IfOk, OnOk, string_bytes};
+ghost use Rattle.pb_build_result.specs.ResultLine.{keys_rest, keys_text, summary_line, fault_at, fault_line, result_line};
 
-use crate::fault::{BuildFault, DeviceFault, Refusal};
+use crate::failures::{device_fault_name, start_fault_name, unit_fault_text};
+use crate::fault::BuildFault;
+use crate::refusals::refusal_name;
 use crate::summary::Summary;
-use pb_command_types::UnitFault;
+use crate::texts::join_texts;
 use pb_data::Text;
-use pb_directive::LineFault;
-use pb_feature::FeatureFault;
-use pb_manifest_types::ManifestFault;
-use pb_place_types::StartFault;
-use pb_profile::ProfileFault;
-use pb_unit::PlanFault;
-use pb_workspace_types::LoadFault;
 use std::alloc::{AllocError, Global};
-
-/// Returns the concatenation of texts.
-pub(crate) fn join_texts(alloc: Global, parts: &[&str]) -> Result<String, AllocError>
-    ensures { IfOk result (λ text. string_bytes text ≡ concat (map (λ part. part.now) parts.now)) }
-{
-    let mut text = String::new(alloc);
-    for part in parts {
-        text.push_str(*part)?;
-    }
-    Ok(text)
-}
 
 /// Adds keys, each after a comma.
 fn push_keys(text: &mut String, keys: &[Text]) -> Result<(), AllocError>
@@ -52,37 +35,6 @@ fn keys_text(alloc: Global, keys: &[Text]) -> Result<String, AllocError>
     Ok(text)
 }
 
-/// Returns the name of a line's fault.
-fn line_fault_name(fault: LineFault) -> &'static str
-    ensures { result.now ≡ line_fault_name fault }
-{
-    match fault {
-        LineFault::NotText(_) => "NotText",
-        LineFault::UnknownKey(_) => "UnknownKey",
-        LineFault::BadValue(_) => "BadValue",
-        LineFault::BadFlag(_) => "BadFlag",
-        LineFault::OutOfMemory => "OutOfMemory",
-    }
-}
-
-/// Returns the name of a unit's fault. The number of a status, or the name of a line's fault,
-/// follows in parentheses.
-fn unit_fault_text(alloc: Global, fault: &UnitFault) -> Result<String, AllocError>
-    ensures { IfOk result (λ text. string_bytes text ≡ unit_fault_text fault.now) }
-{
-    match fault {
-        UnitFault::Status(number) => format!(in alloc; "Status({number})"),
-        UnitFault::Directive(fault) => {
-            join_texts(alloc, &["Directive(", line_fault_name(*fault), ")"])
-        }
-        UnitFault::ScriptError => String::from_str(alloc, "ScriptError"),
-        UnitFault::NoDepInfo => String::from_str(alloc, "NoDepInfo"),
-        UnitFault::ForeignInput(_) => String::from_str(alloc, "ForeignInput"),
-        UnitFault::OutputTooLong => String::from_str(alloc, "OutputTooLong"),
-        UnitFault::OutOfMemory => String::from_str(alloc, "OutOfMemory"),
-    }
-}
-
 /// Returns the line of a build that came to its end.
 fn summary_line(alloc: Global, summary: &Summary) -> Result<String, AllocError>
     ensures { IfOk result (λ text. string_bytes text ≡ summary_line summary.now) }
@@ -104,119 +56,6 @@ fn summary_line(alloc: Global, summary: &Summary) -> Result<String, AllocError>
                 ],
             )
         }
-    }
-}
-
-/// Returns the name of a manifest's fault, without its fields.
-fn manifest_fault_name(fault: ManifestFault) -> &'static str
-    ensures { result.now ≡ manifest_fault_name fault }
-{
-    match fault {
-        ManifestFault::NotToml => "NotToml",
-        ManifestFault::BadKind(_) => "BadKind",
-        ManifestFault::BadName => "BadName",
-        ManifestFault::BadVersion => "BadVersion",
-        ManifestFault::UnsupportedTable => "UnsupportedTable",
-        ManifestFault::UnsupportedSource => "UnsupportedSource",
-        ManifestFault::UnsupportedCrateType => "UnsupportedCrateType",
-        ManifestFault::BadProfile => "BadProfile",
-        ManifestFault::BadFeature => "BadFeature",
-        ManifestFault::TooLarge => "TooLarge",
-        ManifestFault::OldResolver => "OldResolver",
-        ManifestFault::OutOfMemory => "OutOfMemory",
-    }
-}
-
-/// Returns the name of the reason why a workspace cannot be read. For a refused manifest, the
-/// result is the name of the manifest's fault.
-fn load_fault_name(fault: &LoadFault) -> &'static str
-    ensures { result.now ≡ load_fault_name fault.now }
-{
-    match fault {
-        LoadFault::NoManifest(_) => "NoManifest",
-        LoadFault::Manifest(_, fault) => manifest_fault_name(*fault),
-        LoadFault::SameName => "SameName",
-        LoadFault::NameMismatch => "NameMismatch",
-        LoadFault::VersionMismatch => "VersionMismatch",
-        LoadFault::LinksTwice => "LinksTwice",
-        LoadFault::LinksWithoutScript => "LinksWithoutScript",
-        LoadFault::NoInherited => "NoInherited",
-        LoadFault::TooMany => "TooMany",
-        LoadFault::SameBinary => "SameBinary",
-        LoadFault::Place(_, _) => "Place",
-        LoadFault::NoSuchPackage => "NoSuchPackage",
-        LoadFault::OutOfMemory => "OutOfMemory",
-    }
-}
-
-/// Returns the name of the reason why features are not resolved.
-fn feature_fault_name(fault: FeatureFault) -> &'static str
-    ensures { result.now ≡ feature_fault_name fault }
-{
-    match fault {
-        FeatureFault::NoSuchFeature => "NoSuchFeature",
-        FeatureFault::NoSuchDependency => "NoSuchDependency",
-        FeatureFault::NotOptional => "NotOptional",
-        FeatureFault::OutOfMemory => "OutOfMemory",
-    }
-}
-
-/// Returns the name of the reason why a profile has no settings.
-fn profile_fault_name(fault: ProfileFault) -> &'static str
-    ensures { result.now ≡ profile_fault_name fault }
-{
-    match fault {
-        ProfileFault::NoSuchProfile => "NoSuchProfile",
-        ProfileFault::InheritsCycle => "InheritsCycle",
-        ProfileFault::NotInOverride => "NotInOverride",
-        ProfileFault::OutOfMemory => "OutOfMemory",
-    }
-}
-
-/// Returns the name of the reason why there is no plan. For a profile without settings, the result
-/// is the name of the profile's fault.
-fn plan_fault_name(fault: &PlanFault) -> &'static str
-    ensures { result.now ≡ plan_fault_name fault.now }
-{
-    match fault {
-        PlanFault::Cycle(_) => "Cycle",
-        PlanFault::TooManyUnits => "TooManyUnits",
-        PlanFault::NothingToBuild => "NothingToBuild",
-        PlanFault::Profile(fault) => profile_fault_name(*fault),
-        PlanFault::OutOfMemory => "OutOfMemory",
-    }
-}
-
-/// Returns the name of the innermost fault of a refusal.
-fn refusal_name(refusal: &Refusal) -> &'static str
-    ensures { result.now ≡ refusal_name refusal.now }
-{
-    match refusal {
-        Refusal::Load(fault) => load_fault_name(fault),
-        Refusal::Feature(fault) => feature_fault_name(*fault),
-        Refusal::Plan(fault) => plan_fault_name(fault),
-    }
-}
-
-/// Returns the name of the reason why a child did not answer.
-fn start_fault_name(fault: StartFault) -> &'static str
-    ensures { result.now ≡ start_fault_name fault }
-{
-    match fault {
-        StartFault::CannotStart => "CannotStart",
-        StartFault::Died => "Died",
-        StartFault::Capture => "Capture",
-        StartFault::OutOfMemory => "OutOfMemory",
-    }
-}
-
-/// Returns the name of a call's fault: one word for all calls on files and variables.
-fn device_fault_name(fault: DeviceFault) -> &'static str
-    ensures { result.now ≡ device_fault_name fault }
-{
-    match fault {
-        DeviceFault::Place(_) => "Device",
-        DeviceFault::NumbersSpent => "NumbersSpent",
     }
 }
 

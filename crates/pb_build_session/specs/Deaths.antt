@@ -16,7 +16,7 @@ death_named name =
     else if bytes_eq name (codes "Capture") then Ok Capture
     else Err BadForm
 
--- the fault of a start that is set to fail in this way; it has the same name
+-- the fault of a start that is set to fail in this way; the fault has the same name as the way
 abbrev pub fault_of : Death → StartFault
 fault_of CannotStart = start.CannotStart
 fault_of Died = start.Died

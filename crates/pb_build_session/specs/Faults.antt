@@ -17,7 +17,7 @@ UnlessOom result answer = answers.UnlessOom OutOfMemory (λ x. x) result answer
 abbrev pub GivesAs : {T A : Type 0} → (T → A) → Read T → Read A → Type 0
 GivesAs shows result answer = answers.UnlessOom OutOfMemory shows result answer
 
--- the reason why a session with a text that is no path is bad
+-- the reason why a session is bad if one of its texts is not a path
 abbrev pub of_path_fault : PathFault → BadSession
 of_path_fault path.OutOfMemory = OutOfMemory
 of_path_fault path.NotAbsolute = BadForm

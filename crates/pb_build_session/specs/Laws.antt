@@ -18,9 +18,9 @@ both first second = first >>= (λ a. second >>= (λ b. Ok (a ++ b)))
 abbrev pub StepsJoin : Type 0
 StepsJoin = (ds es : List Data) → steps_of (items_of (ds ++ es)) ≡ both (steps_of (items_of ds)) (steps_of (items_of es))
 
--- A build without options has the manifest `/w/Cargo.toml` and the profile `dev`. Such a build
--- selects and narrows nothing. At most one unit is in flight. Of the units that may begin, the
--- first in plan order begins.
+-- A build without options has the manifest `/w/Cargo.toml` and the profile `dev`. It selects no
+-- packages, features or targets by name. At most one unit is in flight. Of the units that may
+-- begin, the first in plan order begins.
 abbrev pub OptionsHaveDefaults : Type 0
 OptionsHaveDefaults = build_of (object no_members) ≡ Ok (Build (record {
   manifest = codes "/w/Cargo.toml";

@@ -10,16 +10,16 @@ use Rattle.pb_build_session.specs.Faults.{Read}
 use Rattle.pb_build_session.specs.Values.{number_of}
 use Rattle.pb_build_session.specs.declared.fault.BadSession.TheVariants.{BadForm}
 
--- The number that a session has for what `serde_json` makes of a numeral. `taken` is the number for
--- the numeral itself.
+-- The number in a session, given what `serde_json` makes of its numeral. `taken` is the number,
+-- given the numeral itself.
 abbrev pub taken_as : Option Num → Read ℕ
 taken_as n = some_or BadForm (option_map number n) >>= number_of
 
 abbrev pub taken : List ℕ → Read ℕ
 taken numeral = taken_as (numeral_of numeral)
 
--- a numeral that consists of digits only is the number that it denotes; if this is 2 ^ 64 or more,
--- the session is bad
+-- a numeral of digits only is the number that it denotes; if this is 2 ^ 64 or more, the session is
+-- bad
 abbrev pub DigitsAreTaken : Type 0
 DigitsAreTaken = (digits : List ℕ) → IsNumeral 10 digits → OkIff (taken digits) (digits_value 10 digits < 2 ^ 64) (digits_value 10 digits)
 

@@ -43,8 +43,8 @@ use Rattle.pb_build_turns.specs.declared.executor.RunningUnit.{RunningUnit}
 use Rattle.pb_unit.specs.declared.plan.Planned.{Planned}
 use Rattle.pb_message_units.specs.Telling.{unit_lines}
 
--- What came of a unit that had no child. The unit's answer is what this record replays to the
--- record's own command, with these files.
+-- What came of a unit that had no child. The unit's answer is what this record replays, judged by
+-- the record's own command and these files.
 abbrev pub ran_again : Project → Planned → Record → Map → Ran
 ran_again project u r files = unstarted (ran_of project u (asked_command r.asked) (replayed r).ended files)
 
@@ -64,8 +64,8 @@ pub record AnswersAgain (setup : Setup) (project : Project) (done : List (Option
 
 -- Units in flight that will answer by replay.
 
--- The unit has what its first record replays to its command. The inputs of this record had their
--- recorded values at first. The unit's folder and record have not changed.
+-- The unit will replay its first record, which has the unit's command. The inputs of this record
+-- had their recorded values at first. The unit's folder and record have not changed.
 pub record WaitsAgain (setup : Setup) (project : Project) (done : List (Option (List Directive))) (first now : World) (u : Planned) (c : Command) (again : Replayed) : Type 0 where
   pub kept : Record
   pub here : records (records_folder project) first u.key ≡ Some kept
@@ -113,8 +113,8 @@ CarriesAnew child setup project done now flying still u c (awaited.Record again)
 abbrev pub FliesAnew : Answers → Setup → Project → List (Option (List Directive)) → World → List ChildInFlight → (ℕ → Type 0) → RunningUnit → Type 0
 FliesAnew child setup project done now flying still a = (u : Planned) → unit_at project a.unit ≡ Some u → CarriesAnew child setup project done now flying still u a.begun.command a.begun.awaited
 
--- What determines the calls of a build. These are the child, the project, the command of each unit,
--- and what the unit's child sees of a world.
+-- What determines the calls of a build: the child, the project, the command of each unit, and what
+-- the unit's child sees of a world.
 pub record CallBasis : Type 0 where
   pub child : Answers
   pub project : Project
@@ -126,8 +126,8 @@ pub record CallBasis : Type 0 where
 abbrev pub call_basis : BuildContext → CallBasis
 call_basis b = record { child = b.child; project = b.project; command = command_in b; sees = λ index u w. view_in b index u }
 
--- What determines the calls over any records, true or not. Each unit has its command after the
--- noted directives, and sees what this command sees of the world.
+-- What determines the calls over any records, true or not. Each unit has the command that the noted
+-- directives determine, and sees what this command sees of the world.
 abbrev pub call_basis_on_any : Answers → Setup → Project → List (Option (List Directive)) → CallBasis
 call_basis_on_any child setup project done = record {
   child = child;
@@ -213,8 +213,8 @@ StopsLast b fault None es before w old after new = (((fault ≡ Sink) ⊎ (fault
 abbrev pub CallsCut : CallBasis → BuildFault → Option ℕ → List (Event BadUnit) → List (Event BadUnit) → World → Counts → World → Counts → Type 0
 CallsCut b fault asked es before first at last now = (w : World) × (old : Counts) × CallsOver b before first at w old × StopsLast b fault asked es before w old last now
 
--- Over any records, true or not, exactly the calls of these events were made. Each unit had its
--- command after the noted directives.
+-- Over any records, true or not, exactly the calls of these events were made. Each unit had the
+-- command that the noted directives determine.
 abbrev pub CallsOnAny : Answers → Setup → Project → List (Option (List Directive)) → List (Event BadUnit) → World → Counts → World → Counts → Type 0
 CallsOnAny child setup project done es first at last now = CallsOver (call_basis_on_any child setup project done) es first at last now
 

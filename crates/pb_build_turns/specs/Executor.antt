@@ -73,7 +73,7 @@ AreApart (n ∷ ns) = AllByRecursion (λ m. n ≢ m) ns × AreApart ns
 abbrev pub noted : Begun → Begun
 noted begun = record begun { difference = None }
 
--- a unit in flight is a unit of the plan, and has its key and one of its commands
+-- the unit in flight is a unit of the plan: it has this unit's key and one of this unit's commands
 pub record IsOfPlan (project : Project) (a : RunningUnit) : Type 0 where
   pub unit : Planned
   pub there : slice_get project.plan.planned a.unit ≡ Some unit

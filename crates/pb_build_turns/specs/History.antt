@@ -87,8 +87,8 @@ pub record StopsAt (is_modelled : Bool) (project : Project) (first now : BuildSt
   pub faults : now.heard.faults ≡ first.heard.faults
 
 -- The sink failed after the last event, which is an answer. The sink took all lines that were due
--- before this answer. Of the lines that became due with the answer, the sink took some first bytes,
--- but not all.
+-- before this answer. Of the bytes that became due with the answer, the sink took a prefix, but not
+-- all.
 pub record StopsAtSink (project : Project) (first now : BuildState) (es : List (Event BadUnit)) : Type 0 where
   pub before : List (Event BadUnit)
   pub unit : ℕ
@@ -100,8 +100,8 @@ pub record StopsAtSink (project : Project) (first now : BuildState) (es : List (
   pub lines : Appends first.heard.taken now.heard.taken (take taken (due (states_in project es)))
   pub faults : now.heard.faults ≡ up first.heard.faults
 
--- How a fault ends the build. Either the fault came at a unit, or it came at the sink after an
--- answer (`StopsAtSink`), or memory ran out after the lines of the first few units were written.
+-- How a fault ends the build. The fault came at a unit, or at the sink after an answer
+-- (`StopsAtSink`), or memory ran out after the lines of the first n units were written.
 abbrev pub StopsBy : Bool → BuildFault → Project → BuildState → BuildState → List (Event BadUnit) → Type 0
 StopsBy is_modelled (Plan why) project first now es = ⊥
 StopsBy is_modelled Toolchain project first now es = ⊥
@@ -111,18 +111,18 @@ StopsBy is_modelled Sink project first now es = StopsAtSink project first now es
 StopsBy is_modelled OutOfMemory project first now es = ((n : ℕ) × Appends first.heard.taken now.heard.taken (due_first n (states_in project es))) × (now.heard.faults ≡ first.heard.faults)
 
 -- The build stopped as `StopsBy` says, and the fault has its cause. No failure was injected. One
--- child was started for each unit that began with a child. For the last of these units, the spawn
--- may only have been tried.
+-- child was started for each unit that began with a child; for the last of these units, the spawn
+-- may have failed.
 pub record Stops (is_modelled : Bool) (fault : BuildFault) (project : Project) (first now : BuildState) (es : List (Event BadUnit)) : Type 0 where
   pub by : StopsBy is_modelled fault project first now es
   pub cause : HasCause fault first.counts now.counts
   pub starts : now.counts.starts.count ≡ upped (length (started_by es)) first.counts.starts.count
   pub settings : now.counts.starts.settings ≡ first.counts.starts.settings
 
--- The number that a unit takes when it answers. A unit that is bad, or has a child, takes none. Any
--- other unit takes the next number if its first record is known to have lacked one. If that record
--- is known to have had a number, the unit takes none. If neither is known, the unit takes at most
--- one.
+-- The run number that a unit takes when it answers. A unit that is bad, or has a child, takes no
+-- number. Any other unit takes the next number if its first record is known to have lacked a
+-- number. If this record is known to have had a number, the unit takes no number. If neither is
+-- known, the unit takes at most one number.
 pub record TakesAsAnswered (Lacks : Bool → Type 0) (started : Bool) (fault : Option BadUnit) (before now : Option ℕ) : Type 0 where
   pub at_most : TakesNumber before now
   pub child : started ≡ true → now ≡ before
@@ -166,7 +166,7 @@ events_before [] place = []
 events_before (Began unit spawned ∷ es) place = if unit == place then es else events_before es place
 events_before (Gave unit answer ∷ es) place = events_before es place
 
--- Only the output folders and the records of units that have begun were changed.
+-- The only changes are in the output folders and the records of units that have begun.
 pub record OnlyOf (project : Project) (es : List (Event BadUnit)) (old new : World) : Type 0 where
   pub variables : new.variables ≡ old.variables
   pub files : (q : List ℕ) → ((index : ℕ) (u : Planned) → HasBegun (states_in project es) index → unit_at project index ≡ Some u → is_of (records_folder project) u.key q ≡ false) → finite.get new.files q ≡ finite.get old.files q
@@ -190,8 +190,8 @@ abbrev pub KeepsChildless : Project → List (Event BadUnit) → Option ℕ → 
 KeepsChildless project es asked first w = (index : ℕ) (u : Planned) (q : List ℕ) → unit_at project index ≡ Some u → slice_get (states_in project es) index ≡ Some Begun → asked ≢ Some index → is_started es index ≡ false → is_of (records_folder project) u.key q ≡ true
     → finite.get w.files q ≡ finite.get first.files q
 
--- The unit at this index had this first difference when it began. In the world at that moment, only
--- units that had begun before had changed anything. A child was started for the unit if and only if
+-- The unit at this index had this first difference when it began. Before that moment, only units
+-- that had begun earlier had changed anything. A child was started for the unit if and only if
 -- something differed. The difference is noted.
 pub record BeganFor (project : Project) (sources : World) (command : ℕ → Planned → Command) (es : List (Event BadUnit)) (reasons : Reasons) (first now : World) (index : ℕ) : Type 0 where
   pub unit : Planned
@@ -214,31 +214,32 @@ pub record BeganFor (project : Project) (sources : World) (command : ℕ → Pla
   pub kept_stays : difference ≡ None → lacks_number (records (records_folder project) first unit.key) ≡ false → (q : List ℕ) → is_of (records_folder project) unit.key q ≡ true → finite.get now.files q ≡ finite.get first.files q
   pub unstarted : started_by (events_before es index) ≡ [] → ((p : ℕ) → LacksNumber project first p false) → world ≡ first
 
--- each unit that has begun began for its first difference, as `BeganFor` says
+-- `BeganFor` is true of each unit that has begun
 abbrev pub AllBegan : Project → World → (ℕ → Planned → Command) → List (Event BadUnit) → Reasons → World → World → Type 0
 AllBegan project sources command es reasons first now = (index : ℕ) → HasBegun (states_in project es) index → BeganFor project sources command es reasons first now index
 
 -- If a unit could not begin because its start failed, or because memory ran out in the spawn,
--- something had differed for it. This is stated as if its child had been started.
+-- something differed from the unit's record. `BeganFor` states this as if the unit's child had been
+-- started.
 abbrev pub HadDiffered : Project → World → (ℕ → Planned → Command) → BuildFault → List (Event BadUnit) → List (Event BadUnit) → World → World → Type 0
 HadDiffered project sources command fault before es first now =
     (index : ℕ) (spawned : Bool) → es ≡ Began index spawned ∷ before → (is_of_start fault ≡ true) ⊎ (spawned ≡ true) → (reasons : Reasons) × BeganFor project sources command (Began index true ∷ before) reasons first now index
 
--- Over any records, true or not, each unit began for its first difference. The sources are those of
--- the first world, and each unit had its command after the noted directives.
+-- Over any records, true or not, `BeganFor` is true of each unit that has begun. The sources are
+-- those of the first world, and each unit had the command that the noted directives determine.
 abbrev pub AllBeganOnAny : Setup → Project → List (Option (List Directive)) → List (Event BadUnit) → Reasons → World → World → Type 0
 AllBeganOnAny setup project done es reasons first now = AllBegan project (from_nothing project.workspace.target first) (λ index u. command_of setup project u done) es reasons first now
 
--- over any records, true or not, something had differed for a unit whose start failed
+-- over any records, true or not, something differed from the record of a unit whose start failed
 abbrev pub StartedOnAny : Setup → Project → List (Option (List Directive)) → BuildFault → List (Event BadUnit) → List (Event BadUnit) → World → World → Type 0
 StartedOnAny setup project done fault before es first now = HadDiffered project (from_nothing project.workspace.target first) (λ index u. command_of setup project u done) fault before es first now
 
--- In a build context, each unit began for its first difference. The sources are those of the
--- context, and each unit had its command after the outcomes of a clean build.
+-- In a build context, `BeganFor` is true of each unit that has begun. The sources are those of the
+-- context, and each unit had the command that it has in a clean build.
 abbrev pub AllBeganFor : BuildContext → List (Event BadUnit) → Reasons → World → World → Type 0
 AllBeganFor b es reasons first now = AllBegan b.project b.sources (command_in b) es reasons first now
 
--- in a build context, something had differed for a unit whose start failed
+-- in a build context, something differed from the record of a unit whose start failed
 abbrev pub StartedFor : BuildContext → BuildFault → List (Event BadUnit) → List (Event BadUnit) → World → World → Type 0
 StartedFor b fault before es first now = HadDiffered b.project b.sources (command_in b) fault before es first now
 
@@ -261,8 +262,8 @@ pub record FliesBeside (project : Project) (es : List (Event BadUnit)) (asked : 
   pub started : is_started es a.unit ≡ is_some (child_of a.begun)
   pub other : asked ≢ Some a.unit
 
--- Only the output folders of units that have begun with a child and not answered were changed. The
--- folder of the unit whose answer was taken was not changed.
+-- The only changes are in the output folders of units that are in flight with a child. If an answer
+-- was taken, the folder of its unit was not changed.
 pub record ChangesInFlight (project : Project) (es : List (Event BadUnit)) (asked : Option ℕ) (old new : World) : Type 0 where
   pub variables : new.variables ≡ old.variables
   pub files : (q : List ℕ) → ((index : ℕ) (u : Planned) → slice_get (states_in project es) index ≡ Some Begun → asked ≢ Some index → is_started es index ≡ true → unit_at project index ≡ Some u → is_at_or_below u.out q ≡ false) → finite.get new.files q ≡ finite.get old.files q
@@ -284,8 +285,8 @@ pub record Replays (setup : Setup) (project : Project) (done : List (Option (Lis
   pub waits : AllByRecursion (λ (a : RunningUnit). FliesAgain setup project done first now a) running
   pub gave : AllAnswerAgain setup project es done first
 
--- Each unit with a child has answered with the child's reply to what it sees of this world. This is
--- so whether the records are true or not.
+-- Each unit with a child has answered with the child's reply to what the child sees of this world.
+-- This is so whether the records are true or not.
 abbrev pub AllAnswerAnew : Answers → Setup → Project → List (Event BadUnit) → List (Option (List Directive)) → World → Type 0
 AllAnswerAnew child setup project es done now = (index : ℕ) (answer : Answer BadUnit) → slice_get (states_in project es) index ≡ Some (Answered answer) → is_started es index ≡ true → AnswersAnew child setup project done now index answer
 
@@ -302,15 +303,15 @@ events_until (Began unit spawned ∷ es) place = events_until es place
 events_until (Gave unit answer ∷ es) place = if unit == place then es else events_until es place
 
 -- The record of a unit for which a child was started. The record has the unit's command, the
--- child's reply to what it sees of this world, and the present values of the inputs. The numbers of
--- the needed units, and this run number, are also in the record.
+-- child's reply to what the child sees of this world, and the present values of the inputs. The
+-- numbers of the needed units, and this run number, are also in the record.
 abbrev pub record_anew : Answers → Setup → Project → List (Option (List Directive)) → World → Planned → ℕ → Record
 record_anew child setup project done now u number = record_of project u (command_of setup project u done) number (ended_by (reply_in child (command_of setup project u done) now)) now
 
 -- The record of a unit that has answered. A good unit with a child has the record of the child's
--- reply, with the number that was next when it began. A good unit without a child has its first
--- record; if this had no number, it now has one. A bad unit without a child has the same record as
--- at first.
+-- reply, with the number that was next when the unit began. A good unit without a child has its
+-- first record; if this record had no number, it now has one. A bad unit without a child has the
+-- same record as at first.
 pub record LeavesRecord (child : Answers) (setup : Setup) (project : Project) (done : List (Option (List Directive))) (started : Bool) (before until : List (Event BadUnit)) (next : Option ℕ) (first now : World) (index : ℕ) (answer : Answer BadUnit) : Type 0 where
   pub unit : Planned
   pub there : unit_at project index ≡ Some unit
@@ -321,8 +322,8 @@ pub record LeavesRecord (child : Answers) (setup : Setup) (project : Project) (d
       × (records (records_folder project) now unit.key ≡ migrated number (numbered (records (records_folder project) now) (needed_keys project unit)) (records (records_folder project) first unit.key))
   pub bad : started ≡ false → IsSome answer.fault → finite.get now.files (place_of (records_folder project) unit.key) ≡ finite.get first.files (place_of (records_folder project) unit.key)
 
--- Each unit that has answered has left a record as `LeavesRecord` says. This is so whether the
--- records are true or not.
+-- Each answered unit has left a record as `LeavesRecord` says. This is so whether the records are
+-- true or not.
 abbrev pub AllLeaveRecords : Answers → Setup → Project → List (Event BadUnit) → List (Option (List Directive)) → Option ℕ → World → World → Type 0
 AllLeaveRecords child setup project es done next first now = (index : ℕ) (answer : Answer BadUnit) → slice_get (states_in project es) index ≡ Some (Answered answer)
     → LeavesRecord child setup project done (is_started es index) (events_before es index) (events_until es index) next first now index answer
@@ -336,14 +337,14 @@ pub record Recordings (child : Answers) (setup : Setup) (project : Project) (don
   pub carries : AllByRecursion (CarriesNumber project es next first) running
   pub gave : AllLeaveRecords child setup project es done next first now
 
--- the unit in flight has begun as `IsBegun` says, and all units that it reaches are good
+-- the unit in flight has begun as `IsBegun` says, and reaches only good units
 pub record FliesSo (b : BuildContext) (es : List (Event BadUnit)) (next : Option ℕ) (world : World) (flying : List ChildInFlight) (still : ℕ → Type 0) (a : RunningUnit) : Type 0 where
   pub state : slice_get (states_in b.project es) a.unit ≡ Some Begun
   pub begun_so : IsBegun b a.unit a.begun next world flying still
   pub reaches : (u : Planned) → unit_at b.project a.unit ≡ Some u → are_good (states_in b.project es) u.reaches ≡ true
   pub started : is_started es a.unit ≡ is_some (child_of a.begun)
 
--- `BuildInvariant` is true. Each unit in flight has begun, and each unit that has answered has its outcome.
+-- `BuildInvariant` is true. Each unit in flight has begun, and each answered unit has its outcome.
 pub record HistoryHolds (b : BuildContext) (done : List (Option (List Directive))) (running : List RunningUnit) (next : Option ℕ) (es : List (Event BadUnit)) (world : World) (flying : List ChildInFlight) (still : ℕ → Type 0) : Type 0 where
   pub keeps : BuildInvariant b (states_in b.project es) done next world
   pub begun : AllByRecursion (FliesSo b es next world flying still) running
@@ -353,7 +354,7 @@ pub record HistoryHolds (b : BuildContext) (done : List (Option (List Directive)
 abbrev pub IsQuiet : Project → List (Event BadUnit) → World → World → Type 0
 IsQuiet project es first now = started_by es ≡ [] → ((index : ℕ) → LacksNumber project first index false) → now ≡ first
 
--- the note of a unit that has not begun is as it was at first
+-- as long as a unit has not begun, its note is the same as at first
 abbrev pub NotesUnbegun : Project → List (Event BadUnit) → Reasons → Reasons → Type 0
 NotesUnbegun project es first now = (index : ℕ) → slice_get (states_in project es) index ≡ Some Untouched → slice_get now index ≡ slice_get first index
 
@@ -369,7 +370,7 @@ NotesStarted project es now = (index : ℕ) (s : State BadUnit) → slice_get (s
 abbrev pub untouched : Project → List (State BadUnit)
 untouched project = states_in project []
 
--- `Since` is true of each build context that satisfied `BuildInvariant` at first
+-- if `BuildInvariant` was true of a build context at first, `Since` is true of this context
 abbrev pub FromFirst : Answers → UnitExecutor → BuildState → UnitExecutor → (BuildContext → Type 0) → Type 0
 FromFirst child first at c Since = (premise : Premise) (sources : World)
     → BuildInvariant (build_context premise child c.setup c.project sources) (untouched c.project) first.done.items first.store.next at.world
@@ -410,8 +411,8 @@ CameAfter project OutOfMemory before es = (es ≡ before) ⊎ ((unit : ℕ) × (
 CameAfter project fault before es = es ≡ before
 
 -- The unit that a fault names. If an answer was taken, this is the unit of the answer, after all
--- these events. If not, this is the unit that could not begin. The sink and out of memory name no
--- unit.
+-- these events. If not, this is the unit that could not begin. A failure of the sink, and out of
+-- memory, name no unit.
 abbrev pub NamesUnit : Project → BuildFault → Option ℕ → List (Event BadUnit) → List (Event BadUnit) → Type 0
 NamesUnit project (Child key fault) None before es = IsBeginning project key true before es
 NamesUnit project (Child key fault) (Some unit) before es = (key_at project unit ≡ key ∷ []) × (es ≡ before)

@@ -89,7 +89,7 @@ is_success (Some bad) = false
 abbrev pub started_keys : Project → List (Event BadUnit) → List (List ℕ)
 started_keys project es = flat_map (λ index. key_in (unit_at project index)) (started_by es)
 
--- The key and the fault of a bad unit. `said_told` is what its child printed.
+-- The key and the fault of a bad unit. `said_told` is what the unit's child printed.
 abbrev pub key_told : Option (List ℕ × BadUnit) → Option (List ℕ × UnitFault)
 key_told None = None
 key_told (Some bad) = Some (bad.0, bad.1.fault)
@@ -98,7 +98,7 @@ abbrev pub said_told : Option (List ℕ × BadUnit) → List ℕ
 said_told None = []
 said_told (Some bad) = bad.1.said
 
--- For each unit, a note of its first difference. A unit that has not begun has no note. The note of
+-- For each unit, a note of its first difference. A unit has no note before it begins. The note of
 -- any other unit has a difference, or says that nothing differed.
 abbrev pub Reasons : Type 0
 Reasons = List (Option (Option Difference))
@@ -157,19 +157,19 @@ abbrev pub bad_told : List Planned → List (State BadUnit) → Option ℕ → O
 bad_told units states None = None
 bad_told units states (Some index) = bad_with (slice_get units index) (slice_get states index)
 
--- the keys and the directives of those among these units for which directives are noted
+-- for each of these units that has noted directives, its key and these directives
 abbrev pub noted_of : List Planned → List (Option (List Directive)) → List (List ℕ × List Directive)
 noted_of [] noted = []
 noted_of (u ∷ us) [] = []
 noted_of (u ∷ us) (d ∷ noted) = keyed u.key d ++ noted_of us noted
 
--- the number of reported units: all units, or, if the unit at this index is the first bad one,
--- those up to and including it
+-- the number of reported units: those up to and including the first bad unit, which has this index,
+-- or all units if no unit is bad
 abbrev pub count_told : ℕ → Option ℕ → ℕ
 count_told units None = units
 count_told units (Some place) = place + 1
 
--- the noted directives of the reported units, which are all units, or those up to and including the
+-- the noted directives of the reported units: of all units, or of those up to and including the
 -- first bad one
 abbrev pub noted_told : List Planned → List (Option (List Directive)) → Option ℕ → List (List ℕ × List Directive)
 noted_told units noted bad = noted_of (take (count_told (length units) bad) units) (take (count_told (length units) bad) noted)

@@ -65,7 +65,8 @@ abbrev pub run_program : List (List ℕ) → List ℕ → List ℕ
 run_program [] script = script
 run_program (program ∷ words) script = program
 
--- the arguments of a run: the other words of the runner and the script's path; without a runner there are none
+-- the arguments of a run: the runner's other words, and then the script's path; without a runner
+-- there are no arguments
 abbrev pub run_words : List (List ℕ) → List ℕ → List (List ℕ)
 run_words [] script = []
 run_words (program ∷ words) script = words ++ script ∷ []

@@ -55,7 +55,7 @@ dep_info_in c out files = file_at (file_in out (crate_in c.words ++ codes ".d"))
 abbrev pub answered_in : Command → List ℕ → Ended → Map → Result CheckedReply UnitFault
 answered_in c out e files = unless_fault (ended_fault e) (if is_of_run out then run_answered c c.folder e else compile_answered c (dep_info_in c out files))
 
--- the names of the inputs that a good answer has; a bad answer has none
+-- the names of the inputs that a good answer has, or `None` for a bad answer
 abbrev pub inputs_if : Result CheckedReply UnitFault → Option (List InputName)
 inputs_if (Ok answered) = Some answered.inputs
 inputs_if (Err fault) = None
@@ -64,12 +64,12 @@ abbrev pub judge_in : Command → Option (List ℕ) → Reply → Option (List I
 judge_in c None r = None
 judge_in c (Some out) r = inputs_if (answered_in c out (ended_by r) (replied_files out r))
 
--- the names of the inputs that a good reply to a command has; a bad reply has none
+-- the names of the inputs that a good reply to a command has, or `None` for a bad reply
 unfoldable pub judge : Command → Reply → Option (List InputName)
 judge c r = judge_in c c.out r
 
 -- For the command of each unit of a plan, `judge` accepts a reply if and only if the unit's answer
--- is good. Both have the same inputs.
+-- is good. Then `judge` returns the inputs of this answer.
 abbrev pub JudgesAsAnswered : Type 0
 JudgesAsAnswered = (setup : Setup) (project : Project) (u : Planned) (done : List (Option (List Directive))) (selection : Selection) (index : ℕ) (r : Reply)
     → IsSettled project.workspace → IsPlan project.workspace project.features selection project.profile project.plan → slice_get project.plan.planned index ≡ Some u

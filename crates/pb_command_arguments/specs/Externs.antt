@@ -18,7 +18,7 @@ use Rattle.pb_command_types.specs.NamedTexts.{in_order}
 use Rattle.pb_command_types.specs.Targets.{unit_at, library_in, library_name, library_file, is_library}
 use Rattle.pb_command_arguments.specs.Words.{option}
 
--- the output folder of the unit, if there is one
+-- the output folder of the unit, if there is a unit
 abbrev pub folder_in : Option Planned → List (List ℕ)
 folder_in None = []
 folder_in (Some unit) = unit.out ∷ []
@@ -46,8 +46,8 @@ folder_words_at project index = folder_words_in (unit_at project index)
 abbrev pub dependency_words : Project → Planned → List (List ℕ)
 dependency_words project unit = flat_map (folder_words_at project) unit.reaches
 
--- An entry of this kind counts for a unit of this kind. Normal entries count for libraries and
--- binaries, build entries for scripts.
+-- Says whether entries of this kind count for units of this kind. Normal entries count for
+-- libraries and binaries, build entries for scripts.
 abbrev pub leads : What → DependencyKind → Bool
 leads Lib kind = is_normal kind
 leads (Bin name) kind = is_normal kind

@@ -62,7 +62,8 @@ condition_words said = flat_map condition_word said ++ flat_map check_word said
 abbrev pub argument_words : List ℕ → List Directive → List (List ℕ)
 argument_words name said = flat_map argument_word said ++ flat_map binaries_word said ++ flat_map (binary_word name) said
 
--- the libraries that a binary links, or no libraries if the binary's package has a library
+-- the arguments for the libraries that a binary links; if the binary's package has a library, there
+-- are no such arguments
 abbrev pub binary_link_words : Option Library → List Directive → List (List ℕ)
 binary_link_words library said = if is_none library then flat_map link_word said else []
 

@@ -84,7 +84,7 @@ is_value None value = false
 is_value (Some other) value = same other value
 
 -- The key needs no option for this unit. Either the compiler uses this value without an option, or
--- only binaries have the option and the unit is no binary.
+-- only binaries have the option and the unit is not a binary.
 abbrev pub is_untold : What → ProfileKey → Setting → Bool
 is_untold what k value = ((row k).of_binaries && not (is_binary what)) || is_value (row k).untold value
 

@@ -34,7 +34,7 @@ abbrev pub package_pairs : Setup → Package → List (List ℕ × List ℕ)
 package_pairs setup p =
     (codes "CARGO", setup.tool) ∷ (codes "CARGO_MANIFEST_DIR", p.folder) ∷ (codes "CARGO_MANIFEST_PATH", p.manifest) ∷ (codes "CARGO_PKG_NAME", p.name) ∷ []
 
--- the variables that contain what the package tells people about itself
+-- the variables with the package's texts for people: its authors, its description and so on
 abbrev pub about_pairs : About → List (List ℕ × List ℕ)
 about_pairs a =
     (codes "CARGO_PKG_AUTHORS", a.authors) ∷ (codes "CARGO_PKG_DESCRIPTION", a.description) ∷ (codes "CARGO_PKG_HOMEPAGE", a.homepage) ∷ (codes "CARGO_PKG_LICENSE", a.license)
@@ -124,7 +124,7 @@ abbrev pub first_host : List (List ℕ) → List ℕ
 first_host [] = []
 first_host (line ∷ lines) = or_else (host_in line) (first_host lines)
 
--- the host triple of the compiler: the host in the first line that names one
+-- the host triple of the compiler: the host in the first line that names a host
 abbrev pub triple_of : List ℕ → List ℕ
 triple_of toolchain = first_host (lines_of toolchain)
 
@@ -143,7 +143,7 @@ released_text (Err fault) = codes "debug"
 abbrev pub profile_word : Project → List ℕ
 profile_word project = released_text (checked_line project.workspace.profiles project.profile)
 
--- the variables for the platform that is compiled for, for the host, and for the number of jobs
+-- the variables for the target platform, for the host, and for the number of jobs
 abbrev pub platform_pairs : List ℕ → List (List ℕ × List ℕ)
 platform_pairs triple = (codes "TARGET", triple) ∷ (codes "HOST", triple) ∷ (codes "NUM_JOBS", codes "1") ∷ []
 

@@ -46,7 +46,7 @@ unless_is other shown value = if same other value then None else Some (value_tex
 abbrev pub row : List ℕ → Option (List ℕ) → List (List ℕ × List ℕ)
 row name value = option_to_list (option_map (λ text. (name, text)) value)
 
--- the settings with their values; a setting for which the compiler gets no option has no row
+-- the settings with their values; a setting has no row if the compiler gets no option for it
 abbrev pub settings_table : What → List Setting → List (List ℕ × List ℕ)
 settings_table what s =
     (codes "opt-level", value_text (codes "on") (setting_at s key.OptLevel))
@@ -81,7 +81,8 @@ as_line _ = ([], [])
 abbrev pub asked : List ℕ → List Directive → List (List ℕ)
 asked key said = values key (map as_line said)
 
--- a unit of this kind hears what its package's run has printed; only libraries and binaries do
+-- a unit of this kind hears its package's run: the directives of the run count for the unit; only
+-- libraries and binaries do
 abbrev pub hears : What → Bool
 hears what = is_library what || is_binary what
 
@@ -136,8 +137,9 @@ pub record CompileSays (project : Project) (unit : Planned) (done : List (Option
   pub given : values (codes "--extern") said ≡ map assigned libraries
   pub are : AreLibraries Is libraries
 
--- Law: the arguments of a compile say this, followed by what the user's flags say. The package
--- belongs to a workspace that was read, and its source has a normalised absolute path.
+-- Law: the arguments of a compile say what `CompileSays` states, followed by what the user's flags
+-- say. The package belongs to a workspace that was read, and its source has a normalised absolute
+-- path.
 abbrev pub CompilesSay : Type 0
 CompilesSay = (setup : Setup) (project : Project) (unit : Planned) (done : List (Option (List Directive))) (p : Package)
     → IsSettled project.workspace → package_of project unit ≡ Some p → is_run unit.unit.what ≡ false → is_path (source_by p unit.unit.what) ≡ true

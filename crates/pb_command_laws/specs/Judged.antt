@@ -57,9 +57,9 @@ pub data ReportsInputs (what : What) (c : Command) (folder : List ℕ) (e : Ende
   run : (is : is_run what ≡ true) (said : List Directive) (read : directives_of e.stdout ≡ Ok said) (fine : asked (codes "error") said ≡ []) → ReportsInputs what c folder e dep_info (Some said)
       (if length (asked (codes "rerun-if-changed") said ++ asked (codes "rerun-if-env-changed") said) == 0 then folder ∷ [] else paths_said folder (asked (codes "rerun-if-changed") said)) (once (asked (codes "rerun-if-env-changed") said))
 
--- The answer of a child. The way in which it ended is checked first, then a run's lines or a
--- compile's dep-info, and then the inputs. If no path is foreign, the inputs are the paths outside
--- the target folder, and the variables.
+-- The answer of a child. How the child ended is checked first, then a run's lines or a compile's
+-- dep-info, and then the inputs. If no path is foreign, the inputs are the paths outside the target
+-- folder, and the variables.
 pub data IsAnswer (what : What) (c : Command) (folder : List ℕ) (e : Ended) (dep_info : Option (List ℕ)) : Result CheckedReply UnitFault → Type 0 where
   too_long : (is : IsShort e.stdout × IsShort e.stderr → ⊥) → IsAnswer what c folder e dep_info (Err unit_fault.OutputTooLong)
   status : (short : IsShort e.stdout × IsShort e.stderr) (is : e.status ≢ pos 0) → IsAnswer what c folder e dep_info (Err (unit_fault.Status e.status))

@@ -52,7 +52,7 @@ pub data IsWanted (project : Project) (u : Planned) (p : Package) : List ℕ →
       (kind : entry.kind ≡ (if is_script u.unit.what then Build else Normal)) (library : IsLibraryOf project entry.to (role_of u.unit) crate file) → IsWanted project u p (if entry.renamed then underscored entry.key else crate) file
   own : (binary crate file : List ℕ) (is : u.unit.what ≡ Bin binary) (library : IsLibraryOf project u.unit.owner u.unit.side crate file) → IsWanted project u p crate file
 
--- The libraries that are passed to a compile of a plan are exactly those of which `IsWanted` is true.
+-- A compile of a plan gets exactly the libraries of which `IsWanted` is true.
 abbrev pub LibrariesAreWanted : Type 0
 LibrariesAreWanted = (project : Project) (u : Planned) (p : Package) → StandsInPlan project u p → is_run u.unit.what ≡ false → (name file : List ℕ) → IsLibrary project u p name file ↔ IsWanted project u p name file
 

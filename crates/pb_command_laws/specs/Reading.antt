@@ -4,9 +4,9 @@ use Rattle.std.specs.List.{flat_map}
 use Rattle.std.specs.Str.{bytes_eq}
 use Rattle.pb_mini.specs.CommandLine.{takes_value}
 
--- What arguments say, in order. An option that takes a value has the next argument as its value.
--- Any other argument is a value without an option: the option's name is empty. The same is true of
--- an option at the end that lacks its value.
+-- What arguments say, in order. If an option takes a value, the next argument is its value. Any
+-- other argument is a value without an option: the option's name is empty. The same is true of an
+-- option at the end that lacks its value.
 abbrev pub said_by : List (List ℕ) → List (List ℕ × List ℕ)
 said_by [] = []
 said_by (word ∷ []) = ([], word) ∷ []

@@ -24,7 +24,7 @@ abbrev pub StartsCompiler : Setup → Project → Planned → Command → Type 0
 StartsCompiler setup project unit command = (command.program ≡ setup.rustc) × StartsFor setup project unit project.workspace.root command
 
 -- The command starts a script in the package's folder. The words of the runner come first, if there
--- is one, and then the script.
+-- is a runner, and then the script.
 abbrev pub StartsScript : Setup → Project → Planned → Package → Option (List ℕ) → Command → Type 0
 StartsScript setup project unit p file command = ((script : List ℕ) → file ≡ Some script → command.program ∷ command.words ≡ setup.runner ++ script ∷ []) × StartsFor setup project unit p.folder command
 

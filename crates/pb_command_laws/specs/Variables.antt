@@ -36,12 +36,12 @@ HasVariables command table = (name : List ℕ) → value_at name command.pairs �
 -- For every unit.
 
 -- The parts of a version: three numbers, and the texts after `-` and after `+`. The version of each
--- package has them.
+-- package has these parts.
 abbrev pub parts_of : List ℕ → ℕ × ℕ × ℕ × List ℕ × List ℕ
 parts_of version = result_unwrap_or (version_parts version) (0, 0, 0, [], [])
 
--- the variables about the builder and about the unit's package, and those that contain what the
--- package tells people about itself
+-- the variables about the builder and about the unit's package, and those with the package's texts
+-- for people
 abbrev pub package_table : Setup → Package → List (List ℕ × List ℕ)
 package_table setup p =
     (codes "CARGO", setup.tool) ∷ (codes "CARGO_MANIFEST_DIR", p.folder) ∷ (codes "CARGO_MANIFEST_PATH", p.manifest) ∷ (codes "CARGO_PKG_NAME", p.name)
@@ -60,8 +60,8 @@ variable_set _ = []
 
 -- The variables of a compile. The variables of every unit come first, then the name of the crate,
 -- and for a binary the binary's own name. `ran` is the output folder of the run that the unit
--- hears, if there is one. `said` are the lines of this run; the variables that they set come last,
--- and so replace earlier ones.
+-- hears, if there is one. `said` are the lines of this run; their variables come last, and so
+-- replace earlier variables.
 abbrev pub compile_table : Setup → Project → Planned → Package → List Directive → Option (List ℕ) → List (List ℕ × List ℕ)
 compile_table setup project unit p said ran =
     package_table setup p ++ (codes "CARGO_CRATE_NAME", crate_name_of project unit) ∷ row (codes "CARGO_BIN_NAME") (binary_name unit.unit.what) ++ row (codes "OUT_DIR") ran ++ flat_map variable_set said
@@ -94,8 +94,8 @@ handed_on project done index = option_map_or (λ links. passed links (said_at do
 
 -- The variables of a run. The variables of every unit come first, then what the run's package
 -- links, and `1` for each feature that is on. Then come the run's folder, the platform, the
--- settings of the package, the compiler and the compiler's flags. The metadata of the runs that
--- this run needs comes last, in plan order. `PROFILE` is `release` if the profile is `release` or
+-- settings of the package, the compiler and the compiler's flags. Last comes the metadata of the
+-- runs that this run needs, in plan order. `PROFILE` is `release` if the profile is `release` or
 -- inherits from it.
 abbrev pub run_table : Setup → Project → Planned → List (Option (List Directive)) → Package → List (List ℕ × List ℕ)
 run_table setup project unit done p =

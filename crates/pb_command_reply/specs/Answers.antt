@@ -33,8 +33,8 @@ use Rattle.pb_command_types.specs.Targets.{folder_of}
 abbrev pub is_too_long : List ℕ → Bool
 is_too_long bytes = nat_lt max_stream_bytes (length bytes)
 
--- The fault of how a child ended, if it has one. A stream that is too long comes first, and then a
--- status other than 0.
+-- The fault of the way in which a child ended, if there is one. First come streams that are too
+-- long, and then a status other than 0.
 abbrev pub ended_fault : Ended → Option UnitFault
 ended_fault e = if is_too_long e.stdout || is_too_long e.stderr then Some unit_fault.OutputTooLong else (if int_eq e.status (pos 0) then None else Some (unit_fault.Status e.status))
 
@@ -44,7 +44,7 @@ abbrev pub path_or_none : Result (List ℕ) PathFault → List (List ℕ)
 path_or_none (Ok path) = path ∷ []
 path_or_none (Err fault) = []
 
--- the path that a text spells from a folder, or none if the text has byte 0
+-- the path that a text spells from a folder, or no path if the text has byte 0
 unfoldable pub path_said : List ℕ → List ℕ → List (List ℕ)
 path_said folder text = path_or_none (joined folder text)
 
@@ -52,12 +52,12 @@ path_said folder text = path_or_none (joined folder text)
 abbrev pub paths_from : List ℕ → List (List ℕ) → List (List ℕ)
 paths_from folder texts = once (flat_map (path_said folder) texts)
 
--- the path is at or below the output folder of a unit that the command's unit reaches, so that the
--- reached unit stands for this path
+-- the path is at or below a folder that the command may read: the output folder of a unit that the
+-- command's unit reaches
 unfoldable pub is_covered : Command → List ℕ → Bool
 is_covered command path = list_any (λ folder. is_at_or_below folder path) command.reads
 
--- the path is in the target folder, and no folder that the command reads covers it
+-- the path is in the target folder, but not at or below a folder that the command may read
 unfoldable pub is_foreign : Command → List ℕ → Bool
 is_foreign command path = is_at_or_below command.target path && not (is_covered command path)
 
@@ -95,8 +95,8 @@ read_info (Some bytes) = if is_too_long bytes then Err unit_fault.NoDepInfo else
 abbrev pub inherited : Command → List (List ℕ) → List (List ℕ)
 inherited command names = filter (λ name. not (is_mentioned (map (λ (pair : List ℕ × List ℕ). pair.0) command.pairs) name)) names
 
--- the inputs that dep-info names: its paths, from the command's folder, and those of its variables
--- that the command does not set
+-- the inputs that dep-info names: its paths, which start at the command's folder, and its
+-- variables, without those that the command sets
 abbrev pub info_inputs : Command → DepInfo → Result (List InputName) UnitFault
 info_inputs command info = inputs_of command (paths_from command.folder info.words) (inherited command info.variables)
 
@@ -113,7 +113,7 @@ abbrev pub changed_variable : Directive → List (List ℕ)
 changed_variable (RerunIfEnvChanged name) = name ∷ []
 changed_variable _ = []
 
--- the inputs for these paths, from a folder, and these variables, without repeats
+-- the inputs for these paths, which start at a folder, and for these variables, without repeats
 abbrev pub marked_inputs : Command → List ℕ → List (List ℕ) → List (List ℕ) → Result (List InputName) UnitFault
 marked_inputs command folder paths names = inputs_of command (paths_from folder paths) (once names)
 
@@ -152,8 +152,8 @@ abbrev pub unless_fault : Option UnitFault → Result CheckedReply UnitFault →
 unless_fault None answered = answered
 unless_fault (Some fault) answered = Err fault
 
--- What a reply yields. The way in which the child ended is checked first. Then a run's lines or a
--- compile's dep-info are read. The inputs come last.
+-- What a reply yields. How the child ended is checked first. Then a run's lines or a compile's
+-- dep-info are read. The inputs come last.
 abbrev pub answered_of : Project → Planned → Command → Ended → Option (List ℕ) → Result CheckedReply UnitFault
 answered_of project unit command ended dep_info = unless_fault (ended_fault ended) (answered_by unit.unit.what command (folder_of project unit) ended dep_info)
 

@@ -59,7 +59,8 @@ abbrev pub library_types : Option Library → List CrateType
 library_types None = []
 library_types (Some library) = library.crate_types
 
--- the crate types that a unit is compiled to: those of the library, and `bin` for a binary or a script
+-- the crate types to which a unit is compiled: those of the library, and `bin` for a binary or a
+-- script
 abbrev pub crate_types : Option Library → What → List CrateType
 crate_types library Lib = library_types library
 crate_types library (Bin name) = crate_type.Bin ∷ []
@@ -102,7 +103,7 @@ file_by (Bin binary) folder name = file_in folder name
 file_by Script folder name = file_in folder name
 file_by Run folder name = None
 
--- the file that a unit's compile produces; a run produces none
+-- the file that a unit's compile produces; a run produces no file
 abbrev pub made_file_of : Project → Planned → Option (List ℕ)
 made_file_of project unit = file_by unit.unit.what unit.out (crate_name_of project unit)
 
@@ -110,7 +111,7 @@ abbrev pub dep_info_by : What → List ℕ → List ℕ → Option (List ℕ)
 dep_info_by Run folder name = None
 dep_info_by _ folder name = file_in folder (name ++ codes ".d")
 
--- the file `C.d`, in which a unit's compile reports what it has read; a run has none
+-- the file `C.d`, in which a unit's compile reports what it has read; a run has no such file
 abbrev pub dep_info_of : Project → Planned → Option (List ℕ)
 dep_info_of project unit = dep_info_by unit.unit.what unit.out (crate_name_of project unit)
 
@@ -165,7 +166,7 @@ said_in None = []
 said_in (Some None) = []
 said_in (Some (Some directives)) = directives
 
--- the directives of the run at an index of the plan, or none if no run has ended there
+-- the directives of the run at an index of the plan, or no directives if no run has ended there
 abbrev pub said_at : List (Option (List Directive)) → ℕ → List Directive
 said_at done index = said_in (slice_get done index)
 

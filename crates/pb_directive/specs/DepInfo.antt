@@ -27,7 +27,8 @@ joined a b = record { words = a.words ++ b.words; variables = a.variables ++ b.v
 
 -- ---- a rule
 
--- these bytes may follow the colon that ends a rule's outputs: they begin with a space, or there are none
+-- these bytes may follow the colon that ends a rule's outputs: they begin with a space, or there
+-- are no bytes
 abbrev pub ends_outputs : List ℕ → Bool
 ends_outputs [] = true
 ends_outputs (b ∷ bytes) = b == space
@@ -50,7 +51,8 @@ parts_of (b ∷ c ∷ bytes) =
 abbrev pub rule_words : List ℕ → List (List ℕ)
 rule_words bytes = filter (λ part. not (is_empty part)) (parts_of bytes)
 
--- The words that a rule names. A rule whose outputs do not end, or with byte 0 after its outputs, is refused.
+-- The words that a rule names. A rule is refused if no colon ends its outputs, or if byte 0 occurs
+-- after the outputs.
 abbrev pub rule_info : Option (List ℕ) → Result DepInfo Problem
 rule_info None = Err problem.BadValue
 rule_info (Some rest) = if has_byte 0 rest then Err problem.BadValue else Ok (only_words (rule_words rest))
@@ -85,8 +87,8 @@ line_info line = text_info (text_of (strip_carriage_return line))
 
 -- ---- a text
 
--- What the lines name, line by line, or the fault of the first line that has one. The first line of
--- the list has this number.
+-- What the lines name, line by line, or the fault of the first line with a fault. Lines are counted
+-- from `number`.
 abbrev pub info_from : ℕ → List (List ℕ) → Result DepInfo LineFault
 info_from number [] = Ok nothing
 info_from number (line ∷ lines) =
@@ -106,11 +108,11 @@ all_names_of bytes = info_from 1 (lines_of bytes)
 abbrev pub dep_info_of : List ℕ → Result DepInfo LineFault
 dep_info_of bytes = all_names_of bytes >>= (λ info. Ok (each_once info))
 
--- the old names, to which those that come after them are added
+-- the old names, to which the later names are added
 abbrev pub with_info : DepInfo → DepInfo → DepInfo
 with_info old more = record { words = mentioned_all old.words more.words; variables = mentioned_all old.variables more.variables }
 
--- what a line names was added to the old names, unless memory ran out
+-- the names in a line were added to the old names, unless memory ran out
 abbrev pub AddsInfo : {U : Type 0} → Result U Problem → DepInfo → DepInfo → Result DepInfo Problem → Type 0
 AddsInfo result old new answer = MatchResult result (λ _. (answer >>= (λ more. Ok (with_info old more))) ≡ Ok new) (λ e. e ≢ problem.OutOfMemory → answer ≡ Err e)
 

@@ -84,7 +84,8 @@ flags_of (word ∷ next ∷ words) =
 abbrev pub NextName : Result (List ℕ) Problem → List (List ℕ) → List (List ℕ) → Type 0
 NextName result old new = MatchResult result (λ name. old ≡ name ∷ new) (λ e. e ≢ problem.OutOfMemory → (e ≡ problem.BadFlag) × (old ≡ []))
 
--- the flag that begins with this word was taken, and the words of `new` are left, unless memory ran out
+-- the words of one flag, from this word on, were taken, and the words of `new` are left, unless
+-- memory ran out
 abbrev pub TakesFlag : Result Directive Problem → List ℕ → List (List ℕ) → List (List ℕ) → Type 0
 TakesFlag result word old new = MatchResult result (λ flag. flags_of (word ∷ old) ≡ flags_of new >>= (λ more. Ok (flag ∷ more))) (λ e. e ≢ problem.OutOfMemory → flags_of (word ∷ old) ≡ Err e)
 
@@ -121,7 +122,7 @@ new_key_of name =
 abbrev pub one : Directive → Result (List Directive) Problem
 one directive = Ok (directive ∷ [])
 
--- the directives that a key with a value means
+-- the directives of a line that has this key and this value
 abbrev pub directives_at : Key → List ℕ → Result (List Directive) Problem
 directives_at key.RerunIfChanged value = filled value >>= (λ path. one (says.RerunIfChanged path))
 directives_at key.RerunIfEnvChanged value = variable value >>= (λ name. one (says.RerunIfEnvChanged name))
@@ -177,14 +178,14 @@ abbrev pub text_directives : Option (List ℕ) → Result (List Directive) Probl
 text_directives None = Ok []
 text_directives (Some text) = new_line (after_prefix (codes "cargo::") text) text
 
--- the directives that a line means, or its fault
+-- the directives of a line, or the line's fault
 abbrev pub line_directives : List ℕ → Result (List Directive) Problem
 line_directives line = text_directives (text_of (trimmed line))
 
 -- ---- a text
 
--- The directives of these lines, in order, or the fault of the first line that has one. The first
--- line of the list has this number.
+-- The directives of these lines, in order, or the fault of the first line with a fault. Lines are
+-- counted from `number`.
 abbrev pub directives_from : ℕ → List (List ℕ) → Result (List Directive) LineFault
 directives_from number [] = Ok []
 directives_from number (line ∷ lines) =
@@ -192,7 +193,7 @@ directives_from number (line ∷ lines) =
     directives_from (number + 1) lines >>= (λ more.
     Ok (here ++ more)))
 
--- the directives that a text means, or its first fault
+-- the directives of a text, or the text's first fault
 abbrev pub directives_of : List ℕ → Result (List Directive) LineFault
 directives_of bytes = directives_from 1 (lines_of bytes)
 

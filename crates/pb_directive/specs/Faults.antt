@@ -6,7 +6,7 @@ use Rattle.pb_directive.specs.declared.fault.Problem.TheVariants as problem
 use Rattle.pb_directive.specs.declared.fault.LineFault.{LineFault}
 use Rattle.pb_directive.specs.declared.fault.LineFault.TheVariants as fault
 
--- the fault of a text for a line's problem and the line's number
+-- a line's problem as a fault of the text, with the line's number
 abbrev pub fault_at : ℕ → Problem → LineFault
 fault_at line problem.NotText = fault.NotText line
 fault_at line problem.UnknownKey = fault.UnknownKey line

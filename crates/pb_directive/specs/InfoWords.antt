@@ -17,7 +17,7 @@ IsValue (b ∷ value) = b ≡ 61
 
 -- What a line without its carriage return names. An empty line names nothing. The line `#
 -- env-dep:NAME` or `# env-dep:NAME=VALUE` names a variable. Any other line with `#` names nothing.
--- A rule names the words after its outputs, which must have no byte 0.
+-- A rule names the words after its outputs; these words must have no byte 0.
 pub data IsInfo (text : List ℕ) : Result DepInfo Problem → Type 0 where
   raw : (is : is_utf8 text ≡ false) → IsInfo text (Err problem.NotText)
   empty : (is : text ≡ []) → IsInfo text (Ok nothing)
@@ -27,6 +27,6 @@ pub data IsInfo (text : List ℕ) : Result DepInfo Problem → Type 0 where
   rule : (utf8 : is_utf8 text ≡ true) (some : text ≢ []) (no_comment : (rest : List ℕ) → text ≢ hash ∷ rest) (rest : List ℕ) (behind : after_outputs text ≡ Some rest) (plain : IsPlain rest) → IsInfo text (Ok record { words = rule_words rest; variables = [] })
   rule_refused : (utf8 : is_utf8 text ≡ true) (some : text ≢ []) (no_comment : (rest : List ℕ) → text ≢ hash ∷ rest) (none : (rest : List ℕ) → after_outputs text ≡ Some rest → IsPlain rest → ⊥) → IsInfo text (Err problem.BadValue)
 
--- the reader returns this for a line if and only if it is what the line names
+-- the reader has this answer for a line if and only if `IsInfo` is true of the line and this answer
 abbrev pub InfosSay : Type 0
 InfosSay = (line : List ℕ) (answer : Result DepInfo Problem) → (line_info line ≡ answer) ↔ IsInfo (strip_carriage_return line) answer

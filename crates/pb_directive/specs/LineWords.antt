@@ -48,8 +48,8 @@ pub data IsSaid : List ℕ → List ℕ → List Directive → Type 0 where
   env : (name value : List ℕ) (some : name ≢ []) (whole : IsUncut name) (is : IsPlain (name ++ equals ∷ value)) → IsSaid (codes "rustc-env") (name ++ equals ∷ value) (says.Env name value ∷ [])
   warning : (text : List ℕ) → IsSaid (codes "warning") text (says.Warning text ∷ [])
 
--- A key with this value means these directives after `cargo::`. There the keys `metadata` and
--- `error` have a meaning, too.
+-- A key with this value means these directives after `cargo::`. After `cargo::`, the keys
+-- `metadata` and `error` have a meaning, too.
 pub data IsSaidNew (key value : List ℕ) (said : List Directive) : Type 0 where
   known : (is : IsSaid key value said) → IsSaidNew key value said
   metadata : (is_key : key ≡ codes "metadata") (name text : List ℕ) (some : name ≢ []) (whole : IsUncut name) (is : IsPlain value) (parts : value ≡ name ++ equals ∷ text) (same : said ≡ says.Metadata name text ∷ []) → IsSaidNew key value said
@@ -59,7 +59,8 @@ pub data IsSaidNew (key value : List ℕ) (said : List Directive) : Type 0 where
 abbrev pub IsUnknown : (List ℕ → List ℕ → List Directive → Type 0) → List ℕ → Type 0
 IsUnknown Says key = (value : List ℕ) (said : List Directive) → Says key value said → ⊥
 
--- A key with this value means these directives after `cargo:`. There a key without another meaning is metadata.
+-- A key with this value means these directives after `cargo:`. After `cargo:`, a key without
+-- another meaning is metadata.
 pub data IsSaidOld (key value : List ℕ) (said : List Directive) : Type 0 where
   known : (is : IsSaid key value said) → IsSaidOld key value said
   metadata : (other : IsUnknown IsSaid key) (is : IsFilled key) (plain : IsPlain value) (same : said ≡ says.Metadata key value ∷ []) → IsSaidOld key value said
@@ -90,6 +91,7 @@ pub data MeansLine (line : List ℕ) : Result (List Directive) Problem → Type 
   old_refused : (key value : List ℕ) (at : IsSetting line (codes "cargo:") key value) (is_old : IsOld key) (unsaid : (said : List Directive) → IsSaidOld key value said → ⊥) → MeansLine line (Err (problem_at key value))
   silent : (no_new : (setting : List ℕ) → is_utf8 (trimmed line) ≡ true → trimmed line ≡ codes "cargo::" ++ setting → ⊥) (no_old : (key value : List ℕ) → IsSetting line (codes "cargo:") key value → ⊥) → MeansLine line (Ok [])
 
--- the reader returns this for a line if and only if it is what the line means
+-- the reader has this answer for a line if and only if `MeansLine` is true of the line and this
+-- answer
 abbrev pub LinesSay : Type 0
 LinesSay = (line : List ℕ) (answer : Result (List Directive) Problem) → (line_directives line ≡ answer) ↔ MeansLine line answer

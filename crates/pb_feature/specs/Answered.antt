@@ -20,7 +20,7 @@ is_owner_at ps text p = owner_is (slice_get ps p) text
 abbrev pub is_answered : List Package → List ℕ → List ℕ → Bool
 is_answered ps places text = list_any (is_owner_at ps text) places
 
--- a requested text is a feature of none of the selected packages
+-- a requested text is not a feature of any selected package
 pub record IsUnanswered (ps : List Package) (selection : Selection) : Type 0 where
   pub text : List ℕ
   pub asked : Contains selection.features text

@@ -10,9 +10,11 @@ use Rattle.pb_workspace_types.specs.declared.options.Selection.{Selection}
 use Rattle.pb_workspace_types.specs.declared.workspace.Workspace.{Workspace}
 use Rattle.pb_workspace_types.specs.Workspace.{side_of, HasEntry, ListsItem, HasFeature}
 
--- A fact about the package with the index `p` on a side. The package is on, or has this feature.
--- The package's entry with this index is enabled, or the entry requests this feature of the package
--- to which it leads.
+-- A fact about the package with the index `p`, on a side.
+-- - `On`: the package is on.
+-- - `Has`: the package has this feature.
+-- - `Enabled`: the package's entry with this index is enabled.
+-- - `Asked`: this entry requests this feature of the package to which it leads.
 pub data Fact : Type 0 where
   On : (p : ℕ) (s : Side) → Fact
   Has : (p : ℕ) (s : Side) (feature : List ℕ) → Fact
@@ -33,27 +35,28 @@ pub data IsChosen (ws : Workspace) (selection : Selection) (p : ℕ) : List ℕ 
   default : (kept : selection.no_default_features ≡ false) (there : HasFeature ws p (codes "default")) → IsChosen ws selection p (codes "default")
 
 pub data Holds (ws : Workspace) (selection : Selection) : Fact → Type 0 where
-  -- a selected package is on for the target, where it has the features that are chosen for it
+  -- a selected package is on for the target; there it has the features that are chosen for it
   selected : (p : ℕ) (is : Contains selection.packages p) → Holds ws selection (On p Target)
   chosen : (p : ℕ) (feature : List ℕ) (is : Contains selection.packages p) (chosen : IsChosen ws selection p feature) → Holds ws selection (Has p Target feature)
-  -- if a package is on, its entries that are not optional are enabled
+  -- a package that is on enables its entries that are not optional
   required : (p : ℕ) (s : Side) (n : ℕ) (e : Entry) (on : Holds ws selection (On p s)) (has : HasEntry ws p n e) (needed : e.optional ≡ false) → Holds ws selection (Enabled p s n)
-  -- if a package has a feature, it also has the features of its own that this feature lists
+  -- if a package has a feature, it also has those of its own features that this feature lists
   listed : (p : ℕ) (s : Side) (f g : List ℕ) (on : Holds ws selection (Has p s f)) (lists : ListsItem ws p f (Own g)) → Holds ws selection (Has p s g)
-  -- The item `dep:N` of a feature enables the entries N. The feature that an optional entry makes
-  -- has this item.
+  -- The item `dep:N` of a feature enables the entries N. An optional entry makes a feature with
+  -- this item.
   named : (p : ℕ) (s : Side) (f : List ℕ) (n : ℕ) (e : Entry) (on : Holds ws selection (Has p s f)) (lists : ListsItem ws p f (Dependency e.key)) (has : HasEntry ws p n e) → Holds ws selection (Enabled p s n)
   -- The item `N/F` of a feature enables the entries N and requests the feature F of their packages.
   -- If an entry N is optional and there is a feature N, the package also has the feature N.
   of_enables : (p : ℕ) (s : Side) (f g : List ℕ) (n : ℕ) (e : Entry) (on : Holds ws selection (Has p s f)) (lists : ListsItem ws p f (Of e.key g)) (has : HasEntry ws p n e) → Holds ws selection (Enabled p s n)
   of_asks : (p : ℕ) (s : Side) (f g : List ℕ) (n : ℕ) (e : Entry) (on : Holds ws selection (Has p s f)) (lists : ListsItem ws p f (Of e.key g)) (has : HasEntry ws p n e) → Holds ws selection (Asked p s n g)
   of_gives : (p : ℕ) (s : Side) (f g : List ℕ) (n : ℕ) (e : Entry) (on : Holds ws selection (Has p s f)) (lists : ListsItem ws p f (Of e.key g)) (has : HasEntry ws p n e) (is_optional : e.optional ≡ true) (there : HasFeature ws p e.key) → Holds ws selection (Has p s e.key)
-  -- the item `N?/F` of a feature requests the feature F of the packages of those entries N that are enabled
+  -- the item `N?/F` of a feature requests the feature F of the package to which an enabled entry N
+  -- leads
   of_enabled : (p : ℕ) (s : Side) (f g : List ℕ) (n : ℕ) (e : Entry) (on : Holds ws selection (Has p s f)) (lists : ListsItem ws p f (OfEnabled e.key g)) (has : HasEntry ws p n e) (enabled : Holds ws selection (Enabled p s n)) → Holds ws selection (Asked p s n g)
-  -- If an entry is enabled, the package to which it leads is on. A build entry leads to the host's
+  -- An enabled entry turns on the package to which it leads. A build entry leads to the host's
   -- side, any other entry to the same side. The package has the features that the entry lists, and
-  -- those that features request through this entry. The package also has `default`, if there is
-  -- such a feature, unless the entry says otherwise.
+  -- those that features request through this entry. If the package has a feature `default`, this
+  -- feature is on for it, too, unless the entry turns default features off.
   leads : (p : ℕ) (s : Side) (n : ℕ) (e : Entry) (enabled : Holds ws selection (Enabled p s n)) (has : HasEntry ws p n e) → Holds ws selection (On e.to (side_of e.kind s))
   with_listed : (p : ℕ) (s : Side) (n : ℕ) (e : Entry) (f : List ℕ) (enabled : Holds ws selection (Enabled p s n)) (has : HasEntry ws p n e) (is : Contains e.features f) → Holds ws selection (Has e.to (side_of e.kind s) f)
   with_asked : (p : ℕ) (s : Side) (n : ℕ) (e : Entry) (f : List ℕ) (enabled : Holds ws selection (Enabled p s n)) (asked : Holds ws selection (Asked p s n f)) (has : HasEntry ws p n e) → Holds ws selection (Has e.to (side_of e.kind s) f)

@@ -18,15 +18,16 @@ use Rattle.pb_feature.specs.declared.fault.FeatureFault.{FeatureFault}
 use Rattle.pb_feature.specs.declared.fault.FeatureFault.TheVariants.{NoSuchFeature, NoSuchDependency, NotOptional}
 use Rattle.pb_feature.specs.Facts.{Has, Holds, of_package}
 
--- Some entry, in either table, has this name. `is_optional_entry` says that some optional entry has
--- this name.
+-- Some entry of `[dependencies]` or `[build-dependencies]` has this name. `is_optional_entry` says
+-- that some optional entry has this name.
 abbrev pub is_entry : Package → List ℕ → Bool
 is_entry p name = list_any (λ (e : Entry). bytes_eq name e.key) p.entries
 
 abbrev pub is_optional_entry : Package → List ℕ → Bool
 is_optional_entry p name = list_any (λ (e : Entry). bytes_eq name e.key && e.optional) p.entries
 
--- the fault of a name that no entry has: there is no such dependency, unless `[dev-dependencies]` has the name
+-- the fault of a name that no entry has: `NoSuchDependency`, or no fault if `[dev-dependencies]`
+-- has the name
 abbrev pub absent_fault : Package → List ℕ → Option FeatureFault
 absent_fault p name = if list_any (bytes_eq name) p.development then None else Some NoSuchDependency
 

@@ -29,13 +29,14 @@ marked_part marks bs p s owner = record {
 abbrev pub marked_sides : List Bool → List ℕ → ℕ → Package → List Sides
 marked_sides marks bs p owner = (record { target = marked_part marks bs p Target owner; host = marked_part marks bs p Host owner }) ∷ []
 
--- the number of a missing feature is marked for one of the first `count` packages
+-- for one of the first `count` packages, on some side, the number of a missing feature is marked
 pub record IsMarkedMissing (marks : List Bool) (bs : List ℕ) (count : ℕ) : Type 0 where
   pub place : ℕ
   pub side : Side
   pub below : place < count
   pub marked : is_on marks (has bs place side 0) ≡ true
 
--- the number of a missing feature is marked for none of the first `count` packages
+-- the number of a missing feature is not marked for any of the first `count` packages, on either
+-- side
 abbrev pub NoneMarkedMissing : List Bool → List ℕ → ℕ → Type 0
 NoneMarkedMissing marks bs count = (p : ℕ) → p < count → (is_on marks (has bs p Target 0) ≡ false) × (is_on marks (has bs p Host 0) ≡ false)

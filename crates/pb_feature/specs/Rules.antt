@@ -34,8 +34,8 @@ there_rules bs from q t test k = if test then (if k == 0 then [] else alone from
 abbrev pub given_rules : List Package → List ℕ → ℕ → ℕ → Side → ℕ → List ℕ → List Rule
 given_rules ps bs from q t _ f = alone from (has bs q t (slot_at ps q f)) ∷ []
 
--- the rules of an enabled entry: the package to which it leads is on, and has the features that the
--- entry requests
+-- the rules by which an enabled entry turns on the package to which it leads, and the features that
+-- it requests
 abbrev pub enabled_rules : List Package → List ℕ → ℕ → Side → Entry → List Rule
 enabled_rules ps bs from t e =
     (alone from (on bs e.to t) ∷ [])

@@ -23,7 +23,7 @@ abbrev pub enabled_of : Option Sides → Side → ℕ → Bool
 enabled_of None s n = false
 enabled_of (Some sides) s n = slice_index_or (part_of sides s).enabled n false
 
--- the package at an index is on, on a side
+-- on this side, the package at this index is on
 abbrev pub is_active : Features → ℕ → Side → Bool
 is_active features p s = active_of (slice_get features.packages p) s
 
@@ -31,6 +31,6 @@ is_active features p s = active_of (slice_get features.packages p) s
 abbrev pub features_at : Features → ℕ → Side → List (List ℕ)
 features_at features p s = names_of (slice_get features.packages p) s
 
--- the entry at an index of the package at an index is enabled on a side
+-- on this side, the entry with the index `n` of the package with the index `p` is enabled
 abbrev pub is_enabled : Features → ℕ → Side → ℕ → Bool
 is_enabled features p s n = enabled_of (slice_get features.packages p) s n

@@ -1,4 +1,4 @@
--- The index of rules. For each thing it lists what else a rule needs and what the rule then yields.
+-- The index of rules lists, for each thing, what else a rule needs and what the rule then yields.
 -- Only private functions need these definitions.
 use Rattle.std.specs.Prelude.{◌≡◌, ◌⊎◌, ◌↔◌, ◌<◌, ◌≤◌, ◌+◌, ◌==◌, ℕ, zero, suc, Bool, IsTrue, List, [], ◌∷◌, ◌++◌, Option, Some, None, Contains, length, slice_get, slice_index_or, slice_set, if◌then◌else◌}
 use Rattle.pb_graph.specs.declared.table.Rule.{Rule}
@@ -37,13 +37,13 @@ with_rule s r = if r.first == r.second then with_link s r.first r.second r.gives
 abbrev pub links_of : Rule → ℕ
 links_of r = if r.first == r.second then 1 else 2
 
--- each link is about things below `n`, and its `next` is lower than its own number
+-- in each link, `with` and `gives` are below `n`, and `next` is below the link's own number
 pub record IsIndexed (n : ℕ) (links : List Link) : Type 0 where
   pub with : (k : ℕ) (l : Link) → link_at links k ≡ Some l → l.with < n
   pub gives : (k : ℕ) (l : Link) → link_at links k ≡ Some l → l.gives < n
   pub lower : (k : ℕ) (l : Link) → link_at links k ≡ Some l → l.next < k
 
--- `given` lists exactly what the links from `head` on yield if the other thing that they need is known
+-- `given` lists what the links from `head` on yield; only links whose `with` is known count
 pub record IsWalked (known : ℕ → Bool) (links : List Link) (head : ℕ) (given : List ℕ) : Type 0 where
   pub sound : (z : ℕ) → Contains given z → (l : Link) × IsRead links head l × IsTrue (known l.with) × (l.gives ≡ z)
   pub whole : (l : Link) → IsRead links head l → IsTrue (known l.with) → Contains given l.gives
@@ -52,7 +52,7 @@ pub record IsWalked (known : ℕ → Bool) (links : List Link) (head : ℕ) (giv
 abbrev pub either_way : List Rule → ℕ → ℕ → ℕ → Type 0
 either_way rules x y z = joined_by rules x y z ⊎ joined_by rules y x z
 
--- the links say that `x` and `y` together yield `z` if and only if `Says` says so
+-- by the links, `x` and `y` together yield `z` if and only if `Says` is true of `x`, `y` and `z`
 pub record IsIndex (n : ℕ) (Says : ℕ → ℕ → ℕ → Type 0) (heads : List ℕ) (links : List Link) : Type 0 where
   pub long : length heads ≡ n
   pub within : (x : ℕ) → head_at heads x ≤ length links

@@ -52,8 +52,8 @@ pub record IsCrowd (nodes : List Node) (roots : List ℕ) (most : ℕ) : Type 0 
   pub order : AllPairs (λ u v. IsBelow (key_at nodes u) (key_at nodes v)) found
   pub many : most < length found
 
--- The reason why there is no order is a circle. If there is no circle, it is that too many nodes
--- are reached. Memory may run out at any time.
+-- The reason why there is no order is a circle. If there is no circle, the reason is that too many
+-- nodes are reached. Memory may run out at any time.
 abbrev pub IsWhy : List Node → List ℕ → ℕ → OrderFault → Type 0
 IsWhy nodes roots most OutOfMemory = Unit {0}
 IsWhy nodes roots most (Circle circle) = IsCircle nodes roots circle

@@ -17,7 +17,7 @@ IsMarked marks v = slice_index_or marks v false ≡ true
 abbrev pub unmarked : List Bool → ℕ
 unmarked marks = count_by not marks
 
--- The first `count` nodes of a list have been marked. The nodes that were not marked before are now waiting.
+-- The first `count` nodes of a list have been marked. The nodes not marked before are now waiting.
 pub record Marked (list : List ℕ) (count : ℕ) (old_marks : List Bool) (old_waiting : List ℕ) (marks : List Bool) (waiting : List ℕ) : Type 0 where
   pub long : length marks ≡ length old_marks
   pub each : (k : ℕ) → k < count → IsMarked marks (slice_index_or list k 0)
@@ -32,7 +32,7 @@ pub record Marked (list : List ℕ) (count : ℕ) (old_marks : List Bool) (old_w
 abbrev pub AreClear : List Bool → Type 0
 AreClear marks = (v : ℕ) → IsMarked marks v → ⊥
 
--- each node that is still marked is in the list at index `count` or later
+-- each node still marked is in the list at index `count` or later
 pub record Clearing (list : List ℕ) (count : ℕ) (old_marks marks : List Bool) : Type 0 where
   pub long : length marks ≡ length old_marks
   pub left : (v : ℕ) → IsMarked marks v → (k : ℕ) × (count ≤ k) × (k < length list) × (slice_index_or list k 0 ≡ v)
@@ -44,7 +44,7 @@ pub record IsFound (nodes : List Node) (roots : List ℕ) (marks : List Bool) (f
   pub same : (v : ℕ) → Contains found v ↔ IsMarked marks v
   pub count : length found + unmarked marks ≡ length nodes
 
--- `found` lists each node that the roots reach once
+-- `found` lists the nodes that the roots reach, each once
 abbrev pub AreReached : List Node → List ℕ → List ℕ → Type 0
 AreReached nodes roots found = (marks : List Bool) × IsFound nodes roots marks found
 
@@ -65,8 +65,8 @@ pub record AreLevels (nodes : List Node) (list levels : List ℕ) : Type 0 where
   pub long : length levels ≡ length nodes
   pub each : (v : ℕ) → Contains list v → slice_index levels v ≡ above (map (slice_index levels) (needs_at nodes v))
 
--- The extents are sorted by their counts. No node of an extent reaches itself. Whatever such a node
--- needs is the node of an extent, too.
+-- The extents are sorted by their counts. No node with an extent reaches itself. Each node that
+-- such a node needs has an extent, too.
 pub record AreRising (nodes : List Node) (extents : List Extent) : Type 0 where
   pub each : All (IsExtent nodes) extents
   pub rising : IsNonDecreasingBy (λ e. e.count) extents
@@ -96,7 +96,7 @@ pub record AreRanked (nodes : List Node) (list levels : List ℕ) (ranks : List 
 
 -- The steps of the order.
 
--- The table `places` has, for the node of each of the first `count` ranks, the index of that rank.
+-- for each of the first `count` ranks, the table `places` has the rank's index at the rank's node
 pub record PlacesTell (nodes : List Node) (ranks : List Rank) (count : ℕ) (places : List ℕ) : Type 0 where
   pub long : length places ≡ length nodes
   pub tell : (k : ℕ) (r : Rank) → k < count → slice_get ranks k ≡ Some r → slice_index places r.node ≡ k

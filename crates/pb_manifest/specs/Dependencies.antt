@@ -51,8 +51,8 @@ version_and_workspace ms =
     workspace_at ms >>= (λ inherited.
     Ok version))
 
--- The path of a package's own entry. Without `workspace = true` a path is required. With it a
--- written path has no effect.
+-- The path of a package's own entry. With `workspace = true` a written path has no effect. Without
+-- `workspace = true` a path is required.
 abbrev pub own_path : Bool → Option Text → Read (Option Text)
 own_path true path = Ok None
 own_path false None = Err UnsupportedSource
@@ -68,8 +68,8 @@ last_keys ms =
     version_and_workspace ms >>= (λ version.
     Ok record { path = path; version = version }))))
 
--- The path of an entry of `[workspace.dependencies]`, which may have none. If the entry has `git`
--- or `registry`, a path has no effect.
+-- The path of an entry of `[workspace.dependencies]`, which may have no path. If the entry has
+-- `git` or `registry`, a path has no effect.
 abbrev pub supported_path : Members → Option Text → Option Text
 supported_path ms path = if has key.Git ms || has key.Registry ms then None else path
 
@@ -102,7 +102,8 @@ dependency_keys name ms =
     last_keys ms >>= (λ b.
     Ok record { key = name; source = source_of a.default_features a.package b.version b.path; optional = a.optional; features = a.features }))
 
--- A package's own entry, written as a version or as a table. A version is refused, because it has no path.
+-- A package's own entry, written as a version or as a table. A version is refused, because such an
+-- entry has no path.
 abbrev pub dependency_from : Key → Text → Option Text → Option Members → Read Dependency
 dependency_from k name (Some version) found = Err UnsupportedSource
 dependency_from k name None (Some ms) = dependency_keys name ms

@@ -30,7 +30,7 @@ whole_item text (Some parts) = dependency_item parts.0 parts.1
 abbrev pub item_of : Text → Text → Read FeatureItem
 item_of name feature = if is_name name && is_feature_name feature then Ok (item.Of name feature) else Err BadFeature
 
--- An item of the form `N?/F`. Nothing may stand between `?` and `/`.
+-- An item of the form `N?/F`. The text between `?` and `/` must be empty.
 abbrev pub item_of_enabled : Text → Text → Text → Read FeatureItem
 item_of_enabled name between feature =
     if length between == 0 && is_name name && is_feature_name feature then Ok (item.OfEnabled name feature) else Err BadFeature

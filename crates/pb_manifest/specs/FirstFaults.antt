@@ -20,7 +20,7 @@ use Rattle.pb_manifest_types.specs.declared.fault.ManifestFault.{ManifestFault}
 use Rattle.pb_manifest_types.specs.declared.key.Key.{Key}
 use Rattle.pb_manifest_types.specs.declared.key.Key.TheVariants as key
 
--- the fault that reading a value returns, if it returns one
+-- the fault with which a value was read, if there is one
 abbrev pub told : {A : Type 0} → Read A → Option ManifestFault
 told (Ok x) = None
 told (Err fault) = Some fault
@@ -97,7 +97,7 @@ faults_of_dependency ms =
     ∷ []
 
 -- The keys of an entry of `[workspace.dependencies]`, and their faults. Here `git` and `registry`
--- are no faults.
+-- are not faults.
 abbrev pub faults_of_shared_dependency : Members → List KeyFault
 faults_of_shared_dependency ms =
     (key.DefaultFeatures, told (truth_at key.DefaultFeatures ms))

@@ -22,7 +22,7 @@ use Rattle.pb_manifest_types.specs.declared.package.Edition.TheVariants.{E2015}
 use Rattle.pb_manifest_types.specs.declared.package.Package.{Package}
 use Rattle.pb_manifest_types.specs.declared.target.Binary.{Binary}
 
--- the name is no key of a rule
+-- no rule names a key of this name
 abbrev pub IsUnnamed : Text → Type 0
 IsUnnamed name = (k : Key) → spelled k ≢ name
 
@@ -39,7 +39,7 @@ PassesOver read = (name : Text) (ms : Members) → IsUnnamed name → read (with
 abbrev pub OrdersTables : Type 0
 OrdersTables = (bytes : List ℕ) (ms : Members) → document_in bytes ≡ Ok ms → members_are_sorted ms ≡ true
 
--- if the keys of all tables are in ascending order, so are those of the table at a key
+-- if the keys of all tables are in ascending order, the same is true inside the table at a key
 abbrev pub OrdersInnerTables : Type 0
 OrdersInnerTables = (k : Key) (ms inner : Members) → members_are_sorted ms ≡ true → table_at k ms ≡ Ok (Some inner) → members_are_sorted inner ≡ true
 
@@ -51,7 +51,7 @@ OrdersKeys = (ms : Members) → members_are_sorted ms ≡ true → Ascend (keys_
 abbrev pub RefusesLarge : Type 0
 RefusesLarge = (bytes : List ℕ) → max_manifest_bytes < length bytes → manifest_of bytes ≡ Err TooLarge
 
--- each manifest that was read is as `IsManifest` promises
+-- `IsManifest` is true of each manifest that was read
 abbrev pub KeepsPromises : Type 0
 KeepsPromises = (bytes : List ℕ) (m : Manifest) → manifest_of bytes ≡ Ok m → IsManifest m
 

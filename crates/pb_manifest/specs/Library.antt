@@ -26,11 +26,11 @@ crate_type_of d = text_of key.CrateType d >>= crate_type_in
 abbrev pub crate_types_of : Data → Read (List CrateType)
 crate_types_of d = array_of key.CrateType d >>= each crate_type_of
 
--- the crate types that `[lib]` lists, or none if the key is missing
+-- the crate types that `[lib]` lists, or no crate types if the key is missing
 abbrev pub crate_types_at : Members → Read (List CrateType)
 crate_types_at ms = optional crate_types_of (value_at key.CrateType ms) >>= (λ found. Ok (listed found))
 
--- the name that `[lib]` writes for its crate, if it writes a name
+-- the crate name that is written in `[lib]`, if there is one
 abbrev pub crate_name_in : Option Text → Read (Option Text)
 crate_name_in None = Ok None
 crate_name_in (Some text) = if is_crate_name text then Ok (Some text) else Err BadName

@@ -13,8 +13,8 @@ use Rattle.pb_manifest_types.specs.declared.key.Key.TheVariants as key
 abbrev pub SameAt : List Key → Members → Members → Type 0
 SameAt keys ms ns = AllByRecursion (λ k. value_at k ms ≡ value_at k ns) keys
 
--- Reading a table looks at these keys only. So two tables that have the same values at these keys
--- are read with the same result.
+-- Reading a table looks at these keys only. So if two tables have the same values at these keys,
+-- reading them has the same result.
 abbrev pub DependsOnlyOn : {A : Type 0} → List Key → (Members → Read A) → Type 0
 DependsOnlyOn keys read = (ms ns : Members) → SameAt keys ms ns → read ms ≡ read ns
 

@@ -1,5 +1,5 @@
--- How the table `[profile]` is read (The Cargo Book, Profiles). Each value that the rules do not
--- allow here is refused as `BadProfile`.
+-- How the table `[profile]` is read (The Cargo Book, Profiles). If the rules do not allow a value
+-- here, it is refused as `BadProfile`.
 use Rattle.std.specs.Prelude.{ℤ, pos, negsuc, List, [], ◌∷◌, Bool, not, ◌&&◌, ◌||◌, if◌then◌else◌, nat_lt, Option, Some, None, Ok, Err, codes, is_some, option_and_then, option_map}
 use Rattle.std.specs.Str.{bytes_eq}
 use Rattle.toml.specs.Data.{Data, Members, as_str, as_bool, as_integer, as_table}
@@ -73,8 +73,8 @@ build_override_at ms = optional profile_table (value_at key.BuildOverride ms) >>
 unfoldable pub is_built_in : Text → Bool
 is_built_in name = bytes_eq name (codes "dev") || bytes_eq name (codes "release") || bytes_eq name (codes "test") || bytes_eq name (codes "bench")
 
--- The profile is built in, or may be a custom profile. A custom profile has `inherits`, and a name
--- with the letters of package names that is not `debug`.
+-- The profile is built in, or may be a custom profile. A custom profile has `inherits`. Its name
+-- has the letters of package names, and is not `debug`.
 unfoldable pub may_be_profile : Text → Option Text → Bool
 may_be_profile name inherits = is_built_in name || (is_name name && not (bytes_eq name (codes "debug")) && is_some inherits)
 

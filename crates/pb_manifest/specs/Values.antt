@@ -117,7 +117,7 @@ abbrev pub keys_in : Option Members → List Text
 keys_in None = []
 keys_in (Some ms) = keys_of ms
 
--- the keys of the table at a key, or none if there is no table
+-- the keys of the table at a key, or no keys if there is no table
 abbrev pub keys_at : Key → Members → List Text
 keys_at k ms = keys_in (table_in (value_at k ms))
 

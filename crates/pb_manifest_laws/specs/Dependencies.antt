@@ -35,7 +35,7 @@ abbrev pub IsSource : Members → Source → Type 0
 IsSource ms (own.Workspace default) = (get_member (codes "workspace") ms ≡ Some (boolean true)) × HoldsOr false boolean (get_member (codes "default-features") ms) default × HasIdleKeys ms
 IsSource ms (own.Path s) = (get_member (codes "workspace") ms ≡ None) × IsPathSource ms s
 
--- an entry of `[dependencies]` or `[build-dependencies]` means this dependency; the entry is a
+-- an entry of `[dependencies]` or `[build-dependencies]` describes this dependency; the entry is a
 -- table without `git` and `registry`
 pub record IsDependencyEntry (name : List ℕ) (ms : Members) (x : Dependency) : Type 0 where
   pub key : x.key ≡ name
@@ -53,7 +53,7 @@ IsSharedSource ms (shared.Path s) = IsPathSource ms s × (get_member (codes "git
 IsSharedSource ms shared.Unsupported =
     HasIdleKeys ms × ((default : Option Bool) × OptionalMeans boolean (get_member (codes "default-features") ms) default) × (get_member (codes "git") ms ≡ None → get_member (codes "registry") ms ≡ None → get_member (codes "path") ms ≡ None)
 
--- an entry of `[workspace.dependencies]` that is a table means this dependency
+-- an entry of `[workspace.dependencies]` that is a table describes this dependency
 pub record IsSharedTable (name : List ℕ) (ms : Members) (x : WorkspaceDependency) : Type 0 where
   pub key : x.key ≡ name
   pub letters : is_name name ≡ true
@@ -62,7 +62,8 @@ pub record IsSharedTable (name : List ℕ) (ms : Members) (x : WorkspaceDependen
   pub optional : (optional : Option Bool) × OptionalMeans boolean (get_member (codes "optional") ms) optional
   pub taken : (get_member (codes "workspace") ms ≡ None) ⊎ (get_member (codes "workspace") ms ≡ Some (boolean true))
 
--- an entry of `[workspace.dependencies]` that is only a version means a dependency without a path
+-- an entry of `[workspace.dependencies]` that is only a version describes a dependency without a
+-- path
 abbrev pub IsSharedVersion : List ℕ → Data → WorkspaceDependency → Type 0
 IsSharedVersion name d x = (is_name name ≡ true) × ((text : List ℕ) × (d ≡ string text) × (is_requirement text ≡ true)) × (x ≡ record { key = name; source = shared.Unsupported; features = [] })
 

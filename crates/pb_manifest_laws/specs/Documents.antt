@@ -14,8 +14,8 @@ use Rattle.pb_manifest_laws.specs.Profiles.{IsProfileEntry}
 use Rattle.pb_manifest_laws.specs.Values.{OfTable, IsTableAt, AreTablesAt, AreEntriesAt}
 use Rattle.pb_manifest_laws.specs.Workspaces.{IsWorkspaceTable}
 
--- A document means this manifest. The document has `[package]` or `[workspace]`, and no table that
--- we do not support.
+-- A document describes this manifest. The document has `[package]` or `[workspace]`, and no table
+-- that we do not support.
 pub record IsDocument (ms : Members) (m : Manifest) : Type 0 where
   pub unsupported : AllByRecursion (λ key. get_member key ms ≡ None) (codes "patch" ∷ codes "replace" ∷ codes "target" ∷ [])
   pub own : IsTableAt IsPackageTable (get_member (codes "package") ms) m.package
@@ -29,8 +29,8 @@ pub record IsDocument (ms : Members) (m : Manifest) : Type 0 where
   pub profiles : AreEntriesAt (λ name. OfTable (IsProfileEntry name)) (get_member (codes "profile") ms) m.profiles
   pub workspace : IsTableAt IsWorkspaceTable (get_member (codes "workspace") ms) m.workspace
 
--- Bytes mean this manifest. The bytes are at most 1 MiB of UTF-8, and `toml` reads them as a
--- document that means the manifest.
+-- Bytes describe this manifest. There are at most 1 MiB of bytes. They are UTF-8, and `toml` reads
+-- them as a document that describes the manifest.
 pub record AreManifest (bytes : List ℕ) (m : Manifest) : Type 0 where
   pub few : length bytes ≤ max_manifest_bytes
   pub text : is_utf8 bytes ≡ true

@@ -1,4 +1,4 @@
--- Laws: reading a table returns exactly what the table means.
+-- Laws: reading a table returns exactly what the table describes.
 use Rattle.std.specs.Prelude.{◌≡◌, ◌↔◌, ◌≤◌, ℕ, Bool, true, List, length, Ok}
 use Rattle.std.specs.Str.{is_utf8}
 use Rattle.toml.specs.Data.{Members}
@@ -23,7 +23,7 @@ use Rattle.pb_manifest_laws.specs.Workspaces.{IsWorkspaceTable}
 use Rattle.pb_manifest_laws.specs.Packages.{IsPackageTable, IsLibraryTable, IsBinaryTable, IsFeatureEntry}
 use Rattle.pb_manifest_laws.specs.Written.{written}
 
--- reading returns a value if and only if the table means this value
+-- reading returns a value if and only if the table describes this value
 abbrev pub Reads : {M A : Type 0} → (M → Read A) → (M → A → Type 0) → Type 0
 Reads {M} {A} read Says = (ms : M) (x : A) → (read ms ≡ Ok x) ↔ Says ms x
 
@@ -39,7 +39,7 @@ ReadsBinaries = Reads binary_keys IsBinaryTable
 abbrev pub ReadsFeatures : Type 0
 ReadsFeatures = (name : List ℕ) → Reads (feature_of name) (IsFeatureEntry name)
 
--- reading an entry of either table of dependencies returns what the entry means
+-- reading an entry of either table of dependencies returns what the entry describes
 abbrev pub ReadsDependencies : Type 0
 ReadsDependencies = (k : Key) (name : List ℕ) → Reads (dependency_of k name) (OfTable (IsDependencyEntry name))
 
@@ -55,14 +55,15 @@ ReadsSharedDependencies = (name : List ℕ) → Reads (shared_dependency_of name
 abbrev pub ReadsWorkspaces : Type 0
 ReadsWorkspaces = Reads workspace_of IsWorkspaceTable
 
--- Reading a document returns what the document means. `ReadsManifests` is this law for the bytes of a manifest.
+-- Reading a document returns what the document describes. `ReadsManifests` is this law for the
+-- bytes of a manifest.
 abbrev pub ReadsDocuments : Type 0
 ReadsDocuments = Reads document_of IsDocument
 
 abbrev pub ReadsManifests : Type 0
 ReadsManifests = (bytes : List ℕ) (m : Manifest) → (manifest_of bytes ≡ Ok m) ↔ AreManifest bytes m
 
--- a document means at most one manifest
+-- a document describes at most one manifest
 abbrev pub DocumentsSayOne : Type 0
 DocumentsSayOne = (ms : Members) (m n : Manifest) → IsDocument ms m → IsDocument ms n → m ≡ n
 

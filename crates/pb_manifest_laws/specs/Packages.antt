@@ -54,7 +54,7 @@ abbrev pub own_texts : Package → List (List ℕ × Inheritable (List ℕ))
 own_texts p = (codes "description", p.description) ∷ (codes "homepage", p.homepage) ∷ (codes "license", p.license) ∷ (codes "license-file", p.license_file)
     ∷ (codes "repository", p.repository) ∷ (codes "rust-version", p.rust_version) ∷ []
 
--- a table `[package]` means this package
+-- a table `[package]` describes this package
 pub record IsPackageTable (ms : Members) (p : Package) : Type 0 where
   pub authors : HoldsOrTakes texts (get_member (codes "authors") ms) p.authors
   pub autobins : HoldsOr true boolean (get_member (codes "autobins") ms) p.autobins
@@ -69,22 +69,22 @@ pub record IsPackageTable (ms : Members) (p : Package) : Type 0 where
   pub version : HasOrTakes (codes "0.0.0") string (get_member (codes "version") ms) p.version
   pub version_is : IsVersion p.version
 
--- a table `[lib]` without `proc-macro = true` means this library
+-- a table `[lib]` without `proc-macro = true` describes this library
 pub record IsLibraryTable (ms : Members) (l : Library) : Type 0 where
   pub crate_types : Lists (λ t. string (crate_type_text t)) (get_member (codes "crate-type") ms) l.crate_types
   pub name : HoldsValid (λ name. is_crate_name name ≡ true) string (get_member (codes "name") ms) l.name
   pub path : HoldsValid IsPath string (get_member (codes "path") ms) l.path
   pub no_macro : HoldsOr false boolean (get_member (codes "proc-macro") ms) false
 
--- a table `[[bin]]` means this binary
+-- a table `[[bin]]` describes this binary
 pub record IsBinaryTable (ms : Members) (b : Binary) : Type 0 where
   pub name : get_member (codes "name") ms ≡ Some (string b.name)
   pub letters : is_name b.name ≡ true
   pub path : HoldsValid IsPath string (get_member (codes "path") ms) b.path
   pub required_features : Lists string (get_member (codes "required-features") ms) b.required_features
 
--- An entry of `[features]` means this feature. The entry is a list of items, each of the form `F`,
--- `dep:N`, `N/F` or `N?/F`.
+-- An entry of `[features]` describes this feature. The entry is a list of items, each of the form
+-- `F`, `dep:N`, `N/F` or `N?/F`.
 pub record IsFeatureEntry (name : List ℕ) (d : Data) (f : Feature) : Type 0 where
   pub name_is : f.name ≡ name
   pub letters : is_feature_name name ≡ true

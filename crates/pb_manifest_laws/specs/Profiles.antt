@@ -27,8 +27,9 @@ name_of key.Panic = codes "panic"
 name_of key.Rpath = codes "rpath"
 name_of key.Strip = codes "strip"
 
--- All written forms of a value that a key may have. This is the table of keys the other way round.
--- So, if a row of one table is wrong, the other table has no row for it.
+-- All written forms of a value that a key may have. The reader goes from a written form to its
+-- value; this table goes from a value to its forms. So a wrong row of one table has no counterpart
+-- in the other.
 abbrev pub forms : ProfileKey → Setting → List Data
 forms key.CodegenUnits (Number n) = if nat_le 1 n && nat_le n 65536 then integer (pos n) ∷ [] else []
 forms key.Debug (Word word.Zero) = boolean false ∷ integer (pos 0) ∷ string (codes "none") ∷ []
@@ -61,17 +62,18 @@ forms _ _ = []
 abbrev pub HoldsOne : {A : Type 0} → (A → List Data) → Option Data → Option A → Type 0
 HoldsOne forms found value = AllZip (λ d x. Contains (forms x) d) (option_to_list found) (option_to_list value)
 
--- the table means these settings: at most one value for each key
+-- the table describes these settings: at most one value for each key
 pub record AreSettings (ms : Members) (said : Said) : Type 0 where
   pub one_each : length said ≡ length keys
   pub each : (k : ProfileKey) → HoldsOne (forms k) (get_member (name_of k) ms) (says said k)
 
--- an override for the package with this name means these settings
+-- an override for the package with this name describes these settings
 pub record IsOverrideEntry (name : List ℕ) (ms : Members) (o : ProfileOverride) : Type 0 where
   pub name_is : o.name ≡ name
   pub keys : AreSettings ms o.keys
 
--- A table means this profile. If the profile is not built in, it has an allowed name, and it has `inherits`.
+-- A table describes this profile. If the profile is not built in, it has an allowed name, and it
+-- has `inherits`.
 pub record IsProfileEntry (name : List ℕ) (ms : Members) (p : Profile) : Type 0 where
   pub name_is : p.name ≡ name
   pub keys : AreSettings ms p.keys

@@ -35,7 +35,7 @@ HoldsOr default write (Some d) value = d ≡ write value
 abbrev pub Lists : {A : Type 0} → (A → Data) → Option Data → List A → Type 0
 Lists write = HoldsOr [] (λ xs. array (items_of (map write xs)))
 
--- the written value is a table that means `x`
+-- the written value is a table that describes `x`
 abbrev pub OfTable : {A : Type 0} → (Members → A → Type 0) → Data → A → Type 0
 OfTable Is d x = (inner : Members) × (d ≡ table inner) × Is inner x
 
@@ -54,13 +54,13 @@ abbrev pub HasOrTakes : {A : Type 0} → A → (A → Data) → Option Data → 
 HasOrTakes default write found (inherited.Written x) = HoldsOr default write found x
 HasOrTakes default write found inherited.Workspace = TakesWorkspace found
 
--- If the key is there, its value is a table, and this table means what was read. If the key is
+-- If the key is there, its value is a table, and this table describes what was read. If the key is
 -- missing, nothing is read.
 abbrev pub IsTableAt : {A : Type 0} → (Members → A → Type 0) → Option Data → Option A → Type 0
 IsTableAt Is found value = AllZip (OfTable Is) (option_to_list found) (option_to_list value)
 
--- If the key is there, its value is an array of tables. Each table means one item, in order. If the
--- key is missing, there are no items.
+-- If the key is there, its value is an array of tables. Each table describes one item, in order. If
+-- the key is missing, there are no items.
 abbrev pub AreTablesAt : {A : Type 0} → (Members → A → Type 0) → Option Data → List A → Type 0
 AreTablesAt Is found xs = (tables : List Data) × HoldsOr [] (λ ds. array (items_of ds)) found tables × AllZip (OfTable Is) tables xs
 
@@ -69,7 +69,7 @@ abbrev pub members_of : List (List ℕ × Data) → Members
 members_of [] = no_members
 members_of (entry ∷ entries) = member entry.0 entry.1 (members_of entries)
 
--- The table at a key has keys that the user chooses. Each entry means one item, in order. If the
--- key is missing, there are no items.
+-- The table at a key has keys that the user chooses. Each entry describes one item, in order. If
+-- the key is missing, there are no items.
 abbrev pub AreEntriesAt : {A : Type 0} → (List ℕ → Data → A → Type 0) → Option Data → List A → Type 0
 AreEntriesAt Is found xs = (entries : List (List ℕ × Data)) × HoldsOr [] (λ es. table (members_of es)) found entries × AllZip (λ (entry : List ℕ × Data) x. Is entry.0 entry.1 x) entries xs

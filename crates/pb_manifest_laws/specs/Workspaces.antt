@@ -14,7 +14,7 @@ abbrev pub shared_texts : WorkspacePackage → List (List ℕ × Option (List �
 shared_texts w = (codes "description", w.description) ∷ (codes "homepage", w.homepage) ∷ (codes "license", w.license) ∷ (codes "license-file", w.license_file)
     ∷ (codes "repository", w.repository) ∷ (codes "rust-version", w.rust_version) ∷ []
 
--- a table `[workspace.package]` means these keys
+-- a table `[workspace.package]` describes these values
 pub record IsInheritedTable (ms : Members) (w : WorkspacePackage) : Type 0 where
   pub authors : OptionalMeans texts (get_member (codes "authors") ms) w.authors
   pub edition_is : OptionalMeans edition (get_member (codes "edition") ms) w.edition
@@ -22,7 +22,7 @@ pub record IsInheritedTable (ms : Members) (w : WorkspacePackage) : Type 0 where
   pub texts_are : AllByRecursion (λ (row : List ℕ × Option (List ℕ)). OptionalMeans string (get_member row.0 ms) row.1) (shared_texts w)
   pub version : HoldsValid (λ text. is_version text ≡ true) string (get_member (codes "version") ms) w.version
 
--- a table `[workspace]` means this workspace
+-- a table `[workspace]` describes this workspace
 pub record IsWorkspaceTable (ms : Members) (w : WorkspaceTable) : Type 0 where
   pub members : Lists string (get_member (codes "members") ms) w.members
   pub members_are : AllByRecursion IsPath w.members

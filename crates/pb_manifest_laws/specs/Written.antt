@@ -1,5 +1,5 @@
--- How a manifest is written, table by table. Each key is written with its value, in byte order. A
--- key that was left out stays left out.
+-- How a manifest is written, table by table. Each key is written with its value, in byte order. If
+-- a key was left out, it stays left out.
 use Rattle.std.specs.Prelude.{ℕ, Bool, pos, true, false, if◌then◌else◌, List, [], ◌∷◌, map, codes, Option, Some, None}
 use Rattle.std.specs.Cmp.Lexicographic.{slice_cmp}
 use Rattle.std.specs.List.{slice_get}

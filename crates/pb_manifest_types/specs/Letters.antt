@@ -38,7 +38,7 @@ is_feature_name (b ∷ bs) = is_crate_name_byte b && list_all is_feature_byte bs
 unfoldable pub has_zero : List ℕ → Bool
 has_zero text = list_any (λ b. b == 0) text
 
--- the byte, but `_` if it is `-`
+-- `_` if the byte is `-`, and otherwise the byte itself
 abbrev pub underscored_byte : ℕ → ℕ
 underscored_byte b = if b == dash then underscore else b
 

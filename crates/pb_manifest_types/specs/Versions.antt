@@ -22,6 +22,7 @@ abbrev pub meets : {E F : Type 0} → Result (List Held) E → Result Parts F �
 meets (Ok comparators) (Ok parts) = matches_views comparators parts
 meets _ _ = false
 
--- the version matches the requirement, and both are texts (The Cargo Book, Specifying Dependencies)
+-- the version matches the requirement; both are given as texts (The Cargo Book, Specifying
+-- Dependencies)
 unfoldable pub matches : Text → Text → Bool
 matches requirement version = meets (req_of requirement) (version_parts version)

@@ -1,5 +1,5 @@
--- What a compiler writes to its standard error (The Cargo Book, External Tools). Lines that are
--- JSON objects are its diagnostics, byte for byte.
+-- What a compiler writes to its standard error (The Cargo Book, External Tools). Its diagnostics
+-- are the lines that are JSON objects, byte for byte.
 use Rattle.std.specs.Prelude.{ℕ, Bool, true, false, if◌then◌else◌, List, [], ◌∷◌, ◌++◌, Option, Some, None}
 use Rattle.serde_json.specs.Data as json
 use Rattle.serde_json.specs.Read.{read}

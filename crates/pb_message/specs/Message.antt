@@ -112,8 +112,8 @@ executed_object id libraries paths conditions variables folder = concat (
 abbrev pub executed_line : List ℕ → Executed → List ℕ
 executed_line id e = executed_object id (json_texts e.linked_libraries) (json_texts e.linked_paths) (json_texts e.conditions) (json_pairs e.variables) (json_string e.out_folder)
 
--- The line of a message. `id` and `subject` are the members of its unit with which it may begin.
--- `fresh` is true if no child was started for the unit.
+-- The line of a message. `id` and `subject` are members that describe the message's unit; the line
+-- may begin with one of them. `fresh` is true if no child was started for the unit.
 abbrev pub line_from : List ℕ → List ℕ → Bool → Message → List ℕ
 line_from id subject fresh (message.CompilerMessage text) = diagnostic_line subject text
 line_from id subject fresh (message.CompilerArtifact artifact) = artifact_line subject artifact fresh

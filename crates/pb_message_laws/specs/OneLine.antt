@@ -34,6 +34,6 @@ MessagesAreLines = (subject : Subject) (fresh : Bool) (message : Message) → Te
 abbrev pub BuildsEndInLine : Type 0
 BuildsEndInLine = (success : Bool) → is_line (finish_line success) ≡ true
 
--- no diagnostic that is found in what a compiler writes has a line feed
+-- no diagnostic in a compiler's standard error has a line feed
 abbrev pub DiagnosticsAreLines : Type 0
 DiagnosticsAreLines = (stderr : List ℕ) → AllByRecursion IsOfOneLine (diagnostics_of stderr)

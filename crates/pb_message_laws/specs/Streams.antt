@@ -21,6 +21,6 @@ pub data AreSaid : List (List ℕ) → List (List ℕ) → List ℕ → Type 0 w
   blank : (line : List ℕ) (lines texts : List (List ℕ)) (plain : List ℕ) (is : trimmed line ≡ []) (more : AreSaid lines texts plain) → AreSaid (line ∷ lines) texts plain
   other : (line : List ℕ) (lines texts : List (List ℕ)) (plain : List ℕ) (some : trimmed line ≢ []) (no : IsObject (trimmed line) → ⊥) (more : AreSaid lines texts plain) → AreSaid (line ∷ lines) texts (line ++ line_feed ∷ plain)
 
--- what is found in a standard error is what `AreSaid` defines
+-- the diagnostics and the plain text of a standard error are those that `AreSaid` defines
 abbrev pub CompilersSay : Type 0
 CompilersSay = (stderr : List ℕ) → AreSaid (lines_of stderr) (diagnostics_of stderr) (plain_lines_of stderr)

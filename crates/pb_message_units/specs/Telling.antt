@@ -70,7 +70,7 @@ is_binary _ = false
 abbrev pub artifact : Project → Planned → List ℕ → Message
 artifact project u file = CompilerArtifact record { settings = u.settings; features = features_at project.features u.unit.owner u.unit.side; file = file; is_executable = is_binary u.unit.what }
 
--- the message for the file that a compile made, or no message if it made none
+-- the message for the file that a compile made, or no message if the compile made no file
 abbrev pub artifacts : Project → Planned → Option (List ℕ) → List Message
 artifacts project u None = []
 artifacts project u (Some file) = artifact project u file ∷ []
@@ -143,8 +143,9 @@ bad_messages w e ended =
 
 -- What the child of a bad unit wrote, apart from what its messages contain.
 -- - If a stream is too long, this is nothing.
--- - For a script that reported an error, it is the standard error; for any other script, both streams.
--- - For a compile, it is the lines that are no diagnostics.
+-- - For a script that reported an error, it is the standard error; for any other script, both
+--   streams.
+-- - For a compile, it is the lines that are not diagnostics.
 abbrev pub said_by : What → UnitFault → Ended → List ℕ
 said_by w fault.OutputTooLong ended = []
 said_by w fault.ScriptError ended = ended.stderr

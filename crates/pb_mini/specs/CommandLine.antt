@@ -32,7 +32,7 @@ role_of option =
     else if bytes_eq option (codes "--cfg") then Condition
     else Unused
 
--- the argument is a setting that stands on its own, and is ignored
+-- the argument is a setting that contains its own value, and is ignored
 abbrev pub is_setting : List ℕ → Bool
 is_setting word = starts_with nat_eq word (codes "--edition=") || starts_with nat_eq word (codes "--error-format=") || starts_with nat_eq word (codes "--emit=")
 
@@ -77,7 +77,7 @@ arguments_after None (word ∷ words) =
     if takes_value word then arguments_after (Some (role_of word)) words
     else (arguments_after None words >>= (λ rest. Ok (with_value (role_alone word) word rest)))
 
--- the only value of a list; a list with none or several is a fault
+-- the only value of a list; a list without a value or with several values is a fault
 abbrev pub only : List (List ℕ) → Result (List ℕ) CommandLineFault
 only [] = Err Bad
 only (value ∷ []) = Ok value

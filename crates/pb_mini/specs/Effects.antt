@@ -17,7 +17,7 @@ no_effects = record { image = []; diagnostics = []; names = no_names }
 abbrev pub in_image : List ℕ → Effects
 in_image bytes = record no_effects { image = bytes }
 
--- the effect of adding a line to the image as it is
+-- the effect of adding a line, unchanged, to the image
 abbrev pub copied : List ℕ → Effects
 copied line = in_image (ended line)
 
@@ -38,15 +38,15 @@ reads (Some path) = record no_effects { names = record no_names { paths = path �
 abbrev pub asks : List ℕ → Option (List ℕ) → Effects
 asks name value = record no_effects { names = record no_names { variables = (name, value) ∷ [] } }
 
--- The names of the first list, followed by those of the second. `joined` does this for all effects.
+-- The names of `a`, followed by those of `b`. `joined` does this for all effects.
 abbrev pub joined_names : Names → Names → Names
 joined_names a b = record { paths = a.paths ++ b.paths; variables = a.variables ++ b.variables }
 
 abbrev pub joined : Effects → Effects → Effects
 joined a b = record { image = a.image ++ b.image; diagnostics = a.diagnostics ++ b.diagnostics; names = joined_names a.names b.names }
 
--- The names of the first, to which those of the second are added. A name that is already there is
--- not added again. `followed_by` does this for all effects.
+-- The names of `kept`, to which those of `more` are added. No name is added twice. `followed_by`
+-- does this for all effects.
 abbrev pub with_names : Names → Names → Names
 with_names kept more = record { paths = mentioned_all kept.paths more.paths; variables = with_entries kept.variables more.variables }
 

@@ -33,7 +33,7 @@ path_read path = (reads path).names
 abbrev pub variable_read : List ℕ → Option (List ℕ) → Names
 variable_read name value = (asks name value).names
 
--- The verb `read PATH` reads the file at the path. If the path is relative, it also reads the
+-- The verb `read PATH` reads the file at the path. If the path is relative, the verb also reads the
 -- variable `CARGO_MANIFEST_DIR`.
 abbrev pub base_read : List (List ℕ × List ℕ) → World → List ℕ → Names
 base_read pairs w path = if is_absolute path then no_names else variable_read (codes "CARGO_MANIFEST_DIR") (value_of pairs w (codes "CARGO_MANIFEST_DIR"))
@@ -64,8 +64,8 @@ abbrev pub names_of_image : List (List ℕ × List ℕ) → World → Option (Li
 names_of_image pairs w None = no_names
 names_of_image pairs w (Some bytes) = names_of_lines pairs w (lines_of bytes)
 
--- The names of all that a request reads, without the files that are passed to it. These are the
--- image of a run, and the libraries of a compile.
+-- The names of all that a request reads, without the files that are passed to it. A run is passed
+-- its image, and a compile its libraries.
 abbrev pub names_of : Request → List (List ℕ × List ℕ) → World → Names
 names_of Version pairs w = no_names
 names_of (Run path) pairs w = names_of_image pairs w (file_at w (path_of path))
@@ -83,7 +83,7 @@ names_read words pairs w = names_if (request_of words) (table_of pairs) w
 abbrev pub SameFile : World → World → List ℕ → Type 0
 SameFile v w path = finite.get w.files path ≡ finite.get v.files path
 
--- A variable that the pairs do not set has the same value in both worlds. If the pairs set it, its
+-- If the pairs do not set a variable, it has the same value in both worlds. If they set it, its
 -- inherited value is not read.
 abbrev pub SameValue : List (List ℕ × List ℕ) → World → World → List ℕ × Option (List ℕ) → Type 0
 SameValue pairs v w variable = value_at variable.0 pairs ≡ None → finite.get w.variables variable.0 ≡ finite.get v.variables variable.0
@@ -102,7 +102,7 @@ SameBelow folders v w = (path : List ℕ) → is_below_some folders path ≡ tru
 
 -- ---- honesty
 
--- the files that are passed to the request are strictly below these folders
+-- all files passed to the request are strictly below these folders
 abbrev pub GivenBelow : List (List ℕ) → Request → Type 0
 GivenBelow folders Version = Unit {0}
 GivenBelow folders (Run image) = (path : List ℕ) → path_of image ≡ Some path → is_below_some folders path ≡ true

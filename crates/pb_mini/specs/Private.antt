@@ -1,5 +1,4 @@
--- The parts of what the values of a command line settle. Only private functions need these
--- definitions.
+-- The values that a compile needs, in two parts. Only private functions need these definitions.
 use Rattle.std.specs.Prelude.{Result, Ok}
 use Rattle.pb_data.specs.UnlessOom.{◌>>=◌}
 use Rattle.pb_mini.specs.CommandLine.{crate_type_of, dep_info_name, file_named, first, folder_of, image_name, only}

@@ -13,8 +13,8 @@ use Rattle.pb_mini.specs.declared.scope.Scope.{Scope}
 abbrev pub library_of : List ℕ → List ℕ × List ℕ
 library_of written = (name_in written, value_in written)
 
--- The entries after one more entry is added. It is not added if an entry with the same name is
--- already there. `with_firsts` adds several entries in this way.
+-- The entries after one more entry is added. The new entry is not added if an entry with the same
+-- name is already there. `with_firsts` adds several entries in this way.
 abbrev pub with_first : List (List ℕ × List ℕ) → List ℕ × List ℕ → List (List ℕ × List ℕ)
 with_first entries entry = if is_some (value_at entry.0 entries) then entries else with_entry entries entry.0 entry.1
 

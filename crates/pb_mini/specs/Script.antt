@@ -124,7 +124,7 @@ step_by Put pairs w rest = was_put (word_in rest) (rest_of rest)
 step_by Exit pairs w rest = Ends (status_in rest)
 step_by Skip pairs w rest = Writes no_output
 
--- the step of a line; a line that is no text does nothing
+-- the step of a line; a line that is not UTF-8 does nothing
 abbrev pub step_in : List (List ℕ × List ℕ) → World → Option (List ℕ) → Step
 step_in pairs w None = Writes no_output
 step_in pairs w (Some line) = step_by (deed_of (word_in line)) pairs w (rest_of line)
@@ -155,7 +155,7 @@ image_run pairs w (Some bytes) = lines_run pairs w (lines_of bytes)
 abbrev pub ran : List ℕ → List (List ℕ × List ℕ) → World → Reply
 ran path pairs w = image_run pairs w (file_at w (path_of path))
 
--- ---- for private functions: output after a step, in which a status means that the script ended
+-- ---- for private functions: the output after a step; a status means that the script has ended
 
 abbrev pub goes_on : Option ℕ → Reply → Reply
 goes_on None reply = reply

@@ -73,8 +73,8 @@ variable_at pairs w name = (name, value_of pairs w name)
 abbrev pub variable_of : List (List ℕ × List ℕ) → World → List ℕ → Option (List ℕ × Option (List ℕ))
 variable_of pairs w path = option_map (variable_at pairs w) (variable_in path)
 
--- The path, after a variable's value has replaced the first part, if this part names a variable. A
--- variable that is not set has an empty value.
+-- The path, after a variable's value has replaced the first part, if this part names a variable. If
+-- the variable is not set, its value is empty.
 abbrev pub expanded : List ℕ → Option (List ℕ × Option (List ℕ)) → List ℕ
 expanded path None = path
 expanded path (Some variable) = unwrap_or variable.1 [] ++ from_slash path

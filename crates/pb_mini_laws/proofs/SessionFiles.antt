@@ -233,7 +233,7 @@ module _ (targets : List (List ℕ)) where
     step_gives (Die key death) before after words files told takes sound = tt
     step_gives (Fuse number) before after words files told takes sound = tt
     step_gives (Build options pick) before after words files told built sound =
-        small_gives (ByPicked pick options) options built.answer.result before.moment built.ended built.headline (small_of options before.moment.world words.0 words.1 files told)
+        small_gives (ByPicked pick options) options built.answer before.moment built.ended built.headline (small_of options before.moment.world words.0 words.1 files told)
         (sound (target_in options before.moment.world) told.target (target_at options before.moment.world.variables words.0) (folder_of options.profile) (profile_named options.profile told.profile))
 
     all_give : (steps : List SessionStep) (before after : Point) (course : Course small_compiler steps before after) → AllByRecursion HasWords steps → PathsAt before → AllSound before.moment.world → AllTold targets steps before after course

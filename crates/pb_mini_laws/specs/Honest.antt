@@ -1,5 +1,5 @@
 -- The small compiler is an honest child on the commands of units. The small compiler repeats a good
--- reply if all that the reply rests on is the same.
+-- reply if everything on which the reply depends is unchanged.
 use Rattle.std.specs.Prelude.{◌≡◌, ℕ, true, false, codes, List, [], ◌∷◌, Option, Some, Result, Ok, Err, IfSome, slice_get}
 use Rattle.std.specs.List.{AllByRecursion}
 use Rattle.pb_data.specs.OrderedSet.{is_mentioned}

@@ -30,16 +30,18 @@ abbrev pub SmallBuildsGive : {S : Type 0} → (S → List ℕ → List ℕ → S
 SmallBuildsGive {S} Turns = (from : S) (options : Options) (result : Result Summary BuildFault) (old new : BuildState) → Headline true small_compiler (ByTurns Turns from) options result old new
     → IsSmallBuild options old.world → Sound reading judge small_compiler (records_of options old.world.variables) old.world.files → GivesCleanResult TrustedRecords small_compiler (ByTurns Turns from) options result old new
 
--- A build of a session with the small compiler also produces this, if the records in its folder
--- were once true and only steps of two kinds came after that. These are edits outside this folder,
--- and builds of which `IsSmallBuild` is true.
+-- Take a session with the small compiler. The records in a folder were true, and each step after
+-- that has spared them, as `SmallCourse` says. Then take a build that keeps its records in this
+-- folder. If `IsSmallBuild` is true of the build, it produces what a clean build of the present
+-- workspace produces.
 abbrev pub SmallSessionsGive : Type 0
 SmallSessionsGive = (options : Options) (pick : PickBy) (steps : List SessionStep) (before mid after : Point)
     → Sound reading judge small_compiler (records_of options mid.moment.world.variables) before.moment.world.files → SmallCourse (records_of options mid.moment.world.variables) steps before mid
-    → IsSmallBuild options mid.moment.world → (built : CarriesBuild small_compiler options pick mid after) → GivesCleanResult TrustedRecords small_compiler (ByPicked pick options) options built.answer.result mid.moment built.ended
+    → IsSmallBuild options mid.moment.world → (built : CarriesBuild small_compiler options pick mid after) → GivesCleanResult TrustedRecords small_compiler (ByPicked pick options) options built.answer mid.moment built.ended
 
--- Each build of a session file also produces this, if the session begins without files and builds
--- into these target folders. The builds need only be as `IsToldBuild` says.
+-- Take a session file whose session begins without files and has these target folders, which lie
+-- apart. If `AllTold` is true of its steps, each of its builds produces what a clean build of the
+-- workspace at that time produces.
 abbrev pub SessionFilesGive : Type 0
 SessionFilesGive = (bytes : List ℕ) (targets : List (List ℕ)) (steps : List SessionStep) (before after : Point) → session_of bytes ≡ Ok steps → before.moment.world.files ≡ finite.empty
     → StandApart targets → (course : Course small_compiler steps before after) → AllTold targets steps before after course → AllGive steps before after course

@@ -1,4 +1,4 @@
--- What a script declares in such a way that the builder can read it.
+-- What a script declares, and which declarations the builder can read.
 use Rattle.std.specs.Prelude.{◌≡◌, ℕ, not, Bool, true, false, List, [], ◌∷◌, ◌++◌, Option, Some, None}
 use Rattle.pb_directive.specs.Lines.{has_byte, is_blank}
 use Rattle.pb_place_types.specs.World.{World}

@@ -48,7 +48,7 @@ pub record IsSmallBuild (options : Options) (w : World) : Type 0 where
 -- Sessions.
 
 -- The step spares the records of the folder. A build spares them if it has no units, or keeps its
--- records in a folder that shares no path with this one. A build that keeps its records in this
+-- records in a folder that shares no path with this folder. A build that keeps its records in this
 -- folder spares them if `IsSmallBuild` is true of it. An edit must be as `Spares` says.
 abbrev pub SparesBySmall : List ℕ → SessionStep → World → Type 0
 SparesBySmall folder (Build options pick) w = UnitsOf small_compiler options w → (IsSmallBuild options w × (records_of options w.variables ≡ folder)) ⊎ ShareNoPath folder (records_of options w.variables)
@@ -61,13 +61,13 @@ SmallCourse folder (step ∷ steps) before after = SparesBySmall folder step bef
 
 -- Sessions that a file contains.
 
--- any two target folders are either the same, or neither of them is at or below the other
+-- of any two different target folders, neither is at or below the other
 abbrev pub StandApart : List (List ℕ) → Type 0
 StandApart targets = (t u : List ℕ) → Contains targets t → Contains targets u → (t ≡ u) ⊎ ((is_at_or_below t u ≡ false) × (is_at_or_below u t ≡ false))
 
--- What must be true of a build in a session file. The target folder is one of these. The profile's
--- name has the letters of package names. The user's flags name no libraries, and the small compiler
--- can report what it reads.
+-- What must be true of a build in a session file. The target folder is one of `targets`. The
+-- profile's name has the letters of package names. The user's flags name no libraries, and the
+-- small compiler can report what it reads.
 pub record IsToldBuild (targets : List (List ℕ)) (options : Options) (w : World) : Type 0 where
   pub target : Contains targets (environment_of options w.variables).target
   pub profile : is_name options.profile ≡ true
@@ -87,10 +87,10 @@ abbrev pub AllTold : (targets : List (List ℕ)) (steps : List SessionStep) (bef
 AllTold targets [] before after course = ⊤
 AllTold targets (step ∷ steps) before after course = IsToldStep targets step before.moment.world × AllTold targets steps course.0 after course.2
 
--- If the step is a build, it produces what a clean build of the workspace at that time produces. A
--- fault may end the build after the first of its lines.
+-- If the step is a build, it produces what a clean build of the workspace at that time produces. If
+-- a fault ends the build, its lines are a prefix of the clean build's lines.
 abbrev pub StepGives : (step : SessionStep) (before after : Point) → Carries small_compiler step before after → Type 0
-StepGives (Build options pick) before after built = GivesCleanResult TrustedRecords small_compiler (ByPicked pick options) options built.answer.result before.moment built.ended
+StepGives (Build options pick) before after built = GivesCleanResult TrustedRecords small_compiler (ByPicked pick options) options built.answer before.moment built.ended
 StepGives step before after taken = ⊤
 
 -- each build among the steps produces what `StepGives` says

@@ -34,7 +34,7 @@ asks_run (word ∷ []) = false
 asks_run (word ∷ path ∷ []) = bytes_eq word (codes "--run")
 asks_run (word ∷ other ∷ next ∷ words) = false
 
--- what the argument after this one is, if this one is itself no value: the folder, the value of
+-- what the next argument is, unless this argument is itself a value: the folder, the value of
 -- another option, or no value
 abbrev pub waiting_after : List ℕ → Option Waiting
 waiting_after word = if bytes_eq word (codes "--out-dir") then Some Folder else (if takes_value word then Some Other else None)

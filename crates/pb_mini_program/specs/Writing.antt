@@ -19,7 +19,7 @@ use Rattle.pb_mini_program.specs.OutFolder.{out_folder}
 abbrev pub Writes : List ℕ → SinkState → SinkState → Type 0
 Writes bytes old new = Appends old.taken new.taken bytes × (new.faults ≡ old.faults)
 
--- the sink failed while these bytes were written: it took a first part of them, but not all
+-- the sink failed while these bytes were written: it took a prefix of them, but not all
 abbrev pub SinkFailsAt : List ℕ → SinkState → SinkState → Type 0
 SinkFailsAt bytes old new = TakesPart bytes old.taken new.taken × (new.faults ≡ up old.faults)
 
@@ -46,8 +46,8 @@ past_puts (Some folder) files c = past_calls (writes_in folder files) c
 abbrev pub PutsIn : Bool → Option (List ℕ) → List (List ℕ × List ℕ) → Kept → Kept → Type 0
 PutsIn is_modelled folder files old new = (new.counts ≡ past_puts folder files old.counts) × (IsTrue is_modelled → new.world ≡ put_reply folder files old.world)
 
--- The files of `done` were put into the folder. The next file is unchanged, is gone, or has a first
--- part of its bytes.
+-- The files of `done` were put into the folder. The next file is unchanged, is gone, or has a
+-- prefix of its bytes.
 abbrev pub PutsUpTo : List ℕ → List (List ℕ × List ℕ) → List ℕ × List ℕ → World → World → Type 0
 PutsUpTo folder done file old new = Torn (below folder file.0) file.1 (put_reply (Some folder) done old) new
 
@@ -72,11 +72,12 @@ StopsPutting is_modelled folder files old new =
 abbrev pub IsReply : Bool → List (List ℕ) → World → Reply → Type 0
 IsReply shows words shown reply = IsTrue shows → reply ≡ answered words [] shown
 
--- if the view reports what it shows, the reply's files go into this folder, or nowhere if there is none
+-- if the view reports what it shows, the reply's files go into this folder; without a folder they
+-- go nowhere
 abbrev pub IsFolder : Bool → List (List ℕ) → World → Option (List ℕ) → Type 0
 IsFolder shows words shown folder = IsTrue shows → out_folder words shown ≡ folder
 
--- if these files are those of the reply, they go into this folder, or nowhere if there is none
+-- if these files are those of the reply, they go into this folder; without a folder they go nowhere
 abbrev pub IsFolderOf : Bool → List (List ℕ) → World → List (List ℕ × List ℕ) → Option (List ℕ) → Type 0
 IsFolderOf shows words shown files folder = files ≡ (answered words [] shown).files → IsFolder shows words shown folder
 

@@ -1,5 +1,5 @@
 -- What a failed call leaves of a place in memory, and how fuses and deaths are used up. Running out
--- of memory is no failure, and uses up neither a fuse nor a death.
+-- of memory does not count as a failure, and uses up neither a fuse nor a death.
 use Rattle.std.specs.Prelude.{◌≡◌, ◌≢◌, ◌⊎◌, ℕ, ◌+◌, ◌-◌, ◌/◌, ◌==◌, max, List, length, take, Option, Result, Ok, Err, IfOk, IfErr, if◌then◌else◌}
 use Rattle.pb_place_types.specs.World.{World, written, removed}
 use Rattle.pb_place_types.specs.CallsInTurn.{own_fault}
@@ -65,14 +65,15 @@ abbrev pub deaths_after : {T : Type 0} → Option (List ℕ) → ℕ → Result 
 deaths_after out fuse (Ok x) ds = other_deaths out ds
 deaths_after out fuse (Err e) ds = deaths_past e out fuse ds
 
--- what a start uses up if its spawn returns this fault, which is one call; no child of this start was in flight
+-- What a start uses up if its spawn returns this fault: one call. No child of this start was in
+-- flight.
 pub record SpawnFailed (e : StartFault) (out : Option (List ℕ)) (old new : Held) : Type 0 where
   pub fuse : new.fuse ≡ old.fuse - 1
   pub deaths : new.deaths ≡ deaths_past e out old.fuse old.deaths
   pub most : new.most ≡ old.most
 
--- what a start uses up if its child was spawned, which is two calls: the spawn and the wait for the
--- end, whatever the end was
+-- What a start uses up if its child was spawned: two calls, which are the spawn and the wait for
+-- the end, whatever the end was.
 pub record ChildFlew (out : Option (List ℕ)) (old new : Held) : Type 0 where
   pub fuse : new.fuse ≡ old.fuse - 2
   pub deaths : new.deaths ≡ other_deaths out old.deaths

@@ -6,7 +6,7 @@ use Rattle.pb_place_types.specs.declared.place.PlaceFault.TheVariants as place
 use Rattle.pb_place_types.specs.declared.place.StartFault.{StartFault}
 use Rattle.pb_place_types.specs.declared.place.StartFault.TheVariants as start
 
--- the call failed; running out of memory is no failure of the outside
+-- the call failed; a call that runs out of memory is not counted as failed
 abbrev pub call_failed : {T : Type 0} → Result T PlaceFault → Bool
 call_failed (Ok x) = false
 call_failed (Err place.OutOfMemory) = false

@@ -41,8 +41,8 @@ pub record EndFails (ticket : ℕ) (result : Result Ended StartFault) (old : Hel
   pub quiet : old.fuse ≢ 1 → fate_at ticket old.flying ≡ None → IfErr result (λ e. e ≡ start.OutOfMemory)
   pub fault : IfErr result (λ e. e ≢ start.OutOfMemory → (e ≡ start.Died) ⊎ (e ≡ start.Capture))
 
--- The place after the end of a child. The child's files are there, or no file changed if the child
--- gave no reply. The child is no longer in flight.
+-- The place after the end of a child. If the wait succeeded, the child's files are there. If the
+-- child gave no reply, no file changed. The child is no longer in flight.
 pub record EndsIn (ticket : ℕ) (result : Result Ended StartFault) (old new : Held) : Type 0 where
   pub lands : IfOk result (λ ended. IfSome (child_at ticket (children_in old.flying)) (λ spawned. LandsAs spawned old.world ended new.world))
   pub stands : IfErr result (λ e. e ≢ start.OutOfMemory → new.world ≡ old.world)

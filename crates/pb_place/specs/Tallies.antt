@@ -8,8 +8,8 @@ use Rattle.pb_place_types.specs.declared.place.StartFault.{StartFault}
 abbrev pub with_children : List ChildInFlight → Counts → Counts
 with_children flying c = record c { starts = record c.starts { flying = flying } }
 
--- One more setting than before, but at most the greatest number of 64 bits. The definition is
--- opaque, since proofs need nothing else of it.
+-- The next value of the counter `settings`: one more, but at most the greatest number of 64 bits.
+-- The definition is opaque, since proofs need nothing else of it.
 unfoldable pub next_setting : ℕ → ℕ
 next_setting n = up n
 

@@ -42,7 +42,7 @@ pub record LooksOnce {T : Type 0} (call : Call) (result : Result T PlaceFault) (
   pub still : KeepsStill old.still new.still
   pub fault : IfErr result (λ e. e ≢ place.OutOfMemory → e ≡ own_fault call)
 
--- one call changes only files at paths that `inside` contains, and counters
+-- one call changes nothing but counters, and files at paths that `inside` contains
 pub record ChangesOnce {T : Type 0} (inside : List ℕ → Bool) (call : Call) (result : Result T PlaceFault) (old new : At) : Type 0 where
   pub only : ChangesOnly inside old.world new.world
   pub counts : new.counts ≡ counted call result old.counts

@@ -23,7 +23,7 @@ abbrev pub past_calls : List Call → Counts → Counts
 past_calls [] c = c
 past_calls (call ∷ calls) c = past_calls calls (past_call c)
 
--- this call failed with this fault, and it is a fault that this call may have
+-- this call failed with this fault, which is the call's own fault
 abbrev pub Fails : PlaceFault → Call → Counts → Counts → Type 0
 Fails fault call old new = (fault ≡ own_fault call) × (new ≡ past_place_fault call fault old)
 

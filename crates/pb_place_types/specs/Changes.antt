@@ -29,7 +29,7 @@ abbrev pub last_said : List Change → List ℕ → Option (List ℕ) → Option
 last_said [] q old = old
 last_said (change ∷ changes) q old = last_said changes q (said change q old)
 
--- the last change that touches a path decides what the path contains
+-- what a path contains is decided by the last change that touches it
 abbrev pub LastWordStands : Type 0
 LastWordStands = (changes : List Change) (w : World) (q : List ℕ) → map.get (changed changes w).files q ≡ last_said changes q (map.get w.files q)
 

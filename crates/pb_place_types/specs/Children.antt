@@ -10,7 +10,7 @@ use Rattle.pb_place_types.specs.declared.child.Reply.{Reply}
 use Rattle.pb_place_types.specs.declared.child_in_flight.ChildInFlight.{ChildInFlight}
 use Rattle.pb_place_types.specs.declared.place.StartFault.{StartFault}
 
--- the files strictly below a child's output folder, or none if it has no such folder
+-- the files strictly below a child's output folder, or no files if the child has no such folder
 abbrev pub inside_out : Option (List ℕ) → Map → Map
 inside_out None m = map.empty
 inside_out (Some out) m = files_in out m
@@ -62,20 +62,20 @@ SeesStill spawned old new = (seen_by spawned.command new ≡ seen_by spawned.com
 abbrev pub StandsStill : ℕ → List ChildInFlight → World → World → Type 0
 StandsStill ticket flying old new = IfSome (child_at ticket flying) (λ spawned. SeesStill spawned old new)
 
--- A ticket that stood still before a call stands still after it, if the call changed nothing on
--- which the ticket's child depends.
+-- If a ticket stood still before a call, and the call changed nothing on which the ticket's child
+-- depends, the ticket stands still afterwards.
 abbrev pub StaysStill : List ChildInFlight → World → World → (ℕ → Type 0) → (ℕ → Type 0) → Type 0
 StaysStill flying old new before after = (ticket : ℕ) → StandsStill ticket flying old new → before ticket → after ticket
 
--- each ticket except the ended one stays still on the condition that `StaysStill` states
+-- each ticket except the ended one stays still, as `StaysStill` states for all tickets
 abbrev pub StaysStillBut : ℕ → List ChildInFlight → World → World → (ℕ → Type 0) → (ℕ → Type 0) → Type 0
 StaysStillBut ended flying old new before after = (ticket : ℕ) → ticket ≢ ended → StandsStill ticket flying old new → before ticket → after ticket
 
--- each ticket that stood still before stands still afterwards
+-- if a ticket stood still before, it stands still afterwards
 abbrev pub KeepsStill : (ℕ → Type 0) → (ℕ → Type 0) → Type 0
 KeepsStill before after = (ticket : ℕ) → before ticket → after ticket
 
--- A ticket that stood still before stands still afterwards, if changes at the paths of `inside`
--- cannot touch what its child depends on.
+-- If a ticket stood still before, and changes at the paths of `inside` cannot touch what its child
+-- depends on, the ticket stands still afterwards.
 abbrev pub KeepsStillOutside : (List ℕ → Bool) → List ChildInFlight → (ℕ → Type 0) → (ℕ → Type 0) → Type 0
 KeepsStillOutside inside flying before after = (ticket : ℕ) → ((v w : World) → ChangesOnly inside v w → StandsStill ticket flying v w) → before ticket → after ticket

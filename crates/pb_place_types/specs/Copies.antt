@@ -24,7 +24,7 @@ PutsSome from (path ∷ paths) old new = (new ≡ old) ⊎ PutsSome from paths (
 abbrev pub first_half : List (List ℕ) → List (List ℕ)
 first_half paths = take (length paths / 2) paths
 
--- the files of a map that are at none of these paths
+-- the files of a map, without those at these paths
 abbrev pub but_at : List (List ℕ) → Map → Map
 but_at paths m = map.retain_keys m (λ q. not (list_any (is_same_path q) paths))
 
@@ -32,7 +32,8 @@ but_at paths m = map.retain_keys m (λ q. not (list_any (is_same_path q) paths))
 abbrev pub half_removed : List ℕ → Map → Map
 half_removed path m = but_at (first_half (map.keys (map.retain_keys m (is_at_or_below path)))) m
 
--- the world after half of a reply's files are put where the command says: the first half in byte order
+-- the world after half of a reply's files are put into the output folder: the first half in byte
+-- order
 abbrev pub put_half : Option (List ℕ) → List (List ℕ × List ℕ) → World → World
 put_half None files w = w
 put_half (Some out) files w = record w { files = put_from (put_files out files map.empty) (first_half (map.keys (map.retain_keys (put_files out files map.empty) (is_below out)))) w.files }

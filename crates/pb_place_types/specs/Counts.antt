@@ -12,9 +12,9 @@ use Rattle.pb_place_types.specs.declared.place.Failure.TheVariants.{Called, Star
 use Rattle.pb_place_types.specs.declared.place.StartFault.{StartFault}
 use Rattle.pb_place_types.specs.declared.place.StartFault.TheVariants as start
 
--- The counters of starts. `count` says how often `spawn` and `start` were called. `flying` lists
--- the children in flight, in the order of their spawns. `settings` says how often a place for tests
--- was set to let calls fail. No call of a place changes `settings`.
+-- The counters of starts. `count` is the number of calls of `spawn` and `start`. `flying` lists the
+-- children in flight, in the order of their spawns. `settings` says how many times a test has set
+-- calls of the place to fail. No call of a place changes `settings`.
 pub record Starts : Type 0 where
   pub count : ℕ
   pub flying : List ChildInFlight
@@ -77,8 +77,8 @@ past_call c = record c { calls = up c.calls; late = if c.failures == 0 then 0 el
 abbrev pub past_fault : Failure → Counts → Counts
 past_fault f c = record c { failures = up c.failures; late = 0; last = Some f }
 
--- The counters after this call returned this fault. Running out of memory does not count as a
--- failure of the outside.
+-- The counters after this call returned this fault. A call that runs out of memory is not counted
+-- as a failure.
 abbrev pub past_place_fault : Call → PlaceFault → Counts → Counts
 past_place_fault call OutOfMemory c = past_call c
 past_place_fault call e c = record (past_fault (Called e) c) { calls = up c.calls; failing = Some call }

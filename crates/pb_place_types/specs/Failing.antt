@@ -15,7 +15,7 @@ use Rattle.pb_place_types.specs.declared.place.StartFault.TheVariants as start
 abbrev pub TornSparesOthers : Type 0
 TornSparesOthers = (path bytes q : List ℕ) (old new : World) → Torn path bytes old new → q ≢ path → map.get new.files q ≡ map.get old.files q
 
--- after a failed write, the path has its old bytes, none, or a first part of the new bytes
+-- after a failed write, the path has its old bytes, no bytes, or a prefix of the new bytes
 abbrev pub TornLeaves : Type 0
 TornLeaves = (path bytes : List ℕ) (old new : World) → Torn path bytes old new
     → (map.get new.files path ≡ map.get old.files path) ⊎ ((map.get new.files path ≡ None) ⊎ ((first : List ℕ) × (rest : List ℕ) × (bytes ≡ first ++ rest) × (map.get new.files path ≡ Some first)))
@@ -47,8 +47,8 @@ PartlySparesVariables = (path : List ℕ) (old new : World) → PartlyRemoved pa
 abbrev pub StartSparesVariables : Type 0
 StartSparesVariables = (out : Option (List ℕ)) (old new : World) → ChangesOnlyInSome out old new → new.variables ≡ old.variables
 
--- If a call failed and memory did not run out, the call is counted. The call and its fault are
--- recorded as the last.
+-- If a call failed and memory did not run out, the call is counted. It is recorded as the last
+-- failing call, and its fault as the last fault.
 abbrev pub CallTellsFault : Type 0
 CallTellsFault = (call : Call) (e : PlaceFault) (c : Counts) → e ≢ place.OutOfMemory → past_place_fault call e c ≡ record (past_fault (Called e) c) { calls = up c.calls; failing = Some call }
 

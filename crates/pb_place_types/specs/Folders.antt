@@ -21,7 +21,7 @@ abbrev pub first_of : {A : Type 0} → Option A → Option A → Option A
 first_of None y = y
 first_of (Some x) y = Some x
 
--- the second map, over which the files of these folders of the first map are put
+-- the second map, overlaid with the files that the first map has in these folders
 abbrev pub folders_over : List (List ℕ) → Map → Map → Map
 folders_over [] m n = n
 folders_over (folder ∷ folders) m n = over (files_in folder m) (folders_over folders m n)
@@ -59,7 +59,8 @@ ChangesJoin = (folder : List ℕ) (old mid new : World) → ChangesOnly (is_at_o
 abbrev pub ChangesWiden : Type 0
 ChangesWiden = (above folder : List ℕ) (old new : World) → is_at_or_below above folder ≡ true → ChangesOnly (is_at_or_below folder) old new → ChangesOnly (is_at_or_below above) old new
 
--- at each path `over` has what the first map has, or what the second map has if the first has nothing there
+-- `over` has all files of the first map, and those files of the second map whose paths are not in
+-- the first map
 abbrev pub LooksOver : Type 0
 LooksOver = (m n : Map) (q : List ℕ) → map.get (over m n) q ≡ first_of (map.get m q) (map.get n q)
 
@@ -75,15 +76,16 @@ LooksAtSources = (target : List ℕ) (w : World) (q : List ℕ) → map.get (fro
 abbrev pub LooksThrough : Type 0
 LooksThrough = (c : Command) (w : World) (q : List ℕ) → map.get (seen_by c w).files q ≡ (if is_shown c q then map.get w.files q else None)
 
--- a child whose command reads no folder sees exactly the sources
+-- if a child's command reads no folder, the child sees exactly the sources
 abbrev pub SeesSources : Type 0
 SeesSources = (c : Command) (w : World) → c.reads ≡ [] → seen_by c w ≡ from_nothing c.target w
 
--- what a child sees are the sources, over which the files of the folders that it reads are put
+-- a child sees the sources, overlaid with the files of the folders that the child reads
 abbrev pub SeesFolders : Type 0
 SeesFolders = (c : Command) (w : World) → seen_by c w ≡ record w { files = folders_over c.reads w.files (from_nothing c.target w).files }
 
--- a child sees the same in two worlds if their sources agree and the folders that it reads agree
+-- a child sees the same in two worlds if their sources agree, and so do the folders that the child
+-- reads
 abbrev pub SeesAlike : Type 0
 SeesAlike = (c : Command) (v w : World) → from_nothing c.target v ≡ from_nothing c.target w → FoldersAgree c.reads v w → seen_by c v ≡ seen_by c w
 

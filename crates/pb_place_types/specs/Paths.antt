@@ -44,7 +44,7 @@ is_absolute (b ∷ rest) = b == slash
 abbrev pub has_byte_0 : List ℕ → Bool
 has_byte_0 text = list_any (λ b. b == 0) text
 
--- the path that an absolute text spells, or the fault for which it spells none
+-- the path that an absolute text spells, or the reason why the text spells no path
 abbrev pub parsed : List ℕ → Result (List ℕ) PathFault
 parsed text = if is_absolute text then (if has_byte_0 text then Err BadByte else Ok (path_of (names_of text))) else Err NotAbsolute
 
@@ -61,7 +61,7 @@ abbrev pub last_of : List ℕ → List (List ℕ) → List ℕ
 last_of text [] = text
 last_of text (next ∷ texts) = last_of next texts
 
--- the last part of a path is its name; that of the root is empty
+-- the last part of a path is its name; the name of the root is empty
 abbrev pub last_part : List ℕ → List ℕ
 last_part path = last_of [] (parts_of path)
 
@@ -80,11 +80,12 @@ is_path [] = false
 is_path (b ∷ []) = b == slash
 is_path (b ∷ c ∷ rest) = (b == slash) && is_relative (c ∷ rest)
 
--- the text to which a slash and names are appended below a folder: the folder's path, or nothing for the root
+-- how each path below a folder begins, up to the slash before the names: with the folder's path, or
+-- with nothing for the root
 abbrev pub stem : List ℕ → List ℕ
 stem folder = if bytes_eq folder (codes "/") then [] else folder
 
--- the path of what has this relative path in a folder
+-- the path to which this relative path leads from the folder
 abbrev pub below : List ℕ → List ℕ → List ℕ
 below folder relative = stem folder ++ slash ∷ relative
 
@@ -104,7 +105,6 @@ is_below folder path = leads_below (stem folder) path
 unfoldable pub is_at_or_below : List ℕ → List ℕ → Bool
 is_at_or_below folder path = bytes_eq folder path || is_below folder path
 
--- the path inside a folder, for a path that is strictly below it: all that follows the folder's
--- stem and a slash
+-- what follows the folder's stem and a slash in a path that is strictly below the folder
 abbrev pub inside : List ℕ → List ℕ → Option (List ℕ)
 inside folder path = if is_below folder path then Some (drop (length (stem folder) + 1) path) else None

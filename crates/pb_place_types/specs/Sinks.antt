@@ -15,7 +15,7 @@ abbrev pub is_refusal : Option ℕ → List ℕ → Bool
 is_refusal None bytes = true
 is_refusal (Some n) bytes = (n == 0) && not (length bytes == 0)
 
--- the sink took a first part of the bytes, but not all of them
+-- the sink took a prefix of the bytes, but not all of them
 abbrev pub TakesPart : List ℕ → Option (List ℕ) → Option (List ℕ) → Type 0
 TakesPart bytes old new = (n : ℕ) × (n < length bytes) × Appends old new (take n bytes)
 

@@ -16,8 +16,8 @@ AtOrBelow = (folder path : List ℕ) → (is_at_or_below folder path ≡ true) �
 abbrev pub AtOrBelowGoesOn : Type 0
 AtOrBelowGoesOn = (above folder path : List ℕ) → is_at_or_below above folder ≡ true → is_at_or_below folder path ≡ true → is_at_or_below above path ≡ true
 
--- A path is two steps below an upper folder. If one of the two steps is strict, the path is
--- strictly below the upper folder.
+-- Take a folder at or below an upper folder, and a path at or below this folder. If one of the two
+-- is strictly below, the path is strictly below the upper folder.
 abbrev pub BelowThenAt : Type 0
 BelowThenAt = (above folder path : List ℕ) → is_below above folder ≡ true → is_at_or_below folder path ≡ true → is_below above path ≡ true
 

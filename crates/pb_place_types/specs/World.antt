@@ -79,7 +79,7 @@ abbrev pub is_last : List ℕ → List (List ℕ) → Bool
 is_last path [] = false
 is_last path (first ∷ paths) = bytes_eq path (last_of first paths)
 
--- the folders, to which the given folder is appended unless it is the last already
+-- the folders after the given folder is appended, unless it is already the last folder
 abbrev pub with_new : List (List ℕ) → Option (List ℕ) → List (List ℕ)
 with_new folders None = folders
 with_new folders (Some folder) = if is_last folder folders then folders else folders ++ folder ∷ []
@@ -145,12 +145,13 @@ abbrev pub put_files : List ℕ → List (List ℕ × List ℕ) → Map → Map
 put_files folder [] m = m
 put_files folder (f ∷ fs) m = put_files folder fs (map.insert m (below folder f.0) f.1)
 
--- the world after the files of a reply are put where the command says
+-- the world after the files of a reply are put into the output folder, if there is one
 abbrev pub put_reply : Option (List ℕ) → List (List ℕ × List ℕ) → World → World
 put_reply None files w = w
 put_reply (Some folder) files w = record w { files = put_files folder files w.files }
 
--- A child has ended with its reply to what it sees. The reply's files are where the command says.
+-- A child has ended with its reply to what it sees. The reply's files are in the command's output
+-- folder, if there is one.
 pub record Ends (child : World → Reply) (command : Command) (old : World) (ended : Ended) (new : World) : Type 0 where
   pub status : ended.status ≡ (child (seen_by command old)).status
   pub stdout : ended.stdout ≡ (child (seen_by command old)).stdout

@@ -13,8 +13,8 @@ use Rattle.pb_profile.specs.Settings.{looked_up, places_of}
 abbrev pub InheritsFrom : List Profile → Seen → Seen → Type 0
 InheritsFrom profiles s t = above profiles s ≡ Ok (Some t)
 
--- The line of a profile that inherits from none is this profile. The line of any other profile is
--- the profile, followed by the line of the profile from which it inherits.
+-- If a profile inherits from no profile, its line is the profile alone. Otherwise its line is the
+-- profile, followed by the line of the profile from which it inherits.
 pub data IsLine (profiles : List Profile) : Seen → List Seen → Type 0 where
   last : (s : Seen) (ends : above profiles s ≡ Ok None) → IsLine profiles s (s ∷ [])
   further : (s t : Seen) (line : List Seen) (inherits : InheritsFrom profiles s t) (rest : IsLine profiles t line) → IsLine profiles s (s ∷ line)
@@ -28,8 +28,8 @@ pub data IsAncestor (profiles : List Profile) : Seen → Seen → Type 0 where
 abbrev pub GivesLines : Type 0
 GivesLines = (profiles : List Profile) (name : List ℕ) (line : List Seen) → line_of profiles name ≡ Ok line → IsLine profiles (seen_at profiles name) line
 
--- A profile is missing if it is neither built in nor written with `inherits`. The requested profile
--- is this profile, or inherits from it.
+-- The requested profile, or a profile from which it inherits, is missing. A profile is missing if
+-- it is neither built in nor written with `inherits`.
 pub record IsMissing (profiles : List Profile) (from : Seen) : Type 0 where
   pub profile : Seen
   pub ancestor : IsAncestor profiles from profile

@@ -12,12 +12,12 @@ use Rattle.pb_profile.specs.declared.line.Ancestor.{Ancestor}
 use Rattle.pb_profile.specs.declared.fault.ProfileFault.{ProfileFault}
 use Rattle.pb_profile.specs.declared.fault.ProfileFault.TheVariants.{NoSuchProfile, InheritsCycle, NotInOverride}
 
--- there is no value, or the test is true for it
+-- there is no value, or the test is true for the value
 abbrev pub option_all : {A : Type 0} → (A → Bool) → Option A → Bool
 option_all test None = true
 option_all test (Some x) = test x
 
--- the name is one of the two
+-- the name is `first` or `second`
 abbrev pub is_either : List ℕ → List ℕ → List ℕ → Bool
 is_either first second name = bytes_eq name first || bytes_eq name second
 
@@ -40,7 +40,7 @@ seen a = record { name = a.name.now; table = option_map (λ p. p.now) a.table }
 abbrev pub named : List Profile → List ℕ → Option Profile
 named profiles name = find (λ (p : Profile). bytes_eq p.name name) profiles
 
--- the name of the profile from which a custom profile inherits; it must be written
+-- the name of the profile from which a custom profile inherits; a manifest must write this name
 abbrev pub inherited : Option (List ℕ) → Result (Option (List ℕ)) ProfileFault
 inherited None = Err NoSuchProfile
 inherited (Some parent) = Ok (Some parent)
@@ -59,8 +59,8 @@ abbrev pub seen_at : List Profile → List ℕ → Seen
 seen_at profiles name = record { name = name; table = named profiles name }
 
 -- The name of the profile from which a profile inherits. `test` inherits from `dev`, and `bench`
--- from `release`. `dev` and `release` inherit from none. A custom profile inherits from the profile
--- that its table names.
+-- from `release`. `dev` and `release` inherit from no profile. A custom profile inherits from the
+-- profile that its table names.
 abbrev pub parent_of : Seen → Result (Option (List ℕ)) ProfileFault
 parent_of s =
     if is_either (codes "dev") (codes "release") s.name then Ok None
@@ -88,7 +88,7 @@ line_within (suc n) profiles s = above profiles s >>= then_above (line_within n 
 abbrev pub line_of : List Profile → List ℕ → Result (List Seen) ProfileFault
 line_of profiles name = line_within (length profiles + 2) profiles (seen_at profiles name)
 
--- only keys are set that an override may set, which are all but `panic`, `lto` and `rpath`
+-- each key that is set is one that an override may set: not `panic`, `lto` or `rpath`
 abbrev pub may_override : Said → Bool
 may_override values = list_all (λ k. (row k).in_override || is_none (says values k)) keys
 

@@ -18,7 +18,8 @@ use Rattle.pb_workspace_types.specs.declared.workspace.Workspace.{Workspace}
 use Rattle.pb_profile.specs.declared.fault.ProfileFault.{ProfileFault}
 use Rattle.pb_profile.specs.Line.{Seen, checked_line}
 
--- a location of values, which says for each profile of the line and each key which value is there
+-- a location of values: for each profile of the line and each key, the value that is there, if
+-- there is one
 abbrev pub Place : Type 0
 Place = Seen → ProfileKey → Option Setting
 
@@ -49,7 +50,7 @@ of_hosts s k = (defaults k).beside_override
 abbrev pub built_in : Place
 built_in s k = if bytes_eq s.name (codes "dev") then Some (defaults k).dev else (if bytes_eq s.name (codes "release") then Some (defaults k).release else None)
 
--- the location of `package."*"`, which counts only for packages that are no members
+-- the location of `package."*"`, which counts only for packages that are not members
 abbrev pub of_others : Bool → List Place
 of_others is_member = if is_member then [] else in_package (codes "*") ∷ []
 
@@ -62,18 +63,18 @@ of_role Host = in_build_override ∷ of_hosts ∷ []
 abbrev pub places_of : Package → Side → List Place
 places_of p role = in_package p.name ∷ of_others p.is_member ++ of_role role ++ own ∷ built_in ∷ []
 
--- the value of a key at one location, in the first profile of the line that has one there
+-- the value of a key at one location, in the first profile of the line that has a value there
 abbrev pub along : ProfileKey → Place → List Seen → Option Setting
 along k place [] = None
 along k place (s ∷ line) = option_or (place s k) (along k place line)
 
--- the value of a key at the first location that has it
+-- the value of a key at the first location that has a value for it
 abbrev pub looked_up : ProfileKey → List Place → List Seen → Option Setting
 looked_up k [] line = None
 looked_up k (place ∷ places) line = option_or (along k place line) (looked_up k places line)
 
--- the value that a key has in host roles whatever the profiles contain, if there is one, and the
--- given value otherwise
+-- the fixed value of a key in host roles, if there is one, and the given value otherwise; no
+-- profile can change a fixed value
 abbrev pub fixed : Side → ProfileKey → Setting → Setting
 fixed Target k value = value
 fixed Host k value = unwrap_or (defaults k).in_hosts value

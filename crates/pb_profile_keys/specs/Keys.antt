@@ -25,7 +25,7 @@ no_keys = map (λ (k : ProfileKey). None) keys
 abbrev pub setting_at : List Setting → ProfileKey → Setting
 setting_at settings k = get_or settings (index k) (setting.Truth false)
 
--- the word of a setting; a setting that is no word counts as `0`
+-- the word of a setting, or `0` if the setting is not a word
 abbrev pub word_in : Setting → Word
 word_in (setting.Word w) = w
 word_in _ = word.Zero

@@ -44,7 +44,7 @@ pub record Defaults : Type 0 where
   -- the value in the profile `dev`, and then the value in `release`
   pub dev : Setting
   pub release : Setting
-  -- the value that host roles have after `build-override` was looked up, if there is one
+  -- the built-in value for host roles, if there is one; it counts after `build-override`
   pub beside_override : Option Setting
   -- the value that host roles have whatever is written, if there is one
   pub in_hosts : Option Setting

@@ -1,4 +1,4 @@
--- What a record says about the command that its child was given, and that command.
+-- How a record describes the command that its child was given.
 use Rattle.std.specs.Prelude.{◌≡◌, true, if◌then◌else◌, Option, Some, None, List, ℕ}
 use Rattle.pb_place_types.specs.declared.command.Command.{Command}
 use Rattle.pb_record.specs.Sorted.{are_sorted}
@@ -17,7 +17,7 @@ command_of a = record {
   reads = a.reads;
 }
 
--- What a record says about a command with this output folder. `asked_in` is the same for any
+-- How a record describes a command with this output folder. `asked_in` does the same for any
 -- command. The command must have an output folder, and its variables must be sorted by name, each
 -- name once.
 abbrev pub of_parts : Command → List ℕ → RecordedCommand
@@ -53,8 +53,8 @@ pub record AsksAs (a : RecordedCommand) (c : Command) : Type 0 where
 abbrev pub AskedIsCommand : Type 0
 AskedIsCommand = (c : Command) (a : RecordedCommand) → asked_in c ≡ Some a → command_of a ≡ c
 
--- If the command that a record describes is written to a record, the new record says the same,
--- provided that its variables are sorted.
+-- Take the command that a record describes, and write it to a new record. If the variables are
+-- sorted, the new record describes the command in the same way.
 abbrev pub CommandIsAsked : Type 0
 CommandIsAsked = (a : RecordedCommand) → are_sorted a.pairs ≡ true → asked_in (command_of a) ≡ Some a
 

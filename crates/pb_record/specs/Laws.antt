@@ -14,11 +14,12 @@ TellsApart = (r s : Record) → record_bytes r ≡ record_bytes s → r ≡ s
 abbrev pub SaysWhereItEnds : Type 0
 SaysWhereItEnds = (r s : Record) (rest more : List ℕ) → record_bytes r ++ rest ≡ record_bytes s ++ more → (r ≡ s) × (rest ≡ more)
 
--- A proper first part of a record's text is no record's text. So a torn write never counts as a record.
+-- A proper prefix of a record's text is not the text of a record. So a torn write never counts as a
+-- record.
 abbrev pub FirstPartsSayNothing : Type 0
 FirstPartsSayNothing = (n : ℕ) (r s : Record) → n < length (record_bytes r) → Says (take n (record_bytes r)) s → ⊥
 
--- A record's text followed by more bytes is no record's text.
+-- A record's text followed by more bytes is not the text of a record.
 abbrev pub MoreBytesSayNothing : Type 0
 MoreBytesSayNothing = (r s : Record) (b : ℕ) (more : List ℕ) → Says (record_bytes r ++ b ∷ more) s → ⊥
 

@@ -7,7 +7,7 @@ use Rattle.pb_record.specs.declared.record.Needed.TheVariants as needed
 use Rattle.pb_record.specs.declared.record.Record.{Record}
 
 -- A record's own run number, and the numbers that it has for the units that it needs. A record of
--- format 1 has none.
+-- format 1 has no numbers.
 abbrev pub numbered_in : Needed → Option (ℕ × List (List ℕ × ℕ))
 numbered_in (needed.Copies copies) = None
 numbered_in (needed.Numbers own needs) = Some (own, needs)

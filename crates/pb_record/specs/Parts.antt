@@ -70,10 +70,10 @@ pub record Says (text : List ℕ) (r : Record) : Type 0 where
   pub is : IsRecord r
   pub same : text ≡ record_bytes r
 
--- `found` is the record whose text this is, or nothing if the text is no record
+-- `found` is the record whose text this is, or nothing if this is not the text of a record
 abbrev pub ReadsAs : List ℕ → Option Record → Type 0
 ReadsAs text found = (r : Record) → (found ≡ Some r) ↔ Says text r
 
--- the function finds for each text what reading finds
+-- for each text, the function returns the record whose text it is, as `ReadsAs` defines
 abbrev pub FindsAsReading : (List ℕ → Option Record) → Type 0
 FindsAsReading read = (text : List ℕ) → ReadsAs text (read text)

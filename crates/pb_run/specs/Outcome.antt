@@ -57,7 +57,7 @@ abbrev pub files_at : Option Outcome → Map
 files_at (Some (Good files directives messages)) = files
 files_at _ = finite.empty
 
--- the files of the units at these indices, over the files of `m`
+-- the files of `m`, overlaid with those of the units at these indices
 abbrev pub with_made : List Outcome → List ℕ → Map → Map
 with_made done [] m = m
 with_made done (index ∷ places) m = over (files_at (slice_get done index)) (with_made done places m)
@@ -68,12 +68,12 @@ view_of done sources u = record sources { files = with_made done u.reaches sourc
 
 -- How the reply of a unit's child is judged.
 
--- what came of a unit whose child ended in this way and whose reply was checked with this result
+-- what came of a unit, given how its child ended and the result of the check of its reply
 abbrev pub ran_by : Project → Planned → Ended → Result CheckedReply UnitFault → Ran
 ran_by project u e (Ok a) = record { started = true; bad = None; directives = a.directives; messages = good_messages project u e.stderr a.directives }
 ran_by project u e (Err fault) = record { started = true; bad = Some record { fault = fault; said = said_by u.unit.what fault e }; directives = None; messages = bad_messages u.unit.what fault e }
 
--- the names of the inputs that a good answer has; a bad answer has none
+-- the names of the inputs that a good answer has, or no names for a bad answer
 abbrev pub names_in : Result CheckedReply UnitFault → List InputName
 names_in (Ok a) = a.inputs
 names_in (Err fault) = []
@@ -82,7 +82,7 @@ names_in (Err fault) = []
 abbrev pub judgement_by : Project → Planned → Ended → Result CheckedReply UnitFault → Validated
 judgement_by project u e a = record { ran = ran_by project u e a; names = names_in a }
 
--- the same for a unit for which no child was started
+-- what came of a unit, changed to say that no child was started
 abbrev pub unstarted : Ran → Ran
 unstarted ran = record { started = false; bad = ran.bad; directives = ran.directives; messages = ran.messages }
 

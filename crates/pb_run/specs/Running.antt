@@ -66,8 +66,8 @@ pub record IsSpawned (inside : List ℕ → Bool) (child : Answers) (c : Command
 
 -- Which calls a step makes, one by one.
 
--- The calls of a step. `Makes` says which calls were made if the step succeeded. `Ends` says it for
--- each fault.
+-- The calls of a step. `Makes` says which calls were made if the step succeeded. `Ends` says which
+-- calls were made if the step failed, for each fault.
 abbrev pub Calls : {T E : Type 0} → (T → Counts → Counts → Type 0) → (E → Counts → Counts → Type 0) → Result T E → Counts → Counts → Type 0
 Calls Makes Ends result old new = MatchResult result (λ x. Makes x old new) (λ e. Ends e old new)
 
@@ -75,15 +75,15 @@ Calls Makes Ends result old new = MatchResult result (λ x. Makes x old new) (λ
 abbrev pub OneCall : {T : Type 0} → T → Counts → Counts → Type 0
 OneCall x old new = new ≡ past_call old
 
--- The step makes one call, which removes this path. The call failed with this fault. If memory ran
--- out, the call may have been made.
+-- The one call of the step, which removes this path, failed with this fault. If memory ran out, the
+-- call may have been made.
 abbrev pub RemovalEnds : List ℕ → StepFault → Counts → Counts → Type 0
 RemovalEnds path (step.Store (store.Place fault)) old new = Fails fault (call.Remove path) old new
 RemovalEnds path (step.Store store.NumbersSpent) old new = ⊥
 RemovalEnds path (step.Store store.OutOfMemory) old new = (new ≡ old) ⊎ (new ≡ past_call old)
 RemovalEnds path (step.Start fault) old new = ⊥
 
--- A step that removes a record and needs a run number has ended with this fault. If no number is
+-- How a step that removes a record, and needs a run number, ended with this fault. If no number is
 -- left, no call was made. Any other fault is one of `RemovalEnds`.
 abbrev pub DropEnds : List ℕ → StepFault → Counts → Counts → Type 0
 DropEnds path (step.Store store.NumbersSpent) old new = new ≡ old
@@ -108,8 +108,7 @@ abbrev pub SpawnsAnew : Answers → Command → ℕ → Counts → Counts → Ty
 SpawnsAnew child c ticket old new = Spawns child c ticket (past_call old) new
 
 -- Two calls removed the record and the files of the output folder, and then the child was spawned.
--- The order of these calls can be seen from `LaunchEnds`, which says which of them were made if one
--- failed.
+-- `LaunchEnds` shows the order of these calls: it says which of them were made if one failed.
 abbrev pub Launches : Answers → Command → ℕ → Counts → Counts → Type 0
 Launches child c ticket old new = SpawnsAnew child c ticket (past_call old) new
 
@@ -133,8 +132,8 @@ pub record DropsFor {T : Type 0} (child : Answers) (folder key : List ℕ) (resu
   pub ahead : IsAhead (records folder old) before → IsAhead (records folder new) now
 
 -- The child of this ticket has ended with this answer. The child is no longer in flight, and a
--- failed wait is counted. Only the child's output folder changed. If what the child sees has not
--- changed since its spawn, the child left exactly what was determined at the spawn.
+-- failed wait is counted. Only the child's output folder changed. If the ticket stood still until
+-- then, the child left exactly what was determined at the spawn.
 pub record HasEnded (ticket : ℕ) (answer : Result Ended StartFault) (well stood : Type 0) (before after : World) (old new : Counts) : Type 0 where
   pub counted : new ≡ counted_finish ticket answer old
   pub answered : well → IsOk answer
@@ -189,7 +188,7 @@ dep_info_looked None = []
 dep_info_looked (Some path) = call.Read path ∷ []
 
 -- The calls that write a unit's record after its answer. If the unit has a child, these calls keep
--- a new record. If not, these calls give the old record a run number, if it has none.
+-- a new record. If not, these calls give the old record a run number, provided that it lacks one.
 abbrev pub recorded_called : Project → Planned → Command → World → List InputName → Awaited → List Call
 recorded_called project u c w names (awaited.Child launched) = kept_called (records_folder project) u.key c.target w names
 recorded_called project u c w names (awaited.Record again) = if again.numbered then [] else migrated_called (records_folder project) u.key w

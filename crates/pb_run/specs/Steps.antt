@@ -25,19 +25,19 @@ use Rattle.pb_run.specs.declared.faults.StepFault.TheVariants as step
 use Rattle.pb_store.specs.Calls.{FailedLast}
 use Rattle.pb_store.specs.declared.fault.StoreFault.TheVariants as store
 
--- the fault of a step for a child's fault; out of memory is a fault of the store
+-- a child's fault as a fault of the step; out of memory becomes a fault of the store
 abbrev pub started : StartFault → StepFault
 started start.OutOfMemory = step.Store store.OutOfMemory
 started fault = step.Start fault
 
--- the fault of a build for a step's fault, with the unit's key; out of memory has no key
+-- a step's fault as a fault of the build, with the unit's key; out of memory has no key
 abbrev pub named : List ℕ → StepFault → BuildFault
 named unit (step.Store (store.Place fault)) = Device unit (device.Place fault)
 named unit (step.Store store.NumbersSpent) = Device unit device.NumbersSpent
 named unit (step.Store store.OutOfMemory) = build.OutOfMemory
 named unit (step.Start fault) = Child unit fault
 
--- The fault of a step that has become this fault of a build. No step ends with a refusal,
+-- A fault of a build as the fault of the step from which it came. No step ends with a refusal,
 -- `Toolchain` or `Sink`.
 abbrev pub fault_in : BuildFault → StepFault
 fault_in (Device unit (device.Place fault)) = step.Store (store.Place fault)
@@ -56,7 +56,8 @@ IsOfUnit key build.OutOfMemory = Unit {0}
 IsOfUnit key (Child unit fault) = unit ≡ key
 IsOfUnit key _ = ⊥
 
--- the fault of a build for the fault of a call on files or variables, with this name; out of memory has no name
+-- the fault of a call on files or variables as a fault of the build, with this name; out of memory
+-- has no name
 abbrev pub device_fault : List ℕ → PlaceFault → BuildFault
 device_fault unit place.OutOfMemory = build.OutOfMemory
 device_fault unit fault = Device unit (device.Place fault)
@@ -67,7 +68,7 @@ NoStart x old new = new ≡ old
 
 -- How the two steps of a unit change the counters of starts.
 
--- one more start is counted, and a child with this ticket, which is new, is the last in flight
+-- one more start is counted; the last child in flight has this ticket, which is new
 pub record StartsRise (ticket : ℕ) (old new : Starts) : Type 0 where
   pub child : ChildInFlight
   pub its : child.ticket ≡ ticket
@@ -94,8 +95,8 @@ Drops (Some launched) old new = (result : Result Ended StartFault) × (new ≡ c
 
 -- Calls on files and variables that are made one after the other.
 
--- This fault of a build ended these calls. Either one of the calls failed, all calls before it
--- succeeded, and no call came after it, or memory ran out after the first few calls. No other fault
+-- This fault of a build ended these calls. Either one of the calls failed; then all calls before it
+-- succeeded, and no call came after it. Or memory ran out after the first n calls. No other fault
 -- is possible.
 abbrev pub StopsAt : BuildFault → List Call → Counts → Counts → Type 0
 StopsAt (Device unit (device.Place fault)) calls old new = FailsAt fault calls old new
@@ -129,7 +130,7 @@ BeginFaults next (step.Store store.NumbersSpent) old new = (next ≡ None) × (n
 BeginFaults next (step.Store store.OutOfMemory) old new = (new ≡ old) ⊎ (new ≡ up_starts old)
 BeginFaults next (step.Start fault) old new = (fault ≡ start.CannotStart) × (new ≡ up_starts old)
 
--- the faults with which the one call that removes the files of a folder may fail
+-- the faults of the one call that removes the files of a folder
 abbrev pub MayRemove : StepFault → Starts → Starts → Type 0
 MayRemove (step.Store (store.Place fault)) old new = (fault ≡ place.Remove) × (new ≡ old)
 MayRemove (step.Store store.NumbersSpent) old new = ⊥
@@ -162,7 +163,7 @@ starts (step.Store store.NumbersSpent) = true
 starts (step.Store store.OutOfMemory) = false
 starts (step.Start fault) = true
 
--- the cause of a build's fault, whatever name the fault has
+-- the cause of a build's fault; the name in the fault does not matter
 abbrev pub HasCause : BuildFault → Counts → Counts → Type 0
 HasCause fault old new = StepCause (fault_in fault) old new
 
@@ -172,8 +173,8 @@ is_of_start fault = starts (fault_in fault)
 
 -- Calls that are made one after the other, for faults without a key.
 
--- How these calls ended with this fault of a step. Either one of them failed, all calls before it
--- succeeded, and no call came after it, or memory ran out after the first few.
+-- How these calls ended with this fault of a step. Either one of the calls failed; then all calls
+-- before it succeeded, and no call came after it. Or memory ran out after the first n calls.
 abbrev pub StepStopsAt : StepFault → List Call → Counts → Counts → Type 0
 StepStopsAt (step.Store (store.Place fault)) calls old new = FailsAt fault calls old new
 StepStopsAt (step.Store store.NumbersSpent) calls old new = ⊥

@@ -113,14 +113,14 @@ pub record HoldsRecords (b : BuildContext) (states : List (State BadUnit)) (next
   pub ahead : IsAhead (records_in b w) next
   pub recorded : (index : ℕ) → is_good_at (slice_get states index) ≡ true → HasRecord b w index
 
--- what the premise requires of the records: with `TrustedRecords` these facts, and with `NoRecords`
--- that no unit has a record before it begins
+-- what the premise requires of the records: with `TrustedRecords`, what `HoldsRecords` states; with
+-- `NoRecords`, that no unit has a record before it begins
 abbrev pub HoldsBy : Premise → BuildContext → List (State BadUnit) → Option ℕ → World → Type 0
 HoldsBy TrustedRecords b states next w = HoldsRecords b states next w
 HoldsBy NoRecords b states next w = (index : ℕ) (u : Planned) → unit_at b.project index ≡ Some u → slice_get states index ≡ Some Untouched → records_in b w u.key ≡ None
 
 -- What is true while units are in these states. There is a note for each state. The sources are
--- unchanged. Each good unit has its files, and all that it reaches is good. The records are as the
+-- unchanged. Each good unit has its files, and reaches only good units. The records are as the
 -- premise requires.
 pub record BuildInvariant (b : BuildContext) (states : List (State BadUnit)) (done : List (Option (List Directive))) (next : Option ℕ) (w : World) : Type 0 where
   pub long : length done ≡ length states
@@ -169,8 +169,8 @@ pub record IsInFlight (child : Answers) (c : Command) (view : World) (ticket : �
   pub stands : still ticket
 
 -- A record of the unit may be kept with this number. No record counts for the unit now, and no
--- record has or names the number. The number is below the next one. The units that this unit needs
--- have their records.
+-- record has or names the number. The number is below the next number. All needed units have their
+-- records.
 pub record AwaitsRecord (b : BuildContext) (u : Planned) (number : ℕ) (next : Option ℕ) (w : World) : Type 0 where
   pub gone : records_in b w u.key ≡ None
   pub unnamed : NoneNames (records_in b w) number
@@ -212,22 +212,22 @@ KeepsOthersStill launched inside flying before after =
 
 -- The states from which a step may start.
 
--- The unit at an index can begin: the unit has not begun, and all units that it reaches have
--- answered and are good.
+-- The unit at an index can begin: the unit has not begun, and reaches only units that have answered
+-- and are good.
 pub record CanBegin (b : BuildContext) (states : List (State BadUnit)) (done : List (Option (List Directive))) (index : ℕ) (u : Planned) (next : Option ℕ) (w : World) : Type 0 where
   pub keeps : BuildInvariant b states done next w
   pub untouched : slice_get states index ≡ Some Untouched
   pub reaches : are_good states u.reaches ≡ true
 
--- The unit at an index can answer: the unit has begun in this way, and all units that it reaches are good.
+-- The unit at an index can answer: the unit has begun in this way, and reaches only good units.
 pub record CanAnswer (b : BuildContext) (states : List (State BadUnit)) (done : List (Option (List Directive))) (index : ℕ) (u : Planned) (begun : Begun) (next : Option ℕ) (w : World) (flying : List ChildInFlight) (still : ℕ → Type 0) : Type 0 where
   pub keeps : BuildInvariant b states done next w
   pub state : slice_get states index ≡ Some begun_state
   pub reaches : are_good states u.reaches ≡ true
   pub begun_so : IsBegun b index begun next w flying still
 
--- Another unit has begun, and all units that it reaches are good. If both units have a child, their
--- tickets differ, and so do their run numbers.
+-- Another unit has begun, and reaches only good units. If both units have a child, their tickets
+-- differ, and so do their run numbers.
 pub record BeginsApart (b : BuildContext) (states : List (State BadUnit)) (index : ℕ) (launched : Option SpawnedChild) (other : ℕ) (its : Begun) (next : Option ℕ) (w : World) (flying : List ChildInFlight) (still : ℕ → Type 0) : Type 0 where
   pub another : other ≢ index
   pub unit : Planned

@@ -16,6 +16,6 @@ pub use begun::{Awaited, Begun, SpawnedChild};
 pub use faults::{StepFault, deviceless};
 pub use laws::outcomes_unfold;
 pub use ordered::OrderedProject;
-pub use pb_run_flight::{First, Flight, Jobs, Last, Pick, Step, Turn};
+pub use pb_run_flight::{Answer, First, Flight, Jobs, Last, Pick, Step, Turn};
 pub use ran::{Ran, Validated};
 pub use unit_steps::{Outcome, answer_unit, begin_unit, drop_unit, run_unit};

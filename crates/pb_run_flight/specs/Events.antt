@@ -5,7 +5,8 @@ use Rattle.pb_run_flight.specs.declared.flight.State.{State}
 use Rattle.pb_run_flight.specs.declared.flight.State.TheVariants.{Untouched, Begun, Answered}
 use Rattle.pb_run_flight.specs.Table.{is_bad, is_good_at, if_so}
 
--- an event is that a unit begins, with or without a child that was spawned for it, or that a unit answers
+-- in an event, either a unit begins, with or without a child that was spawned for it, or a unit
+-- answers
 pub data Event (F : Type 0) : Type 0 where
   Began : (unit : ℕ) (spawned : Bool) → Event F
   Gave : (unit : ℕ) (answer : Answer F) → Event F
@@ -53,8 +54,8 @@ peak [] = 0
 peak (Began u spawned ∷ es) = if spawned then max (peak es) (length (launched_after es) + 1) else peak es
 peak (Gave u answer ∷ es) = peak es
 
--- A unit may begin if it has not begun, and each unit that it needs has answered and is good. No
--- unit before it in plan order may be bad.
+-- A unit may begin if it has not begun, and all needed units have answered and are good. No unit
+-- before it in plan order may be bad.
 pub record MayBegin {F : Type 0} (needs : List (List ℕ)) (states : List (State F)) (u : ℕ) : Type 0 where
   pub wanted : List ℕ
   pub unit : slice_get needs u ≡ Some wanted

@@ -21,29 +21,28 @@ ReadyIsExact F = (needs : List (List ℕ)) (states : List (State F)) → IsStric
 abbrev pub HasBegun : {F : Type 0} → List (State F) → ℕ → Type 0
 HasBegun {F} states u = (s : State F) × (slice_get states u ≡ Some s) × (is_untouched s ≡ false)
 
--- After lawful events, all units that a unit reaches have answered and are good, if it has begun or
--- may begin. So none of them is in flight.
+-- After lawful events, take a unit that has begun or may begin. It reaches only units that have
+-- answered and are good. So it reaches no unit in flight.
 abbrev pub ReachedIsGood : (F : Type 0) → Type 0
 ReachedIsGood F = (needs : List (List ℕ)) (es : List (Event F)) → IsLawful needs es → (u v : ℕ) → MayBegin needs (states_after needs es) u ⊎ HasBegun (states_after needs es) u → Reaches needs u v → is_good_at (slice_get (states_after needs es) v) ≡ true
 
 -- Which lines are handed out.
 
--- After a call that hands out lines, all lines handed out are those that are due. These are the
--- lines of the units from the start of plan order that have answered, up to and including the first
--- bad unit.
+-- After a call that hands out lines, exactly the due lines have been handed out.
 abbrev pub HandsOutAllDue : (F : Type 0) → Type 0
 HandsOutAllDue F = (needs : List (List ℕ)) (cs : List (Call F)) → IsLawful needs (events_of cs) → handed_out needs (Emitted ∷ cs) ≡ due (states_after needs (events_of cs))
 
--- each unit that has answered has the same answer at the end
+-- each unit that has answered keeps its answer to the end
 abbrev pub EndsAs : {F : Type 0} → List (State F) → List (State F) → Type 0
 EndsAs {F} states end = (u : ℕ) (answer : Answer F) → slice_get states u ≡ Some (Answered answer) → slice_get end u ≡ Some (Answered answer)
 
--- The lines due now are those of the units due now. These lines are a first part of the lines due at the end.
+-- The lines due now are those of the units due now. These lines are a prefix of the lines due at
+-- the end.
 abbrev pub DueIsStart : (F : Type 0) → Type 0
 DueIsStart F = (states end : List (State F)) → EndsAs states end → (due states ≡ due_first (count_due states) end) × ((rest : List ℕ) × (due end ≡ due states ++ rest))
 
 -- Once all units up to and including the first bad one have answered, the lines due now are all
--- lines due at the end. The first bad unit now is also the first at the end.
+-- lines due at the end. The first bad unit now is also the first bad unit at the end.
 abbrev pub FinishedIsAll : (F : Type 0) → Type 0
 FinishedIsAll F = (states end : List (State F)) → length states ≡ length end → is_finished states ≡ true → EndsAs states end → (due states ≡ due end) × (first_bad states ≡ first_bad end)
 
@@ -53,7 +52,7 @@ FinishedIsAll F = (states end : List (State F)) → length states ≡ length end
 abbrev pub FlyingIsBegun : (F : Type 0) → Type 0
 FlyingIsBegun F = (needs : List (List ℕ)) (es : List (Event F)) → IsLawful needs es → AllPairs (λ u v. u ≢ v) (flying_after es) × ((u : ℕ) → Contains (flying_after es) u ↔ (slice_get (states_after needs es) u ≡ Some Begun))
 
--- whatever a unit needs comes before it in plan order
+-- in plan order, each unit comes after all units that it needs
 abbrev pub IsInPlanOrder : List (List ℕ) → Type 0
 IsInPlanOrder needs = (u v : ℕ) (wanted : List ℕ) → slice_get needs u ≡ Some wanted → Contains wanted v → v < u
 

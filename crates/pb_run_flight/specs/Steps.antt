@@ -8,14 +8,15 @@ use Rattle.pb_run_flight.specs.declared.turn.Jobs.{Jobs}
 use Rattle.pb_run_flight.specs.Table.{ready_of, is_finished}
 use Rattle.pb_run_flight.specs.Events.{Event, Began, Gave, states_after, flying_after}
 
--- a step names the index of an item in its list
+-- the index of a step is in the list for this step: the units that may begin, or the units in
+-- flight
 abbrev pub IsWithin : ℕ → ℕ → Step → Type 0
 IsWithin ready flying (step.Begin i) = i < ready
 IsWithin ready flying (step.Answer i) = i < flying
 
 -- A turn has decided the steps that produced these events. Each step started from the state after
--- the last step. Each chose a unit that might begin or was in flight, while units were missing.
--- `Spawns` says if a unit has a child, and `Gives` which answer it may give.
+-- the last step, and the flight was not finished then. Each step chose a unit that might begin or
+-- was in flight. `Spawns` says if a unit has a child, and `Gives` which answer it may give.
 pub data Flies {F S : Type 0} (Turns : S → List ℕ → List ℕ → Step → S → Type 0) (needs : List (List ℕ)) (Spawns : ℕ → Bool → Type 0) (Gives : ℕ → Answer F → Type 0) (from : S) : List (Event F) → S → Type 0 where
   nothing : Flies Turns needs Spawns Gives from [] from
   begin : (es : List (Event F)) (now next : S) (i u : ℕ) (spawned : Bool) (before : Flies Turns needs Spawns Gives from es now) (missing : is_finished (states_after needs es) ≡ false)
@@ -25,9 +26,9 @@ pub data Flies {F S : Type 0} (Turns : S → List ℕ → List ℕ → Step → 
       (turned : Turns now (ready_of needs (states_after needs es)) (flying_after es) (step.Answer i) next) (unit : slice_get (flying_after es) i ≡ Some u) (gives : Gives u given)
       → Flies Turns needs Spawns Gives from (Gave u given ∷ es) next
 
--- The state that is returned after these events is the state after the last event. But if a fault
--- ended the answer of a unit while units were missing, the state is that after the step which chose
--- the unit.
+-- After these events, the state after the last event is returned. There is one exception. If a
+-- fault ended the answer of a unit while the flight was not finished, the state after the step that
+-- chose this unit is returned.
 abbrev pub HandsBack : {F S : Type 0} → (S → List ℕ → List ℕ → Step → S → Type 0) → List (List ℕ) → List (Event F) → S → Option ℕ → S → Type 0
 HandsBack Turns needs es last None back = back ≡ last
 HandsBack Turns needs es last (Some u) back = (i : ℕ) × (is_finished (states_after needs es) ≡ false) × (slice_get (flying_after es) i ≡ Some u) × Turns last (ready_of needs (states_after needs es)) (flying_after es) (step.Answer i) back
@@ -41,11 +42,11 @@ abbrev pub SpawnsAs : (ℕ → Type 0) → ℕ → Bool → Type 0
 SpawnsAs Differs u true = Differs u
 SpawnsAs Differs u false = Differs u → ⊥
 
--- the first of the units that may begin is picked
+-- the pick chooses the first of the units that may begin
 abbrev pub PicksFirst : List ℕ → ℕ → Type 0
 PicksFirst ready place = place ≡ 0
 
--- the last of the units that may begin is picked
+-- the pick chooses the last of the units that may begin
 abbrev pub PicksLast : List ℕ → ℕ → Type 0
 PicksLast ready place = place + 1 ≡ length ready
 
@@ -60,6 +61,7 @@ abbrev pub JobsTurn : {S : Type 0} → (S → List ℕ → ℕ → S → Type 0)
 JobsTurn Picks jobs old after ready flying (step.Begin i) new = (after ≡ jobs) × (0 < length ready) × (length flying < max jobs 1) × Picks old ready i new
 JobsTurn Picks jobs old after ready flying (step.Answer i) new = (after ≡ jobs) × (i ≡ 0) × (new ≡ old) × ((length ready ≡ 0) ⊎ (max jobs 1 ≤ length flying))
 
--- the turn that a number of jobs and a pick make, from the old jobs to the new jobs
+-- the turn that a number of jobs and a pick make; `old` has both before the step, and `new` has
+-- both after it
 abbrev pub TurnsOfJobs : {S : Type 0} → (S → List ℕ → ℕ → S → Type 0) → Jobs S → List ℕ → List ℕ → Step → Jobs S → Type 0
 TurnsOfJobs Picks old ready flying step new = JobsTurn Picks old.jobs old.pick new.jobs ready flying step new.pick

@@ -44,7 +44,7 @@ is_good_at (Some s) = is_good s
 abbrev pub are_good : {F : Type 0} → List (State F) → List ℕ → Bool
 are_good states units = list_all (λ u. is_good_at (slice_get states u)) units
 
--- the unit has not begun, and all units that it needs have answered and are good
+-- the unit has not begun, and all needed units have answered and are good
 abbrev pub is_open : {F : Type 0} → List (State F) → State F → List ℕ → Bool
 is_open states s needs = is_untouched s && are_good states needs
 
@@ -64,8 +64,8 @@ ready_of needs states = ready_from states 0 needs states
 
 -- Which lines are due.
 
--- the lines of the units that have answered, from the start of plan order, up to and including the
--- first bad unit
+-- the lines of the units in plan order, up to the first unit that has not answered, or up to and
+-- including the first bad unit
 abbrev pub due : {F : Type 0} → List (State F) → List ℕ
 due (Answered answer ∷ ss) = answer.lines ++ (if is_none answer.fault then due ss else [])
 due _ = []
@@ -98,7 +98,8 @@ first_bad_from i _ = None
 abbrev pub first_bad : {F : Type 0} → List (State F) → Option ℕ
 first_bad states = first_bad_from 0 states
 
--- all units have answered, or all up to and including the first bad unit have
+-- all units up to and including the first bad unit have answered; without a bad unit, all units
+-- have
 abbrev pub is_finished : {F : Type 0} → List (State F) → Bool
 is_finished [] = true
 is_finished (Untouched ∷ ss) = false

@@ -6,7 +6,7 @@ use Rattle.pb_run_flight.specs.declared.flight.State.TheVariants.{Untouched, Beg
 use Rattle.pb_run_flight.specs.Table.{is_bad, is_good_at, is_open, count_due}
 
 -- The number of units at the start of the list that have answered and are good. The count ends at
--- the first unit of which this is not so.
+-- the first unit that has not answered or is bad.
 abbrev pub count_met : {F : Type 0} → List (State F) → List ℕ → ℕ
 count_met states [] = 0
 count_met states (u ∷ us) = if is_good_at (slice_get states u) then suc (count_met states us) else 0
@@ -23,14 +23,15 @@ pub record AreListed (needs : List (List ℕ)) (upto : ℕ) (needed_by : List (L
 pub record IsFar (needs : List (List ℕ)) (met : List ℕ) (reach : ℕ) : Type 0 where
   pub each : (u : ℕ) → reach ≤ u → u < length needs → slice_index met u < length (units_at needs u)
 
--- For each unit, the count of its met needs is right, or it is too small and the unit is in `units`.
+-- For each unit, the count of its met needs is right, or the count is too small and the unit is in
+-- `units`.
 pub record AreKnown {F : Type 0} (needs : List (List ℕ)) (states : List (State F)) (units : List ℕ) (met : List ℕ) : Type 0 where
   pub each : (u : ℕ) → u < length needs → slice_index met u ≤ count_met states (units_at needs u)
   pub right : (u : ℕ) → u < length needs → (slice_index met u ≡ count_met states (units_at needs u)) ⊎ Contains units u
 
 -- What the table stores. `needed_by` has the needs the other way round. `met` has the number of met
--- needs of each unit. From `reach` on, no unit has all its needs met. No more has been handed out
--- than is due.
+-- needs of each unit. From `reach` on, no unit has all its needs met. Only lines that are due have
+-- been handed out.
 pub record IsStored {F : Type 0} (needs needed_by : List (List ℕ)) (met : List ℕ) (reach : ℕ) (states : List (State F)) (given : ℕ) : Type 0 where
   pub states_long : length states ≡ length needs
   pub lists_long : length needed_by ≡ length needs

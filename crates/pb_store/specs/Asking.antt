@@ -39,7 +39,7 @@ IsNextName (x ∷ xs) [] name = name ≡ x.0
 IsNextName (x ∷ xs) (y ∷ ys) name = (x ≡ y → ⊥) × (name ≡ lesser x.0 y.0)
 
 -- The first name at which two rows of variables differ. Both rows are sorted by name, and begin
--- with the same variables. `name` is the next name.
+-- with the same variables. After these, `name` is as `IsNextName` says.
 pub record IsFirstName (row other : List (List ℕ × List ℕ)) (name : List ℕ) : Type 0 where
   pub before : List (List ℕ × List ℕ)
   pub after : List (List ℕ × List ℕ)

@@ -17,12 +17,12 @@ use Rattle.pb_store.specs.declared.fault.OpenFault.TheVariants as open_fault
 use Rattle.pb_store.specs.declared.fault.StoreFault.{StoreFault}
 use Rattle.pb_store.specs.declared.fault.StoreFault.TheVariants.{Place, NumbersSpent, OutOfMemory}
 
--- the fault of the store for a fault of the place; out of memory stays out of memory
+-- a fault of the place as a fault of the store; out of memory stays out of memory
 abbrev pub stored : PlaceFault → StoreFault
 stored place.OutOfMemory = OutOfMemory
 stored fault = Place fault
 
--- the fault of opening for a fault of the place on this path; out of memory stays out of memory
+-- a fault of the place on this path as a fault of opening; out of memory stays out of memory
 abbrev pub opened : List ℕ → PlaceFault → OpenFault
 opened path place.OutOfMemory = open_fault.OutOfMemory
 opened path fault = open_fault.Place path fault
@@ -116,7 +116,8 @@ CallsOnce call result old new = MatchResult result (λ x. new ≡ past_call old)
 abbrev pub FailsToWrite : {T : Type 0} → List ℕ → Result T StoreFault → Counts → Type 0
 FailsToWrite path result new = IfErr result (λ e. e ≡ Place place.Write → new.failing ≡ Some (call.Write path))
 
--- the fault is that of a call that looks: one that reads a file, lists a folder or reads a variable
+-- the fault is that of a call that looks: a call that reads a file, lists a folder or reads a
+-- variable
 abbrev pub is_look : PlaceFault → Bool
 is_look place.Read = true
 is_look place.List = true
@@ -131,8 +132,8 @@ looked (Place fault) = is_look fault
 looked NumbersSpent = false
 looked OutOfMemory = false
 
--- either one of these files is a record that could not be read, and the fault is that of this file,
--- or memory ran out
+-- either a record among these files could not be read, and the fault names this file, or memory ran
+-- out
 abbrev pub ReadsOneOf : List (List ℕ) → OpenFault → Type 0
 ReadsOneOf paths (open_fault.Place at fault) = (fault ≡ place.Read) × Contains paths at × (ends_as_record at ≡ true)
 ReadsOneOf paths open_fault.OutOfMemory = Unit {0}

@@ -23,7 +23,8 @@ use Rattle.pb_store.specs.declared.replaying.Compared.{Compared}
 use Rattle.pb_store.specs.declared.replaying.Compared.TheVariants.{Differs, Same}
 use Rattle.pb_store.specs.declared.replaying.Replayed.{Replayed}
 
--- `b` reports the first item of the row for which `Holds` is false. For all items before it, `Holds` is true.
+-- In the row, `b` reports the first item for which `Holds` is false. For all items before it,
+-- `Holds` is true.
 pub record IsFirst {A B : Type 0} (Holds : A → Type 0) (told : A → B) (row : List A) (b : B) : Type 0 where
   pub before : List A
   pub here : A
@@ -33,7 +34,7 @@ pub record IsFirst {A B : Type 0} (Holds : A → Type 0) (told : A → B) (row :
   pub fails : Holds here → ⊥
   pub tells : b ≡ told here
 
--- Either no name is reported, and `Holds` is true for all items of the row, or the reported name is
+-- If no name is reported, `Holds` is true for all items of the row. Otherwise the reported name is
 -- that of the first item for which `Holds` is false.
 abbrev pub FirstOrAll : {A : Type 0} → ((List ℕ × A) → Type 0) → List (List ℕ × A) → Option (List ℕ) → Type 0
 FirstOrAll Holds row None = AllByRecursion Holds row
@@ -68,8 +69,8 @@ abbrev pub FirstNeed : List ℕ → RecordMap → Map → Needed → List ℕ �
 FirstNeed folder at files (Copies copies) need = IsFirst (HasFiles folder files) (λ c. c.0) copies need
 FirstNeed folder at files (Numbers number needs) need = IsFirst (HasNumber at) (λ n. n.0) needs need
 
--- nothing differs from the record: it has this command, its inputs have their present values, and
--- the needed units are as it names them
+-- nothing differs from the record: the record has this command, its inputs have their present
+-- values, and the needed units are as the record names them
 pub record IsAsRecorded (folder : List ℕ) (at : RecordMap) (c : commands.Command) (w : World) (r : Record) : Type 0 where
   pub asked : command_of r.asked ≡ c
   pub inputs : Agrees c.target r.inputs w
@@ -133,7 +134,7 @@ replayed r = record { ended = record { status = pos 0; stdout = r.stdout; stderr
 abbrev pub IsReplayed : Option Record → Replayed → Type 0
 IsReplayed found again = option_map replayed found ≡ Some again
 
--- the difference that a comparison found, or none if nothing differs
+-- the difference that a comparison found, if something differs
 abbrev pub difference_in : Compared → Option Difference
 difference_in (Differs difference) = Some difference
 difference_in (Same again) = None

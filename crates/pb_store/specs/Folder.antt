@@ -34,7 +34,7 @@ use Rattle.pb_store.specs.declared.store.Store.{Store}
 abbrev pub number_in : List (List ℕ × Option ℕ) → List ℕ → Option ℕ
 number_in table key = option_and_then (λ (number : Option ℕ). number) (value_at key table)
 
--- the table's number for the needed unit is the number in the pair
+-- the table has, for the pair's key, the pair's number
 abbrev pub IsHeld : List (List ℕ × Option ℕ) → (List ℕ × ℕ) → Type 0
 IsHeld table need = number_in table need.0 ≡ Some need.1
 
@@ -76,8 +76,8 @@ pub record IsEarned (judge : Judge) (child : Answers) (folder key : List ℕ) (c
 abbrev pub kept_of : List ℕ → List ℕ → Command → List Input → ℕ → List (List ℕ × ℕ) → Ended → Record
 kept_of folder key c inputs number pairs ended = record { key = key; asked = of_parts c (out_of folder key); inputs = inputs; needed = Numbers number pairs; stdout = ended.stdout; stderr = ended.stderr }
 
--- The record of a unit after a call that was to put a record there. Either no record counts for the
--- unit, or the old record counts, or the one that was to be put.
+-- A unit's record after a failed call: no record, the old record, or `put`, the record that the
+-- call was to keep.
 abbrev pub Leaves : Option Record → Option Record → Option Record → Type 0
 Leaves put old new = (new ≡ None) ⊎ ((new ≡ old) ⊎ (new ≡ put))
 
@@ -111,8 +111,8 @@ abbrev pub lacks_number : Option Record → Bool
 lacks_number None = false
 lacks_number (Some r) = not (is_some (number_of r))
 
--- The record after a migration. A record with a number stays as it is. A record without one gets
--- the next number, if a number is left.
+-- The record after a migration. A record with a number stays as it is. A record without a number
+-- gets the next number, if one is left.
 abbrev pub migrated_by : Option ℕ → Option ℕ → List (List ℕ × ℕ) → Record → Option Record
 migrated_by (Some own) next pairs r = Some r
 migrated_by None (Some number) pairs r = Some (numbered_record r number pairs)
@@ -123,8 +123,8 @@ migrated next pairs None = None
 migrated next pairs (Some r) = migrated_by (number_of r) next pairs r
 
 -- When a record may be migrated, so that the new record is true. Nothing differs from the old
--- record, and the child is honest on its command. Each unit that the command reads is grounded, and
--- the needed units have their records. No record has or names the new number.
+-- record, and the child is honest on its command. All units with a folder in the command's `reads`
+-- are grounded. The needed units have their records. No record has or names the new number.
 pub record IsMigrated (judge : Judge) (child : Answers) (folder key : List ℕ) (c : Command) (needs : List (List ℕ)) (number : ℕ) (w : World) (r : Record) : Type 0 where
   pub same : IsSame reading folder key c w r
   pub honest : IsHonest judge child c w
@@ -164,13 +164,14 @@ greatest_at m path = if ends_as_record path then greatest_if (read_text reading 
 abbrev pub greatest_of : Map → List (List ℕ) → ℕ
 greatest_of m paths = fold (λ g path. max g (greatest_at m path)) 0 paths
 
--- The next run number of a folder: one more than the greatest number that a record in it has or
--- names. If no record has a number, the next is 1. After the last number there is no next.
+-- The next run number of a folder: one more than the greatest number that a record directly in the
+-- folder has or names. If no record has a number, the next number is 1. After the greatest number
+-- of 64 bits there is no next number.
 abbrev pub next_in : List ℕ → World → Option ℕ
 next_in folder w = after (greatest_of w.files (listed_directly folder w))
 
--- The store of a folder has the folder's next run number and the run numbers of its records. All
--- numbers that a record has or names are below the next one.
+-- The store of a folder has the folder's next run number and the run numbers of its records. The
+-- next number is above all numbers that a record has or names.
 pub record OpensStore (folder : List ℕ) (w : World) (store : Store) : Type 0 where
   pub next : store.next ≡ next_in folder w
   pub ahead : IsAhead (records folder w) store.next
@@ -186,8 +187,8 @@ pub record Compares (folder key : List ℕ) (c : Command) (w : World) (compared 
 abbrev pub IsGiven : ℕ → Option ℕ → Option ℕ → Type 0
 IsGiven number old new = (old ≡ Some number) × (new ≡ after number)
 
--- The record of a unit after a call that was to put `put` there. After a success this is `put`.
--- After a fault no record counts, or it is the old record or `put`.
+-- A unit's record after a call. After a success this is `put`, the record that the call was to
+-- keep. After a fault it is as `Leaves` says.
 abbrev pub IsAfterPut : {T : Type 0} → Result T StoreFault → Option Record → Option Record → Option Record → Type 0
 IsAfterPut result put old new = MatchResult result (λ x. new ≡ put) (λ e. Leaves put old new)
 
@@ -209,8 +210,8 @@ pub record DropsRecord (child : Answers) (key : List ℕ) (result : Result ℕ S
   pub spent : old.next ≡ None → now ≡ before
 
 -- What putting a record guarantees. If `MayPut` is true, the folder stays sound. After a success
--- the record counts for its key. A number above all others stays above them, if the record's own
--- number and those that it names are lower.
+-- the record counts for its key. A number above all others stays above them, if it is also above
+-- the numbers that the record has and names.
 pub record PutsRecord (child : Answers) (folder key : List ℕ) (r : Record) (result : Result Unit StoreFault) (old new : World) : Type 0 where
   pub sound : (judge : Judge) (number : ℕ) → MayPut reading judge child folder key old r number → Sound reading judge child folder old.files → Sound reading judge child folder new.files
   pub stands : IsAfterPut result (Some r) (records folder old key) (records folder new key)
@@ -234,7 +235,8 @@ pub record MigratesRecord (child : Answers) (key : List ℕ) (needs : List (List
   pub stands : IsAfterPut result (migrated old.next (numbered (records old.folder before) needs) (records old.folder before key)) (records old.folder before key) (records old.folder now key)
   pub ahead : (judge : Judge) (c : Command) (r : Record) → ((number : ℕ) → old.next ≡ Some number → IsMigrated judge child old.folder key c needs number before r) → IsAhead (records old.folder before) old.next → IsAhead (records old.folder now) new.next
   pub numbers : OnOk result (HasNumbers (records old.folder now) new.numbers)
-  -- a number is taken only for a record that counts and has no number
+  -- if a record without a number counts, a success takes the next number; if no such record counts,
+  -- nothing changes
   pub taken : lacks_number (records old.folder before key) ≡ true → OnOk result (TakesNext old.next new.next)
   pub unused : lacks_number (records old.folder before key) ≡ false → (new.next ≡ old.next) × (now ≡ before)
   pub cause : result ≡ Err NumbersSpent → lacks_number (records old.folder before key) ≡ true

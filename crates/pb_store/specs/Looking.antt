@@ -31,20 +31,21 @@ use Rattle.pb_store.specs.declared.fault.StoreFault.{StoreFault}
 use Rattle.pb_store.specs.declared.fault.StoreFault.TheVariants.{Place, NumbersSpent, OutOfMemory}
 
 -- How these calls ended with this fault of the store. For a fault of the place, one of these calls
--- failed. If memory ran out, only the first few of the calls were made. No other fault is possible.
+-- failed. If memory ran out, only the first n of the calls were made, for some n. No other fault is
+-- possible.
 abbrev pub StopsAt : StoreFault → List Call → Counts → Counts → Type 0
 StopsAt (Place fault) calls old new = FailsAt fault calls old new
 StopsAt NumbersSpent calls old new = ⊥
 StopsAt OutOfMemory calls old new = MakesSome calls old new
 
--- After a success, exactly these calls were made. After an error, the first few of them were made.
--- Each call is counted and the failed call is recorded, so the counters also determine the order of
--- the calls.
+-- After a success, exactly these calls were made. After an error, the first n of them were made,
+-- for some n. Each call is counted and the failed call is recorded, so the counters also determine
+-- the order of the calls.
 abbrev pub Looks : {T : Type 0} → Result T StoreFault → List Call → Counts → Counts → Type 0
 Looks result calls old new = MatchResult result (λ x. new ≡ past_calls calls old) (λ e. StopsAt e calls old new)
 
 -- How these calls ended with this fault of opening: one of them failed, or memory ran out after the
--- first few. `OpensLooking` also covers a success.
+-- first n, for some n. `OpensLooking` also covers a success.
 abbrev pub OpeningStopsAt : OpenFault → List Call → Counts → Counts → Type 0
 OpeningStopsAt (open_fault.Place path fault) calls old new = FailsAt fault calls old new
 OpeningStopsAt open_fault.OutOfMemory calls old new = MakesSome calls old new
@@ -52,8 +53,7 @@ OpeningStopsAt open_fault.OutOfMemory calls old new = MakesSome calls old new
 abbrev pub OpensLooking : {T : Type 0} → Result T OpenFault → List Call → Counts → Counts → Type 0
 OpensLooking result calls old new = MatchResult result (λ x. new ≡ past_calls calls old) (λ e. OpeningStopsAt e calls old new)
 
--- the calls for the items of a row, item by item; those for the first item that differs are the
--- last
+-- the calls for the items of a row, item by item, up to and including the first item that differs
 abbrev pub looked_up_to : {A : Type 0} → (A → Bool) → (A → List Call) → List A → List Call
 looked_up_to is_same look [] = []
 looked_up_to is_same look (x ∷ xs) = look x ++ (if is_same x then looked_up_to is_same look xs else [])
@@ -133,7 +133,7 @@ same_texts texts others = pointwise (pointwise ◌==◌) texts others
 unfoldable pub is_asked : RecordedCommand → commands.Command → Bool
 is_asked a c = bytes_eq a.program c.program && (same_texts a.words c.words && (bytes_eq a.folder c.folder && (same_text (Some a.out) c.out && (bytes_eq a.target c.target && (bytes_eq a.toolchain c.toolchain && (same_texts a.reads c.reads && same_files a.pairs c.pairs))))))
 
--- the calls for a record; if its command differs, none are made
+-- the calls for a record; if its command differs, no calls are made
 unfoldable pub from_looked : List ℕ → commands.Command → World → Record → List Call
 from_looked folder c w r = if is_asked r.asked c then around_looked folder c.target w r else []
 
@@ -164,12 +164,12 @@ kept_called folder key target w names = names_looked target w names ++ (call.Wri
 abbrev pub migrated_called : List ℕ → List ℕ → World → List Call
 migrated_called folder key w = call.Read (place_of folder key) ∷ (if lacks_number (records folder w key) then call.Write (place_of folder key) ∷ [] else [])
 
--- Either the calls of the first list were made, and then no run number was left, or the calls of
+-- Either the calls of the first list were made, and then no run number was left. Or the calls of
 -- the second list were made, as `Looks` states.
 abbrev pub LooksOrSpent : {T : Type 0} → Result T StoreFault → List Call → List Call → Counts → Counts → Type 0
 LooksOrSpent result first calls old new = ((result ≡ Err NumbersSpent) × (new ≡ past_calls first old)) ⊎ Looks result calls old new
 
--- The tests that decide how far the store looks agree with the definitions of differences.
+-- The store's tests, which decide how far it looks, agree with the definitions of differences.
 pub record TestsDecide : Type 0 where
   pub input : (target : List ℕ) (w : World) (i : Input) → Decides (is_present target w i) (IsPresent target w i)
   pub copies : (folder : List ℕ) (files : Map) (need : List ℕ × List (List ℕ × List ℕ)) → Decides (has_files folder files need) (HasFiles folder files need)

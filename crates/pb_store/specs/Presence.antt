@@ -21,8 +21,7 @@ both_of (Some relative) (Some bytes) = Some (relative, bytes)
 both_of (Some relative) None = None
 both_of None found = None
 
--- the file at a path, with its path inside the folder, if there is a file at this path and the path
--- is below the folder
+-- the file at a path below the folder, with its path inside the folder, if there is such a file
 abbrev pub file_in : List ℕ → Map → List ℕ → Option (List ℕ × List ℕ)
 file_in folder files path = both_of (inside folder path) (finite.get files path)
 
@@ -54,19 +53,19 @@ abbrev pub own_said : Option (ℕ × List (List ℕ × ℕ)) → Option ℕ
 own_said None = None
 own_said (Some (own, needs)) = Some own
 
--- The table after the record at a path was read, given the numbers in the record. If the path is
--- the one that belongs to the record's key, the table now has the record's number.
+-- The table after the record at a path was read, given the numbers in the record. If the path
+-- belongs to the record's key, the table now has the record's number.
 abbrev pub noted_told : List ℕ → List ℕ → Option Numbers → List (List ℕ × Option ℕ) → List (List ℕ × Option ℕ)
 noted_told folder path None numbers = numbers
 noted_told folder path (Some said) numbers = if is_key said.key && bytes_eq (place_of folder said.key) path then with_entry numbers said.key (own_said said.numbered) else numbers
 
--- The table after the record at a path was read. If the path is the one that belongs to the
--- record's key, the table now has the record's number.
+-- The table after the record at a path was read. If the path belongs to the record's key, the table
+-- now has the record's number.
 abbrev pub noted : List ℕ → List ℕ → Option Record → List (List ℕ × Option ℕ) → List (List ℕ × Option ℕ)
 noted folder path None numbers = numbers
 noted folder path (Some r) numbers = if is_key r.key && bytes_eq (place_of folder r.key) path then with_entry numbers r.key (number_of r) else numbers
 
--- The table after the file at a path was read, if the path ends as a record's does. Any other path
--- leaves the table unchanged.
+-- The table after the file at a path was read, if the path ends in `.record`. Any other path leaves
+-- the table unchanged.
 abbrev pub noted_at : List ℕ → Map → List (List ℕ × Option ℕ) → List ℕ → List (List ℕ × Option ℕ)
 noted_at folder m numbers path = if ends_as_record path then noted folder path (read_text reading (finite.get m path)) numbers else numbers

@@ -14,16 +14,16 @@ use Rattle.pb_store_soundness.specs.Sound.{Sound, IsTrueRecord}
 abbrev pub Unnamed : RecordMap → List ℕ → ℕ → Type 0
 Unnamed at key number = (other : List ℕ) (r : Record) → at other ≡ Some r → Contains (needs_of r) (key, number) → ⊥
 
--- What became of a unit. Either no record counts for it, or its record and its files are unchanged,
--- or it has a new record. `Said` is true of the new record. No old record names the unit together
--- with the new record's number.
+-- What became of a unit. Either no record counts for the unit, or the unit's record and files are
+-- unchanged, or the unit has a new record. `Said` is true of the new record. No old record names
+-- the unit together with the new record's number.
 pub data Became (read : RecordParser) (folder : List ℕ) (old new : Map) (Said : List ℕ → Record → Type 0) (key : List ℕ) : Type 0 where
   gone : record_at read folder new key ≡ None → Became read folder old new Said key
   stays : record_at read folder new key ≡ record_at read folder old key → files_in (out_of folder key) new ≡ files_in (out_of folder key) old → Became read folder old new Said key
   renewed : (r : Record) (number : ℕ) → record_at read folder new key ≡ Some r → number_of r ≡ Some number → Unnamed (record_at read folder old) key number → Said key r → Became read folder old new Said key
 
 -- A folder stays sound if each record is gone, is unchanged, or is new. A new record must be true,
--- and no old record may name its unit together with its number.
+-- and no old record may name the new record's unit together with the new record's number.
 abbrev pub StaysSound : Type 0
 StaysSound = (read : RecordParser) (judge : Judge) (child : Answers) (folder : List ℕ) (old new : Map)
     → ((key : List ℕ) → Became read folder old new (IsTrueRecord judge child folder (record_at read folder new) new) key) → Sound read judge child folder old → Sound read judge child folder new

@@ -8,9 +8,9 @@ use Rattle.pb_store_soundness.specs.Grounded.{RecordMap}
 abbrev pub NoneNames : RecordMap → ℕ → Type 0
 NoneNames at number = (other : List ℕ) (r : Record) → at other ≡ Some r → (number_of r ≢ Some number) × ((need : List ℕ) → Contains (needs_of r) (need, number) → ⊥)
 
--- A number that is in no record stays in no record if the record of another unit is dropped. The
--- same is true if that record is replaced by one that has another number and names only records
--- that are there.
+-- If a number is in no record, dropping the record of another unit does not change this. Replacing
+-- that record does not change it, either, if the new record has another number and names only
+-- records that are there.
 abbrev pub NumberWaitsLaw : Type 0
 NumberWaitsLaw = (old new : RecordMap) (key : List ℕ) (number : ℕ) → ((l : List ℕ) → l ≢ key → new l ≡ old l)
     → NoneNames old number → ((r : Record) → new key ≡ Some r → (number_of r ≢ Some number) × ((need : List ℕ) (n : ℕ) → Contains (needs_of r) (need, n) → (s : Record) × (old need ≡ Some s) × (number_of s ≡ Some n))) → NoneNames new number
@@ -24,18 +24,18 @@ abbrev pub IsBefore : Option ℕ → ℕ → Type 0
 IsBefore None n = Unit {0}
 IsBefore (Some next) n = n < next
 
--- the record's own number and all numbers that it names are below the next number
+-- the next number is above the record's own number and above all numbers that the record names
 pub record NamesBefore (next : Option ℕ) (r : Record) : Type 0 where
   pub own : (n : ℕ) → number_of r ≡ Some n → IsBefore next n
   pub named : (need : List ℕ) (n : ℕ) → Contains (needs_of r) (need, n) → IsBefore next n
 
--- for each record that counts, its own number and all numbers that it names are below the next
--- number
+-- for each record that counts, the next number is above its own number and above all numbers that
+-- it names
 abbrev pub IsAhead : RecordMap → Option ℕ → Type 0
 IsAhead at next = (key : List ℕ) (r : Record) → at key ≡ Some r → NamesBefore next r
 
 -- The next number stays above all others if each record is gone, is unchanged, or has and names
--- only numbers below the next one.
+-- only lower numbers.
 abbrev pub StaysAheadLaw : Type 0
 StaysAheadLaw = (old new : RecordMap) (next : Option ℕ) → ((key : List ℕ) → (new key ≡ None) ⊎ ((new key ≡ old key) ⊎ ((r : Record) → new key ≡ Some r → NamesBefore next r))) → IsAhead old next → IsAhead new next
 
@@ -44,7 +44,7 @@ StaysAheadLaw = (old new : RecordMap) (next : Option ℕ) → ((key : List ℕ) 
 abbrev pub GivenAheadLaw : Type 0
 GivenAheadLaw = (at : RecordMap) (number : ℕ) → IsAhead at (Some number) → IsAhead at (after number) × IsBefore (after number) number
 
--- No record that counts has or names the next number. If a record that counts has a number, this
--- number is below the next one.
+-- The next number is in no record that counts. If a record that counts has a number, this number is
+-- below the next number.
 abbrev pub NextIsNewLaw : Type 0
 NextIsNewLaw = (at : RecordMap) (number : ℕ) → IsAhead at (Some number) → NoneNames at number × ((key : List ℕ) (r : Record) (n : ℕ) → at key ≡ Some r → number_of r ≡ Some n → n < number)

@@ -34,19 +34,19 @@ pub record IsSame (read : RecordParser) (folder key : List ℕ) (c : Command) (w
   pub inputs : Agrees c.target r.inputs w
   pub needed : NeededNow folder (record_at read folder w.files) w.files r.needed
 
--- each unit whose output folder is among these folders is grounded
+-- all units with an output folder among these folders are grounded
 abbrev pub AreGrounded : RecordMap → List ℕ → List (List ℕ) → Type 0
 AreGrounded at folder reads = (v : List ℕ) → Contains reads (out_of folder v) → (n : ℕ) × Grounded at v n
 
--- If nothing differs from a unit's record of format 2, and each unit that the command reads is
--- grounded, the unit is grounded.
+-- If nothing differs from a unit's record of format 2, and all units with a folder in the command's
+-- `reads` are grounded, the unit is grounded.
 abbrev pub GroundsLaw : Type 0
 GroundsLaw = (read : RecordParser) (judge : Judge) (child : Answers) (folder key : List ℕ) (c : Command) (w : World) (r : Record) (number : ℕ) → Sound read judge child folder w.files
     → IsSame read folder key c w r → AreGrounded (record_at read folder w.files) folder c.reads → number_of r ≡ Some number → Grounded (record_at read folder w.files) key number
 
--- If nothing differs from a unit's record, and each unit that the command reads is grounded, the
--- child's reply would now be the recorded one. The files of the reply would be those in the unit's
--- folder.
+-- If nothing differs from a unit's record, and all units with a folder in the command's `reads` are
+-- grounded, the child's reply would now be the recorded reply. The files of the reply would be
+-- those in the unit's folder.
 abbrev pub ReuseLaw : Type 0
 ReuseLaw = (read : RecordParser) (judge : Judge) (child : Answers) (folder key : List ℕ) (c : Command) (w : World) (r : Record) → Sound read judge child folder w.files
     → IsSame read folder key c w r → AreGrounded (record_at read folder w.files) folder c.reads → Backs judge r (out_of folder key) (files_in (out_of folder key) w.files) (reply_in child c w)
@@ -57,9 +57,9 @@ pub data ReadByNeeds (at : RecordMap) (folder : List ℕ) (needs : List (List �
   own : (need : List ℕ) (n : ℕ) → Contains needs (need, n) → f ≡ out_of folder need → ReadByNeeds at folder needs f
   beyond : (need : List ℕ) (n : ℕ) (s : Record) → Contains needs (need, n) → at need ≡ Some s → Contains s.asked.reads f → ReadByNeeds at folder needs f
 
--- What a record names is there. The record names each unit with the number of the unit's own
--- record, and this number is less than that of the naming record. The naming record's command reads
--- exactly the folders of these units and the folders that the commands in their records read.
+-- The named units have records with the named numbers, which are less than the number of the naming
+-- record. The naming record's command reads exactly the folders of these units and the folders that
+-- the commands in their records read.
 pub record NamesNeeds (at : RecordMap) (folder : List ℕ) (r : Record) (number : ℕ) : Type 0 where
   pub stand : (need : List ℕ) (n : ℕ) → Contains (needs_of r) (need, n) → (s : Record) × (at need ≡ Some s) × (number_of s ≡ Some n)
   pub less : (need : List ℕ) (n : ℕ) → Contains (needs_of r) (need, n) → n < number
@@ -76,8 +76,8 @@ pub record IsPut (read : RecordParser) (folder key : List ℕ) (r : Record) (num
   pub only : AgreeBut (is_at_or_below (place_of folder key)) old new
 
 -- A folder stays sound if a new record of format 2 is put into it. The record must contain the
--- reply of an honest child in the present world, and the present values of the inputs. What it
--- names must be there.
+-- reply of an honest child in the present world, and the present values of the inputs. `NamesNeeds`
+-- must be true of the record.
 abbrev pub RenewLaw : Type 0
 RenewLaw = (read : RecordParser) (judge : Judge) (child : Answers) (folder key : List ℕ) (w : World) (new : Map) (r : Record) (number : ℕ) → IsHonest judge child (command_of r.asked) w
     → Agrees r.asked.target r.inputs w → Backs judge r (out_of folder key) (files_in (out_of folder key) w.files) (reply_in child (command_of r.asked) w)
@@ -87,9 +87,8 @@ RenewLaw = (read : RecordParser) (judge : Judge) (child : Answers) (folder key :
 abbrev pub SparesLaw : Type 0
 SparesLaw = (old new : RecordMap) (key v : List ℕ) (n : ℕ) → ((l : List ℕ) → l ≢ key → new l ≡ old l) → Grounded old v n → v ≢ key → (Reaches old v key → ⊥) → Grounded new v n
 
--- The unit of a new record is grounded if each unit that the record names was grounded with the
--- named number, which is lower than the record's, and the new record's unit was not grounded
--- before.
+-- Take a new record whose unit was not grounded before. The unit is grounded now if all named units
+-- were grounded with the named numbers, and these numbers are lower than the record's own.
 abbrev pub PutGroundsLaw : Type 0
 PutGroundsLaw = (old new : RecordMap) (key : List ℕ) (r : Record) (number : ℕ) → ((l : List ℕ) → l ≢ key → new l ≡ old l) → new key ≡ Some r → number_of r ≡ Some number → ((n : ℕ) → Grounded old key n → ⊥)
     → ((need : List ℕ) (n : ℕ) → Contains (needs_of r) (need, n) → (n < number) × Grounded old need n) → Grounded new key number

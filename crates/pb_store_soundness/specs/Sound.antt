@@ -31,14 +31,14 @@ HoldsCopies folder copies m = (need : List ℕ) (files : List (List ℕ × List 
 
 -- A true record of format 1. The record's command reads the folder of each unit of which the record
 -- has a copy. In each world that agrees with the inputs and the copies, the child's reply would be
--- the recorded one.
+-- the recorded reply.
 pub record TrueCopies (judge : Judge) (child : Answers) (folder : List ℕ) (made : Map) (r : Record) (out : List ℕ) (copies : List (List ℕ × List (List ℕ × List ℕ))) : Type 0 where
   pub read : (need : List ℕ) (files : List (List ℕ × List ℕ)) → Contains copies (need, files) → Contains r.asked.reads (out_of folder need)
   pub gives : (x : World) → Agrees r.asked.target r.inputs x → HoldsCopies folder copies x.files → Backs judge r out made (reply_in child (command_of r.asked) x)
 
 -- A record rests on the present files. The record's command reads exactly the folders of the units
 -- that the record's unit reaches. In each world that agrees with the inputs and has the present
--- files below these folders, the child's reply would be the recorded one.
+-- files below these folders, the child's reply would be the recorded reply.
 pub record Rests (judge : Judge) (child : Answers) (folder : List ℕ) (at : RecordMap) (files : Map) (key : List ℕ) (r : Record) : Type 0 where
   pub reads : (f : List ℕ) → Contains r.asked.reads f ↔ ((v : List ℕ) × Reaches at key v × (f ≡ out_of folder v))
   pub gives : (x : World) → Agrees r.asked.target r.inputs x → SameBelow r.asked.reads files x.files → Backs judge r (out_of folder key) (files_in (out_of folder key) files) (reply_in child (command_of r.asked) x)
@@ -59,6 +59,6 @@ TrueBy judge child folder at files key r (Numbers number needs) = TrueNumbers ju
 pub record IsTrueRecord (judge : Judge) (child : Answers) (folder : List ℕ) (at : RecordMap) (files : Map) (key : List ℕ) (r : Record) : Type 0 where
   pub says : TrueBy judge child folder at files key r r.needed
 
--- every record that counts in a profile's folder is true
+-- each record in a profile's folder is true, if it counts
 pub record Sound (read : RecordParser) (judge : Judge) (child : Answers) (folder : List ℕ) (files : Map) : Type 0 where
   pub each : (key : List ℕ) (r : Record) → record_at read folder files key ≡ Some r → IsTrueRecord judge child folder (record_at read folder files) files key r

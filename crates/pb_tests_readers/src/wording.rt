@@ -1,13 +1,13 @@
 //! What faults are in words, against worked examples.
 
 use crate::faults::{Bad, Ending, build_fault, unit_fault};
+use pb_build_result::{build_sentence, unit_sentence};
 use pb_directive::LineFault;
 use pb_feature::FeatureFault;
 use pb_manifest_types::{Key, ManifestFault};
 use pb_place_types::{PathFault, PlaceFault, StartFault};
 use pb_profile::ProfileFault;
 use pb_tests_files::{Shown, holds};
-use pb_tool_sentences::{build_sentence, unit_sentence};
 use std::alloc::{AllocError, Global};
 use std::fmt::Display;
 

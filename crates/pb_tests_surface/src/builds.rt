@@ -2,8 +2,8 @@
 
 use crate::world::{options, put_files};
 use pb_build::{
-    BadSession, BuildFault, BuildOutcome, SessionStep, Summary, missing_libraries, read_session,
-    result_line, session,
+    BadSession, BuildFault, SessionStep, Summary, missing_libraries, read_session, result_line,
+    session,
 };
 use pb_data::{Items, Text};
 use pb_mini::Mini;
@@ -131,11 +131,14 @@ ok started=a.target.lib
 refused NothingToBuild
 ";
 
-/// Returns the result lines of outcomes.
-fn result_lines(alloc: Global, outcomes: &[BuildOutcome]) -> Result<String, AllocError> {
+/// Returns the result lines of builds.
+fn result_lines(
+    alloc: Global,
+    results: &[Result<Summary, BuildFault>],
+) -> Result<String, AllocError> {
     let mut out = String::new(alloc);
-    for outcome in outcomes {
-        let line = result_line(alloc, &outcome.result)?;
+    for result in results {
+        let line = result_line(alloc, result)?;
         out.push_str(line.as_str())?;
         out.push_str("\n")?;
     }
@@ -146,11 +149,11 @@ fn result_lines(alloc: Global, outcomes: &[BuildOutcome]) -> Result<String, Allo
 fn results_of(alloc: Global, steps: &[SessionStep]) -> Result<String, AllocError> {
     let mut place = Memory::new(alloc, Mini);
     let mut written = Vec::new(alloc);
-    let outcomes = session(alloc, &mut place, &mut Over::new(&mut written), steps);
+    let results = session(alloc, &mut place, &mut Over::new(&mut written), steps);
     drop(place);
-    let outcomes = outcomes?;
-    let lines = result_lines(alloc, outcomes.as_slice());
-    drop(outcomes);
+    let results = results?;
+    let lines = result_lines(alloc, results.as_slice());
+    drop(results);
     lines
 }
 

@@ -7,9 +7,13 @@ mod answers;
 #[cfg(test)]
 mod builds;
 #[cfg(test)]
+mod flights;
+#[cfg(test)]
 mod plans;
 #[cfg(test)]
 mod readers;
+#[cfg(test)]
+mod records;
 #[cfg(test)]
 mod turns;
 #[cfg(test)]

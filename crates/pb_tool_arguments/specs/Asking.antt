@@ -21,7 +21,7 @@ use Rattle.pb_tool_arguments.specs.declared.here.Here.{Here}
 use Rattle.pb_tool_arguments.specs.declared.invocation.ArgumentsError.{ArgumentsError}
 use Rattle.pb_tool_arguments.specs.declared.invocation.ArgumentsError.TheVariants.{Help, Wrong, OutOfMemory}
 
--- says whether an option that has no value was given
+-- says whether an option without a value was given
 pub record IsFlag (name : Text) (rows : List Row) (given : Bool) : Type 0 where
   pub absent : one_of name rows ≡ None → given ≡ false
   pub on : one_of name rows ≡ Some (codes "true") → given ≡ true
@@ -39,7 +39,7 @@ profile_of release rows = if release then codes "release" else unwrap_or (first_
 abbrev pub HasTwoProfiles : List Row → Type 0
 HasTwoProfiles rows = IsFlag (codes "release") rows true × ((profile : Text) × (first_of (codes "profile") rows ≡ Some profile))
 
--- the profile is the one that was given, and at most one way of giving it was used
+-- the profile is the given one, and `--release` and `--profile` were not both given
 abbrev pub IsProfile : List Row → Text → Type 0
 IsProfile rows profile =
     (release : Bool) × IsFlag (codes "release") rows release × (release ≡ true → first_of (codes "profile") rows ≡ None) × (profile ≡ profile_of release rows)
@@ -58,15 +58,15 @@ IsJobs processors (Some text) n = (text ≡ codes "default") × (n ≡ processor
 abbrev pub HasBadJobs : List Row → Type 0
 HasBadJobs rows = (text : Text) × (first_of (codes "jobs") rows ≡ Some text) × (text ≢ codes "default") × ((n : ℕ) → ¬ IsNumber text n)
 
--- the path of a build's manifest, or `Cargo.toml` if none was given
+-- the path of a build's manifest, or `Cargo.toml` if no path was given
 abbrev pub manifest_of : List Row → Text
 manifest_of rows = unwrap_or (first_of (codes "manifest-path") rows) (codes "Cargo.toml")
 
--- the path of a session's file, or the empty text if none was given
+-- the path of a session's file, or the empty text if no path was given
 abbrev pub file_of : List Row → Text
 file_of rows = unwrap_or (first_of (codes "FILE") rows) []
 
--- the name that is to be explained, or the empty text if none was given
+-- the name that is to be explained, or the empty text if no name was given
 abbrev pub name_of : List Row → Text
 name_of rows = unwrap_or (first_of (codes "NAME") rows) []
 
@@ -171,15 +171,15 @@ forms_told = codes "error: the argument '--json' cannot be used with '--dot'\n"
 abbrev pub command_told : Text
 command_told = codes "error: the command must be `build`, `plan`, `clean`, `session` or `explain`\n"
 
--- Why a build with these values requests nothing, and the text that is reported. These are checked
--- in order: byte 0 in the manifest's path, two profiles, jobs that are no number.
+-- Why a build with these values requests nothing, and the text that is reported. The reasons are
+-- checked in this order: byte 0 in the manifest's path, two profiles, a wrong value of `--jobs`.
 pub data BuildsWrongly (folder : Text) (rows : List Row) (text : Text) : Type 0 where
   bad_manifest : (fault : PathFault) (bad : joined folder (manifest_of rows) ≡ Err fault) (told : text ≡ path_told) → BuildsWrongly folder rows text
   two_profiles : (path : Text) (good : joined folder (manifest_of rows) ≡ Ok path) (both : HasTwoProfiles rows) (told : text ≡ profiles_told) → BuildsWrongly folder rows text
   bad_jobs : (path profile : Text) (good : joined folder (manifest_of rows) ≡ Ok path) (one : IsProfile rows profile) (bad : HasBadJobs rows) (told : text ≡ jobs_told) → BuildsWrongly folder rows text
 
--- Why a plan with these values requests nothing, and the text that is reported. Two forms are the
--- first reason, and options that are wrong for a build are the second.
+-- Why a plan with these values requests nothing, and the text that is reported. The first reason is
+-- two forms, and the second is options that are wrong for a build.
 pub data PlansWrongly (folder : Text) (rows : List Row) (text : Text) : Type 0 where
   two_forms : (both : HasTwoForms rows) (told : text ≡ forms_told) → PlansWrongly folder rows text
   bad_options : (form : PlanForm) (one : IsForm rows form) (wrong : BuildsWrongly folder rows text) → PlansWrongly folder rows text
@@ -195,7 +195,8 @@ pub data AsksWrongly (folder : Text) (given : Option (Text × List Row)) (text :
   no_command : (no_build : option_map (λ p. p.0) given ≢ Some (codes "build")) (no_plan : option_map (λ p. p.0) given ≢ Some (codes "plan")) (no_clean : option_map (λ p. p.0) given ≢ Some (codes "clean"))
       (no_session : option_map (λ p. p.0) given ≢ Some (codes "session")) (no_explain : option_map (λ p. p.0) given ≢ Some (codes "explain")) (told : text ≡ command_told) → AsksWrongly folder given text
 
--- an error of this kind is no fault of the words: help or the version is requested, or there are no words
+-- an error of this kind is not a fault of the words: help or the version is requested, or there are
+-- no words
 abbrev pub is_help : ErrorKind → Bool
 is_help kind.DisplayHelp = true
 is_help kind.DisplayVersion = true

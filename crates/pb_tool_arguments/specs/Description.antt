@@ -67,7 +67,7 @@ abbrev pub IsOneOf : List Text → ValueParser → Type 0
 IsOneOf texts (Names names) = map (λ name. name.now) names.now ≡ texts
 IsOneOf texts _ = ⊥
 
--- The only form of messages is JSON. Colours are used always, never, or where they are shown.
+-- The only form of messages is JSON. Colours are used always, never, or automatically.
 pub record AreChoices (choices : Choices) : Type 0 where
   pub formats : IsOneOf (codes "json" ∷ []) choices.formats
   pub colors : IsOneOf (codes "auto" ∷ codes "always" ∷ codes "never" ∷ []) choices.colors
@@ -77,7 +77,7 @@ abbrev pub with_rules : List Rule → App → App
 with_rules [] app = app
 with_rules (rule ∷ rules) app = with_rules rules (with_rule app rule)
 
--- the command to which the options were added that choose what is built, and how it is built
+-- the command with further options, which choose what is built and how it is built
 abbrev pub choosing : App → App
 choosing app = with_rules features (with_rules selection app)
 

@@ -1,5 +1,5 @@
--- What private functions of the command line promise to each other. Nobody needs this file to know
--- what words request.
+-- What private functions of the command line promise to each other. What words request is defined
+-- without this file.
 use Rattle.std.specs.Prelude.{◌≡◌, ◌≢◌, true, false, List}
 use Rattle.clap.specs.Walk.{Text}
 use Rattle.clap.specs.declared.error.kind.ErrorKind.{ErrorKind}

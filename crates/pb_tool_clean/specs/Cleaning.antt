@@ -1,5 +1,5 @@
--- What a removal does, in three steps. First the target folder is found. Then what is in the
--- folders of the profiles is listed. Then what is chosen is removed.
+-- What a removal does, in three steps. It finds the target folder. It lists the content of the
+-- profiles' folders. Then it removes what is chosen.
 use Rattle.std.specs.Prelude.{◌≡◌, ◌≢◌, ℕ, ◌==◌, ◌&&◌, Bool, true, false, not, if◌then◌else◌, unwrap_or, codes, length, List, [], ◌∷◌, ◌++◌, Option, Some, None, Result, Ok, Err, IfOk, IfErr, OnOk, OnErr, IsTrue}
 use Rattle.std.specs.FinMap as finite
 use Rattle.std.specs.Str.{bytes_eq}
@@ -20,7 +20,7 @@ use Rattle.pb_tool_clean.specs.declared.looking.Listed.{Listed}
 
 -- The target folder, as a build finds it.
 
--- the text of a variable; an empty text counts as none
+-- the text of a variable; an empty text counts as no text
 abbrev pub set_text : Option (List ℕ) → Option (List ℕ)
 set_text None = None
 set_text (Some text) = if length text == 0 then None else Some text
@@ -74,8 +74,8 @@ is_bare listed = are_none listed.files listed.folders
     are_none files folders = false
 
 -- Nothing is left in the target folder but its tag. Nothing is in the folders of its profiles, and
--- the target folder has no file other than the tag. On a machine, only the first list shows a
--- folder without files, or another target folder.
+-- the target folder has no file other than the tag. On a machine, a folder without files, or
+-- another target folder, shows only in the list of what is in the profiles' folders.
 abbrev pub is_emptied : List ℕ → World → Bool
 is_emptied target w = is_bare (listed_in target w) && is_tag_alone (tag_in target) (listed target w)
 
@@ -101,14 +101,14 @@ GoesOn is_modelled true target (Ok done) result old new = RemovesRest is_modelle
 GoesOn is_modelled false target (Ok done) result old new = (result ≡ Ok done) × (new ≡ old)
 GoesOn is_modelled whole target (Err fault) result old new = (result ≡ Err fault) × (new ≡ old)
 
--- the chosen part of what was listed is removed, and then the rest, if everything was chosen
+-- the chosen part of the list is removed, and then the rest, if everything was chosen
 pub record Cleans (is_modelled : Bool) (choice : Choice) (listed : Listed) (result : Result (Unit {0}) CleanFault) (old new : Moment) : Type 0 where
   pub first : Result (Unit {0}) CleanFault
   pub mid : Moment
   pub removes : RemovesEach is_modelled (chosen_of choice listed) first old mid
   pub goes_on : GoesOn is_modelled (is_whole choice) choice.target first result mid new
 
--- the chosen part of what was listed is removed; a fault of the listing ends the removal
+-- the chosen part of the list is removed; a fault of the listing ends the removal
 abbrev pub CleansListed : Bool → Choice → Result Listed CleanFault → Result (Unit {0}) CleanFault → Moment → Moment → Type 0
 CleansListed is_modelled choice (Ok listed) result old new = Cleans is_modelled choice listed result old new
 CleansListed is_modelled choice (Err fault) result old new = (result ≡ Err fault) × (new ≡ old)
@@ -135,9 +135,10 @@ of_all_packages choice = record choice { packages = [] }
 abbrev pub looked_in : Choice → List ℕ
 looked_in choice = unwrap_or choice.profile choice.target
 
--- What is missing: the first of three things that was not listed. These are any record or unit's
--- folder, a record or unit's folder under the profile, and one that belongs to one of the packages.
--- If something that is chosen was listed, nothing is missing.
+-- What is missing, if the list contains nothing of the choice.
+-- - `All`: the list has no record and no unit's folder.
+-- - `OfProfile`: it has some, but none in the chosen profile's folder.
+-- - `OfPackages`: it has some in the profile's folder, but none of a chosen package.
 abbrev pub ReportsMissing : Choice → Listed → Option Wanted → Type 0
 ReportsMissing choice listed (Some wanted.All) = chosen_of (all_of choice.target) listed ≡ []
 ReportsMissing choice listed (Some wanted.OfProfile) =
@@ -151,7 +152,7 @@ abbrev pub folder_for : Wanted → Choice → List ℕ
 folder_for wanted.All choice = choice.target
 folder_for some choice = looked_in choice
 
--- if something that is chosen was listed, the choice stays as it is; otherwise it is refused
+-- if the list contains something of the choice, the choice stays as it is; otherwise it is refused
 abbrev pub RequiresListed : Choice → Listed → Result Choice CleanFault → Type 0
 RequiresListed choice listed (Ok judged) = (judged ≡ choice) × ReportsMissing choice listed None
 RequiresListed choice listed (Err (Nothing some folder)) = ReportsMissing choice listed (Some some) × (folder ≡ folder_for some choice)
@@ -179,8 +180,8 @@ pub record Chooses (is_modelled : Bool) (options : Options) (one_profile : Bool)
   pub profile : IsProfile choice.target options.profile one_profile choice.profile
   pub target : IsTrue is_modelled → choice.target ≡ target_of options w.variables
 
--- Why nothing is removed. Either there is nothing to remove that the options choose, or the folder
--- of the profile would have no name, or a call failed.
+-- Why nothing is removed. Either there is nothing that the options choose, or the folder of the
+-- profile would have no name, or a call failed.
 abbrev pub Refuses : Bool → Options → Bool → World → Counts → Counts → CleanFault → Type 0
 Refuses is_modelled options one_profile w old new (Nothing some folder) =
     (choice : Choice) × Chooses is_modelled options one_profile w choice × (folder ≡ folder_for some choice)

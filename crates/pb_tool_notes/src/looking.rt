@@ -11,7 +11,7 @@ use pb_tool_notes_manifest::{
     tell_crate_types, tell_inherits_cycle, tell_no_profile, tell_not_in_override, tell_not_toml,
     tell_resolver, tell_sources, tell_tables, tell_too_large, tell_unused,
 };
-use pb_tool_notes_pages::{Notes, Page, Pages, is_file, pages_of, tell_key, text_at};
+use pb_tool_notes_pages::{Notes, Page, Pages, Remembering, is_file, pages_of, tell_key, text_at};
 use pb_tool_notes_workspace::{
     tell_above, tell_all_items, tell_binaries, tell_circle, tell_entries, tell_missing, tell_names,
     tell_no_inherited, tell_no_package, tell_nothing, tell_patterns, tell_requested, tell_same,
@@ -136,16 +136,12 @@ fn tell_load(
         LoadFault::SameBinary => tell_same_binaries(alloc, notes, pages),
         LoadFault::NoSuchPackage => tell_no_package(alloc, notes, pages, options),
         LoadFault::TooMany => tell_too_many(alloc, notes, pages),
-        LoadFault::NoManifest(_)
-        | LoadFault::NoInherited
-        | LoadFault::LinksWithoutScript
-        | LoadFault::Place(_, _)
-        | LoadFault::OutOfMemory => Ok(()),
+        _ => Ok(()),
     }
 }
 
 /// Adds what is known about a refusal of the loader.
-fn tell_workspace<P: Place>(
+fn tell_workspace<P: Place + Remembering>(
     alloc: Global,
     place: &mut P,
     notes: &mut Notes,
@@ -206,7 +202,7 @@ fn tell_profile(
 }
 
 /// Adds what is known about a refusal of the plan.
-fn tell_plan<P: Place>(
+fn tell_plan<P: Place + Remembering>(
     alloc: Global,
     place: &mut P,
     notes: &mut Notes,
@@ -242,7 +238,7 @@ fn tell_all_unused(alloc: Global, notes: &mut Notes, pages: &Pages) -> Result<()
 }
 
 /// Adds that a workspace in a folder above lists the root package, if this package is built alone.
-fn tell_root_above<P: Place>(
+fn tell_root_above<P: Place + Remembering>(
     alloc: Global,
     place: &mut P,
     notes: &mut Notes,
@@ -257,7 +253,7 @@ fn tell_root_above<P: Place>(
 }
 
 /// Adds what a build ignores: keys, requested binaries, patterns of `members`.
-fn tell_passed_over<P: Place>(
+fn tell_passed_over<P: Place + Remembering>(
     alloc: Global,
     place: &mut P,
     notes: &mut Notes,
@@ -277,7 +273,7 @@ fn tell_passed_over<P: Place>(
 /// Each of the four functions that return notes only reads manifests again, lists folders, and
 /// checks whether files exist. If a call fails or memory runs out, the function returns the notes
 /// that it has so far.
-pub fn notes_on_load<P: Place>(
+pub fn notes_on_load<P: Place + Remembering>(
     alloc: Global,
     place: &mut P,
     options: &Options,
@@ -294,7 +290,7 @@ pub fn notes_on_load<P: Place>(
 }
 
 /// Returns notes on features that are not resolved.
-pub fn notes_on_features<P: Place>(
+pub fn notes_on_features<P: Place + Remembering>(
     alloc: Global,
     place: &mut P,
     options: &Options,
@@ -311,7 +307,7 @@ pub fn notes_on_features<P: Place>(
 }
 
 /// Returns notes on a workspace without a plan.
-pub fn notes_on_plan<P: Place>(
+pub fn notes_on_plan<P: Place + Remembering>(
     alloc: Global,
     place: &mut P,
     options: &Options,
@@ -330,7 +326,11 @@ pub fn notes_on_plan<P: Place>(
 /// Returns notes on what a build ignores: keys of manifests that nothing reads, requested binaries
 /// that are missing, patterns of `members` that match no package, and a workspace in a folder
 /// above, if this workspace lists the package.
-pub fn notes_on_build<P: Place>(alloc: Global, place: &mut P, options: &Options) -> Notes
+pub fn notes_on_build<P: Place + Remembering>(
+    alloc: Global,
+    place: &mut P,
+    options: &Options,
+) -> Notes
     ensures { LooksAgain (P.at place.old) (P.at place.new) }
 {
     let mut notes = Notes::new(alloc);

@@ -2,8 +2,9 @@
 
 ghost use Rattle.pb_tool_notes_pages.specs.Looks.{LooksAgain};
 
-use crate::looks::folders_in;
+use crate::looks::recall_or_list;
 use crate::page::Page;
+use crate::remembering::Remembering;
 use pb_data::TryCopy;
 use pb_place_types::{PathText, Place, PlaceFault};
 use std::alloc::{AllocError, Global};
@@ -64,7 +65,7 @@ fn push_matching(
 }
 
 /// Returns the folders inside some folders, if their names match a part of a pattern.
-fn folders_by<P: Place>(
+fn folders_by<P: Place + Remembering>(
     alloc: Global,
     place: &mut P,
     target: &PathText,
@@ -76,7 +77,7 @@ fn folders_by<P: Place>(
     let mut next = Vec::new(alloc);
     for folder in folders {
         if is_glob(part) {
-            let found = folders_in(alloc, place, folder, target)?;
+            let found = recall_or_list(alloc, place, folder, target)?;
             push_matching(alloc, &mut next, part, found.as_slice())?;
         } else if let Ok(below) = folder.join(alloc, part) {
             next.push(below)?;
@@ -86,7 +87,7 @@ fn folders_by<P: Place>(
 }
 
 /// Returns the folders that match a pattern.
-fn folders_of<P: Place>(
+fn folders_of<P: Place + Remembering>(
     alloc: Global,
     place: &mut P,
     root: &PathText,
@@ -161,7 +162,7 @@ fn push_kept(
 }
 
 /// Returns the folders that `members` of a root manifest matches.
-pub(crate) fn member_folders<P: Place>(
+pub(crate) fn member_folders<P: Place + Remembering>(
     alloc: Global,
     place: &mut P,
     page: &Page,

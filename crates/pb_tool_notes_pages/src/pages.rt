@@ -5,8 +5,9 @@ ghost use Rattle.pb_tool_notes_pages.specs.Looks.{LooksAgain};
 
 use crate::asks::{Ask, Role, asks_of, is_asked, root_ask};
 use crate::globs::member_folders;
-use crate::looks::read;
+use crate::looks::recall_or_read;
 use crate::page::Page;
+use crate::remembering::Remembering;
 use pb_data::{MAX_PACKAGES, TryCopy};
 use pb_place_types::{PathText, Place, PlaceFault};
 use std::alloc::{AllocError, Global};
@@ -58,7 +59,7 @@ fn take_in(alloc: Global, pages: &mut Pages, page: Page) -> Result<(), AllocErro
 }
 
 /// Reads a manifest, if it exists.
-pub fn page_at<P: Place>(
+pub fn page_at<P: Place + Remembering>(
     alloc: Global,
     place: &mut P,
     path: &PathText,
@@ -66,14 +67,14 @@ pub fn page_at<P: Place>(
     ensures { LooksAgain (P.at place.old) (P.at place.new) }
 {
     let own = path.copy(alloc)?;
-    match read(alloc, place, path)? {
+    match recall_or_read(alloc, place, path)? {
         Some(bytes) => Ok(Some(Page::new(alloc, own, bytes)?)),
         None => Ok(None),
     }
 }
 
 /// Reads the manifest at a path, unless it was read.
-fn read_at<P: Place>(
+fn read_at<P: Place + Remembering>(
     alloc: Global,
     place: &mut P,
     pages: &mut Pages,
@@ -102,7 +103,11 @@ fn path_of(alloc: Global, pages: &Pages, number: usize) -> Result<Option<PathTex
 }
 
 /// Reads the requested manifests, one after another. The manifests that these request are read too.
-fn read_all<P: Place>(alloc: Global, place: &mut P, pages: &mut Pages) -> Result<(), PlaceFault>
+fn read_all<P: Place + Remembering>(
+    alloc: Global,
+    place: &mut P,
+    pages: &mut Pages,
+) -> Result<(), PlaceFault>
     ensures { LooksAgain (P.at place.old) (P.at place.new) }
 {
     for number in 0..MOST_ASKS {
@@ -136,7 +141,7 @@ fn push_members(
 }
 
 /// Reads the root, and asks for its members.
-fn read_root<P: Place>(
+fn read_root<P: Place + Remembering>(
     alloc: Global,
     place: &mut P,
     pages: &mut Pages,
@@ -156,7 +161,7 @@ fn read_root<P: Place>(
 
 /// Reads the manifests of a workspace again, as far as they exist. If a call fails or memory runs
 /// out, returns the manifests that were read until then.
-pub fn pages_of<P: Place>(alloc: Global, place: &mut P, root: &PathText) -> Pages
+pub fn pages_of<P: Place + Remembering>(alloc: Global, place: &mut P, root: &PathText) -> Pages
     ensures { LooksAgain (P.at place.old) (P.at place.new) }
 {
     let mut pages = Pages {

@@ -3,7 +3,7 @@
 ghost use Rattle.pb_tool_notes_pages.specs.Looks.{LooksAgain};
 
 use pb_place_types::{PathText, Place, PlaceFault};
-use pb_tool_notes_pages::{Notes, Page, matches_part, page_at, tell_key, texts_of};
+use pb_tool_notes_pages::{Notes, Page, Remembering, matches_part, page_at, tell_key, texts_of};
 use std::alloc::{AllocError, Global};
 
 /// The greatest number of folders above a package that are examined.
@@ -41,7 +41,7 @@ fn tell_if_listed(
 }
 
 /// Returns the manifest in a folder, if there is one.
-fn manifest_in<P: Place>(
+fn manifest_in<P: Place + Remembering>(
     alloc: Global,
     place: &mut P,
     folder: &PathText,
@@ -55,7 +55,7 @@ fn manifest_in<P: Place>(
 }
 
 /// Adds that a workspace above lists a package, if the package's manifest has no `[workspace]`.
-pub fn tell_above<P: Place>(
+pub fn tell_above<P: Place + Remembering>(
     alloc: Global,
     place: &mut P,
     notes: &mut Notes,

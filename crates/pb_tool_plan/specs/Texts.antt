@@ -20,7 +20,7 @@ abbrev pub spaced : List Planned → List ℕ → List ℕ
 spaced units [] = []
 spaced units (need ∷ needs) = codes " " ++ key_at units need ++ spaced units needs
 
--- a colon and the keys of the units at these indices, or no text if there are none
+-- a colon and the keys of the units at these indices, or no text if there are no indices
 abbrev pub needed : List Planned → List ℕ → List ℕ
 needed units [] = []
 needed units (need ∷ needs) = codes ":" ++ spaced units (need ∷ needs)

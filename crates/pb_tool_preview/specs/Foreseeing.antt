@@ -44,7 +44,7 @@ is_kept_at fates index = is_kept_if (slice_get fates index)
 abbrev pub first_unkept : List Fate → List ℕ → Option ℕ
 first_unkept fates reached = find (λ index. not (is_kept_at fates index)) reached
 
--- no unit begins that reaches a unit with this fate
+-- a unit that reaches a unit with this fate does not begin
 abbrev pub ends_badly : Option Fate → Bool
 ends_badly None = false
 ends_badly (Some (Starts difference)) = false
@@ -60,12 +60,12 @@ waits_for fates index = if ends_badly (slice_get fates index) then Unreached ind
 
 -- Units that can be compared.
 
--- this result of a unit determines these directives and this fate, which is kept or bad
+-- if a unit was judged with this result, it has these directives, and its fate is kept or bad
 abbrev pub Judges : Ran → Fate → Option (List Directive) → Type 0
 Judges ran fate said = (fate ≡ (if is_some ran.bad then Bad else Kept)) × (said ≡ ran.directives)
 
--- nothing differs from the unit's record for this command, and the fate and the directives are
--- those of what the record replays
+-- nothing differs from the unit's record for this command, and the replayed result determines the
+-- fate and the directives
 pub record IsReplay (project : Project) (w : World) (u : Planned) (c : Command) (fate : Fate) (said : Option (List Directive)) : Type 0 where
   pub same : FirstDifference (records_folder project) u.key c w None
   pub again : Replayed
@@ -73,7 +73,8 @@ pub record IsReplay (project : Project) (w : World) (u : Planned) (c : Command) 
   pub judged : Judges (ran_of project u c again.ended w.files) fate said
 
 -- How a unit compares with its record, for this command. If a build would start a child for the
--- unit, the fate has the first difference. If not, the fate is that of what the record replays.
+-- unit, the fate has the first difference. If not, nothing differs, and the record determines the
+-- fate, as `IsReplay` says.
 abbrev pub IsCompared : Project → World → Planned → Command → Fate → Option (List Directive) → Type 0
 IsCompared project w u c (Starts difference) said = FirstDifference (records_folder project) u.key c w (Some difference) × (said ≡ None)
 IsCompared project w u c Kept said = IsReplay project w u c Kept said
@@ -83,9 +84,9 @@ IsCompared project w u c (Unreached index) said = ⊥
 
 -- The units of a plan.
 
--- The fate of a unit, given the fates and the directives of the units before it. If all units that
--- the unit reaches are kept, the unit is compared with its record. The command is the one that the
--- unit would have in a build.
+-- The fate of a unit, given the fates and the directives of the units before it. If the unit
+-- reaches only kept units, it is compared with its record. The command is that of the unit in a
+-- build.
 abbrev pub IsFate : Setup → Project → World → List Fate → List (Option (List Directive)) → Planned → Fate → Option (List Directive) → Type 0
 IsFate setup project w fates done u fate said =
     MatchOption (first_unkept fates u.reaches) (IsCompared project w u (command_of setup project u done) fate said) (λ index. (fate ≡ waits_for fates index) × (said ≡ None))

@@ -57,7 +57,8 @@ abbrev pub rows_of : List Planned → List Planned → List Fate → List Row
 rows_of units [] fates = []
 rows_of units (u ∷ us) fates = row_at units u.key (slice_get fates 0) ++ rows_of units us (drop 1 fates)
 
--- how many units wait and how many are not reached, each only if there are any
+-- the number of units that wait, and the number of units that are not reached; a number that is 0
+-- is left out
 abbrev pub others_text : ℕ → ℕ → List ℕ
 others_text waiting unreached = if_some waiting (codes " may be started") ++ if_some unreached (codes " not reached") ++ codes "\n"
 

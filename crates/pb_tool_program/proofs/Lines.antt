@@ -1,5 +1,5 @@
 -- The lines of a session that were written, and where it was stopped.
-use Rattle.std.proofs.Common.{◌≡◌, ◌≢◌, ◌⊎◌, ◌==◌, inl, inr, ℕ, Bool, true, false, List, [], ◌∷◌, ◌++◌, codes, length, Option, Some, None, is_some, IsTrue, Ok, refl, sym, subst, arith}
+use Rattle.std.proofs.Common.{◌≡◌, ◌≢◌, ◌⊎◌, ◌==◌, inl, inr, ℕ, Bool, true, false, List, [], ◌∷◌, ◌++◌, codes, length, Option, Some, None, is_some, IsTrue, Ok, Result, refl, sym, subst, arith}
 use Rattle.std.proofs.lemmas.Bool.{false≢true}
 use Rattle.std.proofs.lemmas.Bool.Decides.{Decides-eqb}
 use Rattle.std.specs.Io.KnownBytes.{Appends}
@@ -11,7 +11,8 @@ use Rattle.pb_command_types.specs.declared.fault.UnitFault.{UnitFault}
 use Rattle.pb_build_session.specs.Sessions.{session_of}
 use Rattle.pb_build_session.specs.declared.step.SessionStep.{SessionStep}
 use Rattle.pb_build.specs.Session.{Breaks, Course, Point, point}
-use Rattle.pb_build.specs.declared.sessions.BuildOutcome.{BuildOutcome}
+use Rattle.pb_build_result.specs.declared.fault.BuildFault.{BuildFault}
+use Rattle.pb_build_result.specs.declared.summary.Summary.{Summary}
 use Rattle.pb_tool_program.specs.Session.{SessionStopped, SessionWritten, small_compiler, lines_of}
 use Rattle.pb_place_types.specs.declared.moved.Moved.{Moved}
 use Rattle.pb_tool_notes_pages.specs.Notes.{lines_of as note_lines}
@@ -20,7 +21,7 @@ use Rattle.pb_tool_sentences.specs.Libraries.{notes_of}
 use Rattle.pb_tool_program.specs.Writing.{Tells, TellsOr, Writes}
 use Rattle.pb_workspace_types.specs.declared.package.Package.{Package}
 
-pub session_written : (whole : Bool) (bytes : List ℕ) (read steps : List SessionStep) (first last : Held) (old mid new : SinkState) (answers told : List BuildOutcome)
+pub session_written : (whole : Bool) (bytes : List ℕ) (read steps : List SessionStep) (first last : Held) (old mid new : SinkState) (answers told : List (Result Summary BuildFault))
     → session_of bytes ≡ Ok read → steps ≡ read
     → first ≡ no_held
     → Course small_compiler steps (point first old []) (point last mid answers) → told ≡ answers → Writes whole (lines_of told) mid new
@@ -32,7 +33,7 @@ session_written whole bytes read steps first last old mid new answers told is_re
     point last mid answers,
     subst (λ (h : Held). Course small_compiler read (point h old []) (point last mid answers)) is_first
         (subst (λ (s : List SessionStep). Course small_compiler s (point first old []) (point last mid answers)) is_steps course),
-    subst (λ (a : List BuildOutcome). Writes whole (lines_of a) mid new) is_told writes,
+    subst (λ (a : List (Result Summary BuildFault)). Writes whole (lines_of a) mid new) is_told writes,
   ),
 )
 
@@ -48,7 +49,7 @@ session_broken bytes read steps first old left is_read is_steps is_first breaks 
   ),
 )
 
-pub session_untold : (bytes : List ℕ) (read steps : List SessionStep) (first last : Held) (old mid new : SinkState) (answers : List BuildOutcome)
+pub session_untold : (bytes : List ℕ) (read steps : List SessionStep) (first last : Held) (old mid new : SinkState) (answers : List (Result Summary BuildFault))
     → session_of bytes ≡ Ok read → steps ≡ read → first ≡ no_held → Course small_compiler steps (point first old []) (point last mid answers) → new ≡ mid
     → SessionStopped bytes old new
 session_untold bytes read steps first last old mid new answers is_read is_steps is_first course is_new = inr (

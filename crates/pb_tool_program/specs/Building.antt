@@ -34,7 +34,7 @@ abbrev pub status_of : Result Summary BuildFault → ℕ
 status_of (Ok summary) = success_status summary.success
 status_of (Err fault) = 101
 
--- The line for a unit that will be built again. A path that the unit's child read was changed while
+-- The line for a unit that will be built again. The unit's child read a path that was changed while
 -- the child was at work.
 abbrev pub moved_note : List ℕ → List ℕ → List ℕ
 moved_note path key = codes "note: " ++ path ++ codes " was changed while " ++ key ++ codes " was built: that unit will be built again\n"
@@ -88,14 +88,14 @@ units_if explain (Err fault) = None
 abbrev pub TellsStarted : ℕ → List (List ℕ) → List Difference → List Detail → ℕ → SinkState → SinkState → Type 0
 TellsStarted units keys differences details kept old new = Tells (explanation units keys differences details kept) old new ⊎ Tells reasons_lost old new
 
--- The reasons of a build with this number of units that ended without a fault. The summary has the
--- started units and what differed. The place has noted how it differs, and nothing is promised about
--- these details.
+-- The reasons, if a build with this number of units ended without a fault. The summary has the
+-- started units and what differed. The place has noted how it differs, and nothing is promised
+-- about these details.
 abbrev pub TellsSummary : ℕ → Summary → SinkState → SinkState → Type 0
 TellsSummary units summary old new = (details : List Detail) × TellsStarted units summary.started summary.differences details (length summary.kept) old new
 
--- The reasons of a build with this number of units that a fault ended. The place has noted all of
--- them. If memory ran out for a note, only a line about this is written.
+-- The reasons, if a fault ended a build with this number of units. The place has noted all reasons.
+-- If memory ran out for a note, only a line about this is written.
 abbrev pub TellsNotedUnless : Bool → ℕ → Noted → SinkState → SinkState → Type 0
 TellsNotedUnless true units noted old new = Tells reasons_lost old new
 TellsNotedUnless false units noted old new = TellsStarted units noted.started noted.differences noted.details noted.kept old new
@@ -103,8 +103,8 @@ TellsNotedUnless false units noted old new = TellsStarted units noted.started no
 abbrev pub TellsNoted : ℕ → Noted → SinkState → SinkState → Type 0
 TellsNoted units noted old new = TellsNotedUnless noted.lost units noted old new
 
--- What is written if the reasons of a build with this number of units are requested: lines that say
--- why children were started, or one line which says that memory ran out for the reasons. In any
+-- What is written about the reasons of a build with this number of units, if reasons are requested.
+-- Lines say why children were started, or one line says that memory ran out for the reasons. In any
 -- other case nothing is written.
 abbrev pub TellsReasons : Option ℕ → Result Summary BuildFault → Noted → SinkState → SinkState → Type 0
 TellsReasons None answer noted old new = new ≡ old
@@ -124,7 +124,7 @@ abbrev pub TellsDetail : Bool → Result Summary BuildFault → SinkState → Si
 TellsDetail rendered answer old new = TellsOr detail_lost (detail rendered answer) old new
 
 -- What a place reports about a fault from outside: at most ten texts without line feeds. Nothing
--- more is promised about these texts. Without such a fault there are none.
+-- more is promised about these texts. Without such a fault there are no texts.
 abbrev pub Reported : Result Summary BuildFault → List (List ℕ) → Type 0
 Reported (Err (build.Child unit fault)) texts = AreReported texts
 Reported (Err (build.Device unit fault)) texts = AreReported texts
@@ -136,9 +136,9 @@ Reported answer texts = texts ≡ []
 abbrev pub TellsReport : List (List ℕ) → SinkState → SinkState → Type 0
 TellsReport texts old new = TellsOr report_lost (lines_of texts) old new
 
--- How a build with this answer ends. The build has a status. If it is requested, the build writes
--- beside the output why children were started. Then it writes what a failing child printed, the
--- fault's detail, the place's report, the notes, and the reason of a failure.
+-- How a build with this answer ends. The build has a status. If reasons are requested, the build
+-- writes beside the output why children were started. Then it writes what a failing child printed,
+-- the fault's detail, the place's report, the notes, and the reason of a failure.
 pub record Concludes (explain : Option ℕ) (rendered : Bool) (answer : Result Summary BuildFault) (report notes : List (List ℕ)) (status : ℕ) (old new : SinkState) : Type 0 where
   pub told : status ≡ status_of answer
   pub noted : Noted

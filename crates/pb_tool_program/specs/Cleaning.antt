@@ -26,25 +26,25 @@ of_what wanted.All = []
 of_what wanted.OfProfile = codes " under the profile"
 of_what wanted.OfPackages = codes " of the packages"
 
--- the name of the refusal if nothing that was wanted exists
+-- the name of the refusal if nothing of what was wanted exists
 abbrev pub refusal_of : Wanted → List ℕ
 refusal_of wanted.All = codes "NoTargetFolder"
 refusal_of wanted.OfProfile = codes "NoSuchProfile"
 refusal_of wanted.OfPackages = codes "NoSuchPackage"
 
--- what is written if nothing that was wanted is in a folder
+-- what is written if a folder contains nothing of what was wanted
 abbrev pub nothing_told : Wanted → List ℕ → List ℕ
 nothing_told some folder = codes "note: " ++ folder ++ codes " contains nothing that a build made" ++ of_what some ++ codes "\nerror: refused " ++ refusal_of some ++ codes "\n"
 
--- The fault of a build for a fault of a removal, so that its result line can be written. This is
+-- A removal's fault as a fault of a build, so that its result line can be written. This line is
 -- `error: refused NoSuchProfile`, `error: fault PATH Device` or `error: fault memory OutOfMemory`.
 abbrev pub build_fault_of : CleanFault → BuildFault
 build_fault_of (Call name fault) = build_fault.Device name (device.Place fault)
 build_fault_of NoSuchProfile = build_fault.Plan (refusal.Plan (plan.Profile profile.NoSuchProfile))
 build_fault_of fault = build_fault.OutOfMemory
 
--- the same is written about a fault that a build with this fault writes, with what the place
--- reports about the fault
+-- what is written about a fault: the same as after a build that ended with this fault, and what the
+-- place reports about the fault
 pub record TellsFault (fault : BuildFault) (status : ℕ) (old new : SinkState) : Type 0 where
   pub report : List (List ℕ)
   pub reports : Reported (Err fault) report
@@ -71,9 +71,9 @@ CleansFound is_modelled (Err fault) answer old new = (answer ≡ Err fault) × (
 abbrev pub seen : BuildState → Moment
 seen s = record { world = s.world; counts = s.counts; most = s.most }
 
--- What the options choose was looked for, and this changed nothing. If there was something to
--- remove, the target folder was guarded, and then what was chosen was removed. Otherwise nothing
--- was done. No further call was made, and nothing was written as output.
+-- The program looked for what the options choose, and this changed nothing. If there was something
+-- to remove, the target folder was guarded, and then the chosen paths were removed. Otherwise
+-- nothing was done. No further call was made, and nothing was written as output.
 pub record CleansTold (is_modelled : Bool) (Guards : Option (List ℕ) → Counts → SinkState → SinkState → Type 0) (options : Options) (one_profile : Bool) (status : ℕ) (old new : BuildState) (said_before said_after : SinkState) : Type 0 where
   pub heard : new.heard ≡ old.heard
   pub found : Result Choice CleanFault

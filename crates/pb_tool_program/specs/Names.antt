@@ -26,7 +26,7 @@ abbrev pub Unmeant : Option (List ℕ) → List ℕ → ℕ → SinkState → Si
 Unmeant near name status said_before said_after =
     (status ≡ 1) × Tells (no_such_name near name) said_before said_after ⊎ (status ≡ 101) × Tells (error_of (Err build_fault.OutOfMemory)) said_before said_after
 
--- The text that a page has about a name is output. If the page has no such text, this fact is
+-- The page's text about the name is output. If the page has no text about the name, this fact is
 -- written beside the output.
 abbrev pub MeansText : Option (List ℕ) → Option (List ℕ) → List ℕ → ℕ → SinkState → SinkState → SinkState → SinkState → Type 0
 MeansText (Some text) near name status old new said_before said_after = (said_after ≡ said_before) × Prints text status old new

@@ -21,8 +21,8 @@ plan_text Lines plan = plan_lines plan
 plan_text Json plan = plan_json plan
 plan_text Dot plan = plan_dot plan
 
--- Either the text was written as output, or the sink failed after a first part of the text, or
--- memory ran out and nothing was written.
+-- Either the text was written as output, or the sink failed after a prefix of the text, or memory
+-- ran out and nothing was written.
 abbrev pub PrintsText : List ℕ → Result (Unit {0}) BuildFault → SinkState → SinkState → Type 0
 PrintsText text (Ok done) old new = Writes true text old new
 PrintsText text (Err build_fault.Sink) old new = Writes false text old new
@@ -45,7 +45,7 @@ pub record PrintsFrom (is_modelled : Bool) (options : Options) (form : PlanForm)
   pub rests : new ≡ record planned { heard = heard }
 
 -- How the command ends if its plan was refused, failed or could not be written. A second look is
--- made, and then the same is written that `build` writes after such a fault.
+-- made. Then the command writes what `build` writes after such a fault.
 pub record PlanFails (fault : BuildFault) (status : ℕ) (old new : BuildState) (said_before said_after : SinkState) : Type 0 where
   pub notes : List (List ℕ)
   pub are_notes : AreNotes notes
@@ -60,8 +60,8 @@ abbrev pub EndsPlan : Result (Unit {0}) BuildFault → ℕ → BuildState → Bu
 EndsPlan (Ok done) status old new said_before said_after = (status ≡ 0) × (new ≡ old) × (said_after ≡ said_before)
 EndsPlan (Err fault) status old new said_before said_after = PlanFails fault status old new said_before said_after
 
--- Either a plan of these options was made and written in this form, or the reason why it was not is
--- written. No child was started, and no file was changed.
+-- Either a plan of these options was made and written in this form, or the command wrote why this
+-- failed. No child was started, and no file was changed.
 pub record PlansTold (is_modelled : Bool) (options : Options) (form : PlanForm) (status : ℕ) (old new : BuildState) (said_before said_after : SinkState) : Type 0 where
   pub answer : Result (Unit {0}) BuildFault
   pub printed : BuildState

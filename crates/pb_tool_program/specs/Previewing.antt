@@ -35,8 +35,8 @@ abbrev pub TellsBy : List Planned → Result (List Fate) BuildFault → Result (
 TellsBy units (Ok fates) answer old new = (answer ≡ Ok tt) × TellsFates units fates old new
 TellsBy units (Err fault) answer old new = (answer ≡ Err fault) × (new ≡ old)
 
--- The prepared units were looked at, and what a build would do with them was written. The fates are
--- those that the records in this world say. Nothing changed but counters. If a call failed, no call
+-- The prepared units were looked at, and what a build would do with them was written. The fates
+-- follow from the records in this world. Nothing changed but counters. If a call failed, no call
 -- came after it.
 pub record Foretells (is_modelled : Bool) (prepared : Prepared) (answer : Result (Unit {0}) BuildFault) (old new : BuildState) (said_before said_after : SinkState) : Type 0 where
   pub fates : Result (List Fate) BuildFault
@@ -75,7 +75,7 @@ pub record PreviewsTold (is_modelled : Bool) (child : Answers) (options : Option
   -- notes about the plan's packages without a library were written
   pub noted : SinkState
   pub notes : NotesOf plan said_before noted
-  -- what the build would start was written
+  -- the program wrote what the build would start
   pub answer : Result (Unit {0}) BuildFault
   pub ahead : BuildState
   pub said : SinkState

@@ -31,7 +31,7 @@ use Rattle.pb_tool_program.specs.Writing.{Tells}
 
 -- The session in these bytes was run. If the status is 0, the session's lines were written as
 -- output, and nothing was written beside the output. If the status is 1, the session is reported as
--- bad, and only those lines were written that came before memory ran out or the sink failed.
+-- bad. Then only the lines from before memory ran out, or before the sink failed, were written.
 pub record RunsSession (bytes : List ℕ) (status : ℕ) (old new said_before said_after : SinkState) : Type 0 where
   pub ends : (status ≡ 0) ⊎ (status ≡ 1)
   pub written : status ≡ 0 → SessionWritten true bytes old new
@@ -62,8 +62,8 @@ pub record RunsFile (is_modelled : Bool) (path : List ℕ) (status : ℕ) (old n
 
 -- Arguments that request nothing.
 
--- What is written for arguments that request nothing. Help or the version is output. What is wrong
--- with the arguments is written beside the output, and so is a line that says that memory ran out.
+-- What is written for arguments that request nothing. Help or the version is output. A text about
+-- wrong arguments, or about memory that ran out, is written beside the output.
 abbrev pub Explains : ArgumentsError → ℕ → SinkState → SinkState → SinkState → SinkState → Type 0
 Explains (Help text) status old new said_before said_after = (said_after ≡ said_before) × Prints text status old new
 Explains (Wrong text) status old new said_before said_after = (status ≡ 1) × (new ≡ old) × Tells text said_before said_after

@@ -1,5 +1,5 @@
 -- What the session program reports about its input, and how it ends.
-use Rattle.std.specs.Prelude.{◌≡◌, ◌⊎◌, ℕ, Bool, codes, List, [], ◌∷◌, ◌++◌, Ok}
+use Rattle.std.specs.Prelude.{◌≡◌, ◌⊎◌, ℕ, Bool, codes, List, [], ◌∷◌, ◌++◌, Ok, Result}
 use Rattle.std.specs.Io.KnownBytes.{Appends}
 use Rattle.std.specs.FinMap as map
 use Rattle.pb_mini.specs.Answer.{answered}
@@ -7,7 +7,8 @@ use Rattle.pb_place_types.specs.Counts.{up, no_calls}
 use Rattle.pb_place_types.specs.Sinks.{SinkState, TakesPart}
 use Rattle.pb_place_types.specs.World.{Answers}
 use Rattle.pb_build.specs.Session.{Point, Course, Breaks}
-use Rattle.pb_build.specs.declared.sessions.BuildOutcome.{BuildOutcome}
+use Rattle.pb_build_result.specs.declared.fault.BuildFault.{BuildFault}
+use Rattle.pb_build_result.specs.declared.summary.Summary.{Summary}
 use Rattle.pb_build_result.specs.ResultLine.{result_line}
 use Rattle.pb_build_session.specs.Sessions.{session_of}
 use Rattle.pb_build_session.specs.declared.step.SessionStep.{SessionStep}
@@ -17,15 +18,14 @@ use Rattle.pb_tool_program.specs.Writing.{Writes}
 abbrev pub bad_session : List ℕ
 bad_session = codes "error: bad session\n"
 
--- Either the session is reported as bad, or the sink failed and took only some first bytes of the
--- report.
+-- Either the session is reported as bad, or the sink failed and took only a prefix of the report.
 abbrev pub Refused : SinkState → SinkState → Type 0
 Refused old new = (Appends old.taken new.taken bad_session × (new.faults ≡ old.faults)) ⊎ (TakesPart bad_session old.taken new.taken × (new.faults ≡ up old.faults))
 
 -- the result line of each answer, each with a line feed at its end
-abbrev pub lines_of : List BuildOutcome → List ℕ
+abbrev pub lines_of : List (Result Summary BuildFault) → List ℕ
 lines_of [] = []
-lines_of (answer ∷ answers) = result_line answer.result ++ codes "\n" ++ lines_of answers
+lines_of (answer ∷ answers) = result_line answer ++ codes "\n" ++ lines_of answers
 
 -- the small compiler as the child of a session
 abbrev pub small_compiler : Answers
@@ -37,7 +37,7 @@ abbrev pub at_first : SinkState → Point
 at_first heard = record { moment = record { world = record { files = map.empty; variables = map.empty }; counts = no_calls; most = 0; heard = heard }; answers = []; fuse = 0; deaths = [] }
 
 -- The steps were taken one by one, and each build wrote its message lines. Then a result line for
--- each build was written. If the sink failed, it took only some first bytes of the result lines.
+-- each build was written. If the sink failed, it took only a prefix of the result lines.
 abbrev pub Written : Bool → List SessionStep → SinkState → SinkState → Type 0
 Written whole steps before after = (end : Point) × Course small_compiler steps (at_first before) end × Writes whole (lines_of end.answers) end.moment.heard after
 
@@ -45,8 +45,8 @@ Written whole steps before after = (end : Point) × Course small_compiler steps 
 abbrev pub SessionWritten : Bool → List ℕ → SinkState → SinkState → Type 0
 SessionWritten whole bytes before after = (steps : List SessionStep) × (session_of bytes ≡ Ok steps) × Written whole steps before after
 
--- Either memory ran out in a step, and the steps before it were taken one by one, or memory ran out
--- after the last step, and no result line was written.
+-- Memory ran out. If this happened in a step, the steps before it were taken one by one. If it
+-- happened after the last step, no result line was written.
 abbrev pub Stopped : List SessionStep → SinkState → SinkState → Type 0
 Stopped steps before after =
     ((left : Point) × Breaks small_compiler steps (at_first before) left × (after ≡ left.moment.heard))

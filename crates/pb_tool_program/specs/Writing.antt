@@ -4,7 +4,7 @@ use Rattle.std.specs.Io.KnownBytes.{Appends}
 use Rattle.pb_place_types.specs.Counts.{up}
 use Rattle.pb_place_types.specs.Sinks.{SinkState, TakesPart}
 
--- Either all of these bytes were written, or the sink failed and took only some first bytes.
+-- Either all of these bytes were written, or the sink failed and took only a prefix of them.
 abbrev pub Writes : Bool → List ℕ → SinkState → SinkState → Type 0
 Writes true bytes old new = Appends old.taken new.taken bytes × (new.faults ≡ old.faults)
 Writes false bytes old new = TakesPart bytes old.taken new.taken × (new.faults ≡ up old.faults)

@@ -24,7 +24,9 @@ use pb_build_result::{BuildFault, Refusal, Summary, result_line, summary_text};
 use pb_data::Text;
 use pb_place_host::Reporting;
 use pb_place_types::{Moved, Out, PathText, Place, write_all};
-use pb_tool_notes::{Notes, notes_on_build, notes_on_features, notes_on_load, notes_on_plan};
+use pb_tool_notes::{
+    Notes, Remembering, notes_on_build, notes_on_features, notes_on_load, notes_on_plan,
+};
 use pb_tool_progress::build_watched;
 use pb_tool_reasons::Noted;
 use pb_tool_screen::StatusLine;
@@ -214,7 +216,7 @@ fn tell_detail<E: Out>(
 }
 
 /// Looks again at a workspace that was refused, for notes on why.
-fn look_at_refusal<P: Place>(
+fn look_at_refusal<P: Place + Remembering>(
     alloc: Global,
     place: &mut P,
     options: &Options,
@@ -231,7 +233,7 @@ fn look_at_refusal<P: Place>(
 
 /// Looks again at the workspace of a build that was refused or ended without a fault, for notes.
 /// After any other fault it makes no call of the place.
-pub(crate) fn look<P: Place>(
+pub(crate) fn look<P: Place + Remembering>(
     alloc: Global,
     place: &mut P,
     options: &Options,
@@ -306,7 +308,7 @@ pub(crate) fn conclude<E: Out>(
 ///
 /// If the status line is on, it shows each unit that begins. The status line changes nothing else,
 /// and the contract says nothing about it.
-pub fn build_options<P: Noting + Reporting, G: Guard<P, E>, O: Out, E: Out, L: Out>(
+pub fn build_options<P: Noting + Reporting + Remembering, G: Guard<P, E>, O: Out, E: Out, L: Out>(
     alloc: Global,
     place: &mut P,
     guard: &mut G,

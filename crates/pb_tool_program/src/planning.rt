@@ -12,6 +12,7 @@ use pb_build_result::BuildFault;
 use pb_place_host::Reporting;
 use pb_place_types::{Out, Place, write_all};
 use pb_tool_arguments::PlanForm;
+use pb_tool_notes::Remembering;
 use pb_tool_plan::{plan_dot, plan_json, plan_lines};
 use pb_tool_reasons::Noted;
 use pb_unit::Plan;
@@ -78,7 +79,7 @@ fn print_plan<P: Place, O: Out>(
 }
 
 /// Looks again, writes what a build with this fault writes, and returns the status.
-pub(crate) fn fail<P: Place + Reporting, E: Out>(
+pub(crate) fn fail<P: Place + Reporting + Remembering, E: Out>(
     alloc: Global,
     place: &mut P,
     err: &mut E,
@@ -111,7 +112,7 @@ pub(crate) fn fail<P: Place + Reporting, E: Out>(
 ///
 /// With 101, `err` has the notes and the result line of a build that ends with this fault. No child
 /// is started, not even for the compiler's version, and no file is changed.
-pub fn plan_options<P: Place + Reporting, O: Out, E: Out>(
+pub fn plan_options<P: Place + Reporting + Remembering, O: Out, E: Out>(
     alloc: Global,
     place: &mut P,
     out: &mut O,

@@ -14,6 +14,7 @@ use pb_build::{BuildPlan, Prepared, plan_build, prepare};
 use pb_build_result::BuildFault;
 use pb_place_host::Reporting;
 use pb_place_types::{Out, Place, write_all};
+use pb_tool_notes::Remembering;
 use pb_tool_preview::{Fate, foresee, preview_lines};
 use pb_unit::Planned;
 use pb_workspace_types::Options;
@@ -95,7 +96,7 @@ fn look_ahead<P: Place, E: Out>(
 /// is 0 or 101. With 101, the notes of a failed build and `error: ` with its result line are
 /// written, too. The only child is the compiler's query, and no file or folder is changed. So the
 /// target folder is not guarded.
-pub fn preview_options<P: Place + Reporting, E: Out>(
+pub fn preview_options<P: Place + Reporting + Remembering, E: Out>(
     alloc: Global,
     place: &mut P,
     err: &mut E,

@@ -16,6 +16,7 @@ use crate::session::{refuse, run_session};
 use pb_place_types::{Out, PathText, Place, write_all};
 use pb_tool_arguments::{ArgumentsError, Here, Invocation, Shown, read_command_line};
 use pb_tool_explain::Page;
+use pb_tool_notes::Remembering;
 use pb_tool_screen::{Coloring, Screen, Speaking, StatusLine};
 use pb_tool_witness::Noting;
 use pb_workspace_types::Options;
@@ -73,7 +74,7 @@ fn explain<O: Out, E: Out>(unasked: &ArgumentsError, out: &mut O, err: &mut E) -
 }
 
 /// Sets what the place and the sinks show of a build, and builds.
-fn build<P: Speaking + Noting, G: Guard<P, E>, O: Screen, E: Coloring, L: Out>(
+fn build<P: Speaking + Noting + Remembering, G: Guard<P, E>, O: Screen, E: Coloring, L: Out>(
     alloc: Global,
     place: &mut P,
     guard: &mut G,
@@ -123,7 +124,14 @@ fn build<P: Speaking + Noting, G: Guard<P, E>, O: Screen, E: Coloring, L: Out>(
 /// - 1 for a bad command line, and for a name that the page does not have;
 /// - 0 if help or a name's meaning was requested, and 1 if this text cannot be written;
 /// - 101 if memory runs out before any of this.
-pub fn run<S: AsStr, P: Speaking + Noting, G: Guard<P, E>, O: Screen, E: Coloring, L: Out>(
+pub fn run<
+    S: AsStr,
+    P: Speaking + Noting + Remembering,
+    G: Guard<P, E>,
+    O: Screen,
+    E: Coloring,
+    L: Out,
+>(
     alloc: Global,
     words: &[S],
     here: &Here,

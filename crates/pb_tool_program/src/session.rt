@@ -6,8 +6,8 @@ ghost use Rattle.pb_build_session.specs.declared.fault.BadSession.TheVariants.{B
 ghost use Rattle.pb_tool_program.specs.Session.{Refused, SessionStopped, SessionWritten, lines_of};
 ghost use Rattle.pb_tool_program.specs.Writing.{Writes};
 
-use pb_build::{BuildOutcome, session};
-use pb_build_result::result_line;
+use pb_build::session;
+use pb_build_result::{BuildFault, Summary, result_line};
 use pb_build_session::{BadSession, read_session};
 use pb_mini::Mini;
 use pb_place::Memory;
@@ -24,12 +24,15 @@ pub fn refuse<E: Out>(err: &mut E) -> u8
 }
 
 /// Returns the result lines of builds, each followed by a line feed.
-fn result_lines(alloc: Global, answers: &[BuildOutcome]) -> Result<String, AllocError>
+fn result_lines(
+    alloc: Global,
+    answers: &[Result<Summary, BuildFault>],
+) -> Result<String, AllocError>
     ensures { IfOk result (λ lines. string_bytes lines ≡ lines_of answers.now) }
 {
     let mut lines = String::new(alloc);
     for answer in answers {
-        let line = result_line(alloc, &answer.result)?;
+        let line = result_line(alloc, answer)?;
         lines.push_str(line.as_str())?;
         lines.push_str("\n")?;
     }
@@ -41,7 +44,7 @@ fn result_lines(alloc: Global, answers: &[BuildOutcome]) -> Result<String, Alloc
 /// Errors: only out of memory, before anything is written.
 pub fn write_results<O: Out>(
     alloc: Global,
-    answers: &[BuildOutcome],
+    answers: &[Result<Summary, BuildFault>],
     out: &mut O,
 ) -> Result<bool, AllocError>
     ensures written { IfOk result (λ whole.

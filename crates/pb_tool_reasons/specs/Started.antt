@@ -31,7 +31,7 @@ rows_of (key ∷ keys) differences details = row_if key (slice_get differences 0
 abbrev pub counts_line : ℕ → ℕ → ℕ → List ℕ
 counts_line started kept unreached = decimal started ++ codes " started, " ++ decimal kept ++ codes " kept" ++ if_some unreached (codes " not reached") ++ codes "\n"
 
--- the difference is in the variable `CARGO`, which has another text for children than before
+-- the difference is in the variable `CARGO`, whose text for children has changed
 abbrev pub is_tool : Difference → Bool
 is_tool (Pair name) = bytes_eq name (codes "CARGO")
 is_tool _ = false

@@ -7,7 +7,8 @@ use Rattle.pb_build_result.specs.declared.fault.Refusal.TheVariants as refusal
 use Rattle.pb_build_result.specs.declared.summary.Summary.{Summary}
 use Rattle.pb_command_types.specs.declared.fault.UnitFault.{UnitFault}
 use Rattle.pb_command_types.specs.declared.fault.UnitFault.TheVariants as unit
-use Rattle.pb_tool_sentences.specs.Sentences.{build_sentence, unit_sentence}
+use Rattle.pb_build_result.specs.Failures.{unit_sentence}
+use Rattle.pb_build_result.specs.Sentence.{build_sentence}
 use Rattle.pb_unit.specs.declared.fault.PlanFault.TheVariants as plan
 
 -- a note with this sentence
@@ -19,7 +20,8 @@ abbrev pub spaced : List (List ℕ) → List ℕ
 spaced [] = []
 spaced (name ∷ names) = codes " " ++ name ++ spaced names
 
--- What follows the sentence. If packages depend on one another, these are their names.
+-- What follows the sentence: the names of the packages, if the fault is that packages depend on one
+-- another.
 abbrev pub with_names : BuildFault → List ℕ
 with_names (build.Plan (refusal.Plan (plan.Cycle names))) = codes ":" ++ spaced names
 with_names fault = []

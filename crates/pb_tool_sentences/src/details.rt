@@ -1,11 +1,10 @@
 //! What is written about a failed build besides its result line: the sentence of its fault.
 
 ghost use Rattle.std.specs.Prelude.{◌≡◌, ◌≢◌, [], ◌++◌, IfOk, IfErr, OnOk, string_bytes};
+ghost use Rattle.pb_build_result.specs.Sentence.{build_sentence};
 ghost use Rattle.pb_tool_sentences.specs.Details.{bad_detail, detail, is_by_compiler, spaced, told_of, with_names};
-ghost use Rattle.pb_tool_sentences.specs.Sentences.{build_sentence};
 
-use crate::formatted::{build_sentence, unit_sentence};
-use pb_build_result::{BuildFault, Refusal, Summary};
+use pb_build_result::{BuildFault, Refusal, Summary, build_sentence, unit_sentence};
 use pb_command_types::UnitFault;
 use pb_data::Text;
 use pb_unit::PlanFault;

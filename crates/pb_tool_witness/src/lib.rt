@@ -1,5 +1,5 @@
 //! How a unit whose child is started differs from its record, as a place sees it. The notes outlive
-//! a fault.
+//! a fault. The place also remembers the manifests that a planning read.
 #![tactic(auto)]
 
 mod command;
@@ -8,6 +8,7 @@ mod differing;
 mod folders;
 mod notes;
 pub mod noting;
+mod remembered;
 mod values;
 mod variables;
 pub mod witness;

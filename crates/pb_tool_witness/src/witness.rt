@@ -5,9 +5,11 @@ ghost use Rattle.pb_place_types.specs.At.{IsUnchanged};
 
 use crate::notes::Notes;
 use crate::noting::Noting;
+use crate::remembered::Remembered;
 use pb_data::{Bytes, Items, Text};
 use pb_place_host::Reporting;
 use pb_place_types::{Command, Ended, Moved, PathFault, PathText, Place, PlaceFault, StartFault};
+use pb_tool_notes_pages::Remembering;
 use pb_tool_reasons::Noted;
 use pb_tool_screen::Speaking;
 use std::alloc::{AllocError, Global};
@@ -15,12 +17,17 @@ use std::alloc::{AllocError, Global};
 /// A place that does what another place does. If noting is on, it notes how each unit that begins
 /// differs from the unit's record. It learns this from the calls of a build, and makes no call of
 /// its own.
+///
+/// The place also remembers the manifests that it read and the folders that it listed since notes
+/// were last switched. A planning reads and lists these, and the second look needs them again.
 #[derive(Drop)]
 pub struct Witness<P> {
     /// The place that makes the calls.
     inside: P,
     /// What is noted.
     notes: Notes,
+    /// What is remembered.
+    remembered: Remembered,
 }
 
 impl<P: Place + Reporting> Witness<P> {
@@ -31,6 +38,7 @@ impl<P: Place + Reporting> Witness<P> {
         Witness {
             inside,
             notes: Notes::new(alloc),
+            remembered: Remembered::new(alloc),
         }
     }
 }
@@ -40,10 +48,21 @@ impl<P: Place + Reporting> Noting for Witness<P> {
 
     fn note_units(&mut self, alloc: Global, on: bool, values: bool) {
         self.notes.switch(alloc, on, values);
+        self.remembered = Remembered::new(alloc);
     }
 
     fn noted(&self) -> &Noted {
         &self.notes.noted
+    }
+}
+
+impl<P> Remembering for Witness<P> {
+    fn remembered_text(&self, path: &PathText) -> Option<&Bytes> {
+        self.remembered.text(path)
+    }
+
+    fn remembered_folders(&self, folder: &PathText) -> Option<&Items<PathText>> {
+        self.remembered.folders(folder)
     }
 }
 
@@ -101,7 +120,11 @@ impl<P: Place + Reporting> Place for Witness<P> {
         path: &PathText,
         most: usize,
     ) -> Result<Option<Bytes>, PlaceFault> {
-        self.inside.read_first(alloc, path, most)
+        let answer = self.inside.read_first(alloc, path, most);
+        if let Ok(text) = &answer {
+            self.remembered.note_text(alloc, path, most, text.as_ref());
+        }
+        answer
     }
 
     fn is_file(&mut self, alloc: Global, path: &PathText) -> Result<bool, PlaceFault> {
@@ -149,7 +172,11 @@ impl<P: Place + Reporting> Place for Witness<P> {
         folder: &PathText,
         left_out: &PathText,
     ) -> Result<Items<PathText>, PlaceFault> {
-        self.inside.list_folders(alloc, folder, left_out)
+        let answer = self.inside.list_folders(alloc, folder, left_out);
+        if let Ok(folders) = &answer {
+            self.remembered.note_folders(alloc, folder, folders);
+        }
+        answer
     }
 
     fn write(&mut self, alloc: Global, path: &PathText, bytes: &[u8]) -> Result<(), PlaceFault> {

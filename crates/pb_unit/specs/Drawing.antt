@@ -48,7 +48,7 @@ slot Run Target = 4
 slot Run Host = 5
 slot (Bin name) s = 0
 
--- the number of a unit that is no binary
+-- the number of a unit that is not a binary
 abbrev pub number : Unit → ℕ
 number u = u.owner * 6 + slot u.what u.side
 
@@ -74,7 +74,7 @@ all_numbers w ws features p s = placed (numbers_by w ws features p s) 0 (entries
 
 -- Candidates.
 
--- the six units of a package that are no binaries, whether they exist or not
+-- the six units of a package that are not binaries, whether they exist or not
 abbrev pub six : ℕ → Package → List Unit
 six p owner = unit p Target Lib ∷ unit p Host Lib ∷ unit p Target Script ∷ unit p Host Script ∷ unit p Target Run ∷ unit p Host Run ∷ []
 

@@ -81,8 +81,8 @@ pub record HasSettings (ws : Workspace) (line : List Seen) (p : Planned) : Type 
 
 -- The names of packages.
 
--- the names of the packages to which an enabled entry leads and that have no library, in byte
--- order, each once
+-- the names of the packages without a library to which an enabled entry leads, in byte order, each
+-- once
 pub record AreWithoutLibrary (ws : Workspace) (features : Features) (names : List (List ℕ)) : Type 0 where
   pub order : IsAscending names
   pub same : (name : List ℕ) → Contains names name ↔ ((p : ℕ) × (s : Side) × (n : ℕ) × (e : Entry) × (is_enabled features p s n ≡ true) × HasEntry ws p n e × (has_library (slice_get ws.packages e.to) ≡ false) × (name ≡ name_at ws e.to))
@@ -128,7 +128,7 @@ pub record IsCrowd (ws : Workspace) (features : Features) (selection : Selection
   pub order : AllPairs (λ u v. IsBelow (key_of ws u) (key_of ws v)) units
   pub many : max_units < length units
 
--- the profile has a line, so that it determines settings
+-- the profile has a line, so the profile determines settings
 pub record IsUsable (ws : Workspace) (profile : List ℕ) : Type 0 where
   pub line : List Seen
   pub is : profile_line ws profile ≡ Ok line
@@ -139,7 +139,8 @@ pub data LacksPlan (ws : Workspace) (features : Features) (selection : Selection
   by_number : (straight : IsStraight ws features selection) (crowd : IsCrowd ws features selection) → LacksPlan ws features selection TooManyUnits
   by_nothing : (none : (u : Unit) → IsPlanned ws features selection u → ⊥) → LacksPlan ws features selection NothingToBuild
 
--- Why there is no plan. Either the profile has no line, or it has one and the units have no plan.
+-- Why there is no plan. Either the profile has no line, or it has a line but the units have no
+-- plan.
 pub data Refuses (ws : Workspace) (features : Features) (selection : Selection) (profile : List ℕ) : PlanFault → Type 0 where
   by_profile : (fault : ProfileFault) (told : profile_line ws profile ≡ Err fault) → Refuses ws features selection profile (Profile fault)
   by_units : (fault : PlanFault) (usable : IsUsable ws profile) (stops : LacksPlan ws features selection fault) → Refuses ws features selection profile fault

@@ -13,7 +13,8 @@ use Rattle.pb_unit.specs.declared.unit.Unit.{Unit as OfPlan}
 use Rattle.pb_unit.specs.declared.unit.What.{What}
 use Rattle.pb_unit.specs.declared.unit.What.TheVariants.{Lib, Script, Run}
 
--- Only `Lib` is a library, only `Script` is a script, and only `Run` is a run. A binary is none of them.
+-- Only `Lib` is a library, only `Script` is a script, and only `Run` is a run. A binary is none of
+-- these three.
 abbrev pub KindsAreThese : Type 0
 KindsAreThese = (what : What) → ((is_library what ≡ true) ↔ (what ≡ Lib)) × ((is_script what ≡ true) ↔ (what ≡ Script)) × ((is_run what ≡ true) ↔ (what ≡ Run))
 

@@ -35,6 +35,6 @@ pub data Needs (ws : Workspace) (features : Features) : Unit → Unit → Type 0
   handed_on : (p : ℕ) (s : Side) (n : ℕ) (e : Entry) (to : Package) (has : HasEntry ws p n e) (enabled : is_enabled features p s n ≡ true) (normal : e.kind ≡ Normal) (there : slice_get ws.packages e.to ≡ Some to)
       (made : is_some to.library ≡ true) (links : is_some to.links ≡ true) (script : is_some to.script ≡ true) → Needs ws features (unit p s Run) (unit e.to s Run)
 
--- the units that a unit needs are exactly those that it needs by these rules
+-- `needs` contains exactly the units that a unit needs by these rules
 abbrev pub NeedsAreThese : Type 0
 NeedsAreThese = (ws : Workspace) (features : Features) (u v : Unit) → Contains (needs ws features u) v ↔ Needs ws features u v

@@ -14,7 +14,7 @@ use Rattle.pb_profile.specs.declared.fault.ProfileFault.TheVariants.{NoSuchProfi
 
 -- One profile inherits from another. `test` inherits from `dev`, and `bench` from `release`. A
 -- custom profile inherits from the profile that its table names. `dev` and `release` inherit from
--- none.
+-- no profile.
 pub data Inherits (profiles : List Profile) : List ℕ → List ℕ → Type 0 where
   test : Inherits profiles (codes "test") (codes "dev")
   bench : Inherits profiles (codes "bench") (codes "release")
@@ -25,8 +25,9 @@ pub data IsAncestor (profiles : List Profile) : List ℕ → List ℕ → Type 0
   itself : (name : List ℕ) → IsAncestor profiles name name
   higher : (name parent ancestor : List ℕ) (inherits : Inherits profiles name parent) (more : IsAncestor profiles parent ancestor) → IsAncestor profiles name ancestor
 
--- The line of a profile ends at `dev` or `release`. If an ancestor inherits from none but is
--- neither `dev` nor `release`, or inherits from itself after some steps, the line is a fault.
+-- The line of a profile ends at `dev` or `release`. The line is a fault if an ancestor inherits
+-- from itself after some steps. It is also a fault if an ancestor inherits from no profile, but is
+-- neither `dev` nor `release`.
 pub data IsLine (profiles : List Profile) : List ℕ → Result (List Seen) ProfileFault → Type 0 where
   last : (name : List ℕ) (built_in : is_either (codes "dev") (codes "release") name ≡ true) → IsLine profiles name (Ok (seen_at profiles name ∷ []))
   further : (name parent : List ℕ) (line : List Seen) (inherits : Inherits profiles name parent) (rest : IsLine profiles parent (Ok line)) → IsLine profiles name (Ok (seen_at profiles name ∷ line))

@@ -15,7 +15,7 @@ use Rattle.pb_workspace_types.specs.declared.package.Side.TheVariants.{Target, H
 use Rattle.pb_profile.specs.Line.{Seen}
 use Rattle.pb_profile.specs.Settings.{fixed, settings_along}
 
--- a set of values: for each key a value, or none
+-- a set of values: for each key a value, or no value
 abbrev pub Set : Type 0
 Set = ProfileKey → Option Setting
 
@@ -33,12 +33,12 @@ set_for_role Target = []
 set_for_role Host = (λ (s : Seen). option_map says (option_and_then (λ (p : Profile). p.build_override) s.table)) ∷ (λ (s : Seen). Some (λ k. (defaults k).beside_override)) ∷ []
 
 -- The sets that count for a package in a role, the strongest first. `package.NAME` is the first.
--- `package."*"` follows, if the package is no member. Then come the role's sets, the profile's own
--- keys, and the built-in values. Each set is taken from the profiles of the line in turn.
+-- `package."*"` follows, if the package is not a member. Then come the role's sets, the profile's
+-- own keys, and the built-in values. Each set is taken from the profiles of the line in turn.
 abbrev pub sets_for : Package → Side → List Seen → List Set
 sets_for p role line = flat_map (λ index. filter_map index line) (set_for p.name ∷ (if p.is_member then [] else set_for (codes "*") ∷ []) ++ set_for_role role ++ (λ (s : Seen). option_map says (option_map (λ (p : Profile). p.keys) s.table)) ∷ built_in_set ∷ [])
 
--- the first value that the sets have for a key, or the default if they have none
+-- the first value that the sets have for a key, or the default if no set has a value for it
 abbrev pub first_value : ProfileKey → List Set → Setting → Setting
 first_value k sets default = unwrap_or (slice_get (filter_map (λ (set : Set). set k) sets) 0) default
 

@@ -16,7 +16,7 @@ use Rattle.pb_workspace.specs.Members.{means}
 use Rattle.pb_workspace.specs.Places.{places_of}
 use Rattle.pb_workspace.specs.Selected.{places_where}
 
--- the entry of a workspace for one that was read; it has the index of the package to which it leads
+-- the workspace's entry for an entry that was read, with the index of the package to which it leads
 abbrev pub entry_at : List (List ℕ × ℕ) → Wanted → Entry
 entry_at places w = record {
   key = w.key;
@@ -54,8 +54,8 @@ packages_of drafts = map (package_at (places_of drafts)) drafts
 abbrev pub is_meant_member : List ℕ → Package → List ℕ → Bool
 is_meant_member root p text = p.is_member && means root text p.folder
 
--- A text of `default-members` that is a folder must mean a member. A glob picks among the members,
--- and is never unknown.
+-- If a text of `default-members` is a folder, it must mean a member. A glob picks among the
+-- members, and is never unknown.
 abbrev pub is_known : List ℕ → List Package → List ℕ → Bool
 is_known root packages text = is_glob text || list_any (λ p. is_meant_member root p text) packages
 

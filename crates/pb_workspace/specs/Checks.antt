@@ -1,5 +1,5 @@
 -- What is refused after all packages were read. The checks come in this order. The order is our own
--- choice if The Cargo Book has none.
+-- choice if The Cargo Book defines no order.
 use Rattle.std.specs.Prelude.{ℕ, Bool, true, not, is_some, ◌&&◌, if◌then◌else◌, List, [], map, Option, Some, None}
 use Rattle.std.specs.List.{filter_map, list_any}
 use Rattle.std.specs.Str.{bytes_eq}
@@ -15,7 +15,7 @@ use Rattle.pb_workspace_package.specs.Settling.{comes_again}
 abbrev pub has_same_names : List UnresolvedPackage → Bool
 has_same_names drafts = comes_again [] (map (λ (d : UnresolvedPackage). d.name) drafts)
 
--- the package to which an entry leads is not there, or has another name than the entry requests
+-- an entry leads to a package that is not there, or that has another name than the entry requests
 abbrev pub has_other_name : Wanted → Option UnresolvedPackage → Bool
 has_other_name w None = true
 has_other_name w (Some d) = not (bytes_eq w.name d.name)
@@ -24,7 +24,8 @@ abbrev pub matches_if : Option (List ℕ) → List ℕ → Bool
 matches_if None version = true
 matches_if (Some requirement) version = matches requirement version
 
--- the package to which an entry leads is not there, or has a version that the entry does not accept
+-- an entry leads to a package that is not there, or that has a version that the entry does not
+-- accept
 abbrev pub has_other_version : Wanted → Option UnresolvedPackage → Bool
 has_other_version w None = true
 has_other_version w (Some d) = not (matches_if w.version d.version)

@@ -23,7 +23,7 @@ use Rattle.pb_workspace.specs.MemberFolders.{is_manifest, member_folders}
 use Rattle.pb_workspace.specs.Rounds.{all_read, draft_at, parts_at, rounds, with_draft}
 
 -- The parts of the root manifest. The file must be named `Cargo.toml`. A file at or below the
--- target folder is no manifest.
+-- target folder does not count as a manifest.
 abbrev pub root_parts : World → List ℕ → Result Parts LoadFault
 root_parts sources path = if is_manifest path then parts_at sources path else Err (NoManifest path)
 
@@ -33,14 +33,14 @@ at_root f = record { root = f.root; folder = f.root; manifest = f.manifest }
 abbrev pub nothing_read : LoadState
 nothing_read = record { found = []; ahead = [] }
 
--- What was read after the root package. If there is a root package, it is a member and is read
--- first.
+-- What was read up to and including the root package. If there is a root package, it is a member
+-- and is read first.
 unfoldable pub root_read : World → WorkspaceRoot → Tables → Option Package → Result LoadState LoadFault
 root_read sources f tables None = Ok nothing_read
 root_read sources f tables (Some p) = draft_of sources (at_root f) true f.given p tables >>= (λ d. Ok (with_draft nothing_read f.root d))
 
--- What was read in the end, after all other packages. The other members are read first. Then the
--- packages to which path dependencies lead are read, in rounds.
+-- What was read in the end, after all other packages. The other members are read first. Then come
+-- the packages to which path dependencies lead, in rounds.
 unfoldable pub others_read : World → WorkspaceRoot → LoadState → Result LoadState LoadFault
 others_read sources f begun =
     all_read (draft_at sources f (member_folders sources f)) begun (folders_of (member_folders sources f)) >>= (λ read.

@@ -1,6 +1,6 @@
 -- Which calls are made to read a workspace, in order, up to the first refusal. Each call has its
--- path. The order is our own choice if The Cargo Book has none. `sources` is the world without the
--- files at or below the target folder.
+-- path. The order is our own choice if The Cargo Book defines no order. `sources` is the world
+-- without the files at or below the target folder.
 use Rattle.std.specs.Prelude.{ℕ, zero, suc, nat_le, if◌then◌else◌, codes, List, [], ◌∷◌, ◌++◌, length, Option, Some, None, Result}
 use Rattle.std.specs.List.{flat_map}
 use Rattle.std.specs.Str.{bytes_eq}
@@ -54,7 +54,8 @@ unfoldable pub rounds_looked : ℕ → (List ℕ → Result UnresolvedPackage Lo
 rounds_looked zero read look r = []
 rounds_looked (suc n) read look r = round_looked read look r ++ after (round read r) (λ now. rounds_looked n read look now)
 
--- the calls for a part of a glob in one folder: none for a fixed part, else one call that lists the folders
+-- the calls for a part of a glob in one folder: no call for a fixed part, else one call that lists
+-- the folders
 abbrev pub step_looked : List ℕ → Part → List ℕ → List Call
 step_looked target part folder = if is_fixed part then [] else looked target (call.ListFolders folder target)
 
@@ -68,12 +69,12 @@ walk_looked target sources f (part ∷ parts) folders = flat_map (step_looked ta
 abbrev pub manifest_looked : List ℕ → List ℕ → List Call
 manifest_looked target folder = looked target (call.IsFile (below folder (codes "Cargo.toml")))
 
--- The calls for a glob. The glob is walked first. Then the place is asked whether each folder to
--- which the glob leads has a manifest, unless `exclude` lists this folder.
+-- The calls for a glob. The glob is walked first. Then the place is asked about each folder to
+-- which the glob leads: whether it has a manifest. Folders of `exclude` are left out.
 abbrev pub glob_looked : List ℕ → World → WorkspaceRoot → List Part → List Call
 glob_looked target sources f parts = walk_looked target sources f parts (codes "/" ∷ []) ++ flat_map (manifest_looked target) (folders_kept sources f parts)
 
--- the calls for a text of `members`; a folder that is written out needs none
+-- the calls for a text of `members`; a folder that is written out needs no call
 abbrev pub text_looked : List ℕ → World → WorkspaceRoot → List ℕ → List Call
 text_looked target sources f text = if is_glob text then glob_looked target sources f (parts_meant f.root text) else []
 

@@ -16,7 +16,7 @@ use Rattle.pb_workspace_package.specs.Sources.{has_own_file, resolved}
 abbrev pub is_manifest : List ℕ → Bool
 is_manifest path = bytes_eq (last_part path) (codes "Cargo.toml")
 
--- the part matches only one name: it is no pattern, or has neither `*` nor `?`
+-- the part matches only one name: it is not a pattern, or has neither `*` nor `?`
 abbrev pub is_fixed : Part → Bool
 is_fixed part = not (part.is_pattern && is_glob part.text)
 

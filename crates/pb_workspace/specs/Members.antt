@@ -16,8 +16,8 @@ is_excluded root exclude folder = list_any (λ text. is_at_or_below (resolved ro
 abbrev pub plain_parts : List (List ℕ) → List Part
 plain_parts names = map (λ name. record { text = name; is_pattern = false }) names
 
--- The parts after one more part of a text. `..` removes the last part, and any other part is
--- appended as a pattern.
+-- The given parts, after one more part of a text was read. An empty part or `.` changes nothing,
+-- `..` removes the last part, and any other part is appended as a pattern.
 abbrev pub further : List Part → List ℕ → List Part
 further parts part = if stays part then parts else (if leads_up part then take (length parts - 1) parts else parts ++ record { text = part; is_pattern = true } ∷ [])
 

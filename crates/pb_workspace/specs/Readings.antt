@@ -18,8 +18,8 @@ use Rattle.pb_workspace_package.specs.Drafted.{ArePromised, IsDraft}
 abbrev pub HasSharedInOrder : WorkspaceTable → Type 0
 HasSharedInOrder w = IsAscending (map (λ (d : WorkspaceDependency). d.key) w.dependencies)
 
--- what is promised about the `[package]` of each manifest that was read, if it has one, and about
--- its other tables
+-- what is promised about each manifest that was read: about its `[package]`, if it has one, and
+-- about its other tables
 pub record ManifestsAreRead (tables : Tables) (found : Option Package) : Type 0 where
   pub named : IfSome found (λ p. is_name p.name ≡ true)
   pub binaries : All (λ b. is_name b.name ≡ true) tables.binaries

@@ -27,7 +27,7 @@ use Rattle.pb_workspace_package.specs.Drafts.{draft_of}
 use Rattle.pb_workspace.specs.Frames.{given_to, is_member}
 use Rattle.pb_workspace_package.specs.Sorted.{with_entry}
 
--- the manifest in the file at a path, or the fault for which it cannot be read
+-- the manifest in the file at a path, or the fault that says why it cannot be read
 abbrev pub read_found : List ℕ → Option (List ℕ) → Result ManifestRead LoadFault
 read_found path None = Err (NoManifest path)
 read_found path (Some bytes) = lifted (Manifest path) (manifest_of bytes)
@@ -71,8 +71,8 @@ draft_at sources f meant folder =
 abbrev pub leads_to : List Wanted → List (List ℕ)
 leads_to wanted = map (λ (w : Wanted). w.folder) wanted
 
--- What was read, after one more package. The folders to which the package's entries lead are read
--- in the next round.
+-- What was read, after one more package. The next round reads the folders to which the package's
+-- entries lead.
 abbrev pub with_draft : LoadState → List ℕ → UnresolvedPackage → LoadState
 with_draft r folder d = record { found = with_entry r.found folder d; ahead = with_folders r.ahead (leads_to d.wanted) }
 
@@ -87,7 +87,7 @@ abbrev pub all_read : (List ℕ → Result UnresolvedPackage LoadFault) → Load
 all_read read r [] = Ok r
 all_read read r (folder ∷ folders) = one_read read r folder >>= (λ now. all_read read now folders)
 
--- one round, which reads the folders to which the packages of the last round lead, in byte order
+-- one round: it reads, in byte order, the folders to which the packages of the last round lead
 abbrev pub round : (List ℕ → Result UnresolvedPackage LoadFault) → LoadState → Result LoadState LoadFault
 round read r = all_read read (record { found = r.found; ahead = [] }) (folders_of r.ahead)
 

@@ -48,16 +48,16 @@ abbrev pub root_or_members : Option ℕ → List Package → List ℕ
 root_or_members (Some index) packages = index ∷ []
 root_or_members None packages = members_of packages
 
--- The indices of the packages that are built if neither `--workspace` nor `-p` is there. A folder
--- in `default-members` that is no member is refused only in this case.
+-- The indices of the packages that are built if neither `--workspace` nor `-p` is given. Only in
+-- this case must each folder in `default-members` be a member.
 abbrev pub by_default : DefaultMembers → Option ℕ → List Package → Result (List ℕ) LoadFault
 by_default Unwritten root packages = Ok (root_or_members root packages)
 by_default (Named places) root packages = Ok places
 by_default Unknown root packages = Err NoSuchPackage
 
--- The indices of the packages to build. With `--workspace` these are all members. Otherwise the
--- first of `-p`, `default-members` and the root package that is there decides. If none of the three
--- is there, these are all members, too.
+-- The indices of the packages to build. With `--workspace` these are all members. Otherwise `-p`
+-- decides, then `default-members`, and then the root package: the first of the three that exists
+-- counts. Without any of the three, these are all members, too.
 abbrev pub selected_packages : Workspace → Bool → List (List ℕ) → Result (List ℕ) LoadFault
 selected_packages ws all names =
     if all then Ok (members_of ws.packages)

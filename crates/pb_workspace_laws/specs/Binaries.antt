@@ -25,8 +25,8 @@ in_bin name = (codes "src/bin/" ++ (name ++ codes ".rs")) ∷ (codes "src/bin/" 
 abbrev pub places : List ℕ → List ℕ → List (List ℕ)
 places package_name name = if bytes_eq name package_name then codes "src/main.rs" ∷ in_bin name else in_bin name
 
--- The source of a `[[bin]]`: its written path, or the first of these names that is a file. If none
--- is a file, the source is the first name.
+-- The source of a `[[bin]]`: its written path, or the first of these names that is a file. If no
+-- name is that of a file, the source is the first name.
 abbrev pub source_of : World → List ℕ → List (List ℕ) → Option (List ℕ) → List ℕ
 source_of sources folder names path = option_map_or (resolved folder) path (below folder (unwrap_or (first_file sources folder names) (get_or names 0 [])))
 

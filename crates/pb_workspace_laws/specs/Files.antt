@@ -16,7 +16,7 @@ is_file sources folder name = is_some (finite.get sources.files (below folder na
 abbrev pub first_file : World → List ℕ → List (List ℕ) → Option (List ℕ)
 first_file sources folder names = find (is_file sources folder) names
 
--- the path of the first of these names that is the name of a file in this folder
+-- the path of the file that `first_file` names
 abbrev pub first_path : World → List ℕ → List (List ℕ) → Option (List ℕ)
 first_path sources folder names = option_map (below folder) (first_file sources folder names)
 

@@ -1,4 +1,4 @@
--- Laws of workspaces. The manifests and the folders of a workspace determine it.
+-- Laws of workspaces. The manifests and folders determine a workspace.
 use Rattle.std.specs.Prelude.{◌≡◌, ◌↔◌, ℕ, true, codes, List, map, Some, Ok, Contains}
 use Rattle.std.specs.List.{position}
 use Rattle.std.specs.Str.{bytes_eq}

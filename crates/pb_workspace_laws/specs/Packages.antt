@@ -64,8 +64,8 @@ IsPlainText = IsText (λ x. x) (λ x. x) []
 abbrev pub with_colons : List (List ℕ) → List ℕ
 with_colons authors = join_by (λ author. author) (codes ":") authors
 
--- The path of a text, rewritten so that it starts at the member's folder instead of the root. A
--- text that is no path stays unchanged.
+-- The path of a text, rewritten so that it starts at the member's folder instead of the root. If
+-- the text is not a path, it stays unchanged.
 abbrev pub from_member : List ℕ → List ℕ → List ℕ → List ℕ
 from_member root folder text = option_map_or (text_between folder) (result_ok (joined root text)) text
 
@@ -85,7 +85,7 @@ script sources folder build.Standard = Some (below folder (codes "build.rs"))
 script sources folder build.Never = None
 script sources folder (build.At path) = Some (resolved folder path)
 
--- the crate types that are written for a library, or `lib` if none is written
+-- the crate types that are written for a library, or `lib` if no crate type is written
 abbrev pub kinds_or_lib : List CrateType → List CrateType
 kinds_or_lib [] = Lib ∷ []
 kinds_or_lib (kind ∷ kinds) = kind ∷ kinds
@@ -99,9 +99,9 @@ library sources folder name None = option_map (λ path. record { name = undersco
 
 -- Features.
 
--- A feature is written, or an optional entry makes it. A feature that an entry makes has the
--- entry's key as its name, and `dep:KEY` as its only item. The entry makes no feature if this item,
--- or a feature with this name, is written.
+-- A feature is written, or an optional entry makes it. A made feature has the entry's key as its
+-- name, and `dep:KEY` as its only item. The entry makes no feature if this item, or a feature with
+-- this name, is written.
 pub data IsFeature (m : Manifest) (f : Feature) : Type 0 where
   written : (is : Contains m.features f) → IsFeature m f
   made : (d : Dependency) (entry : Contains (m.dependencies ++ m.build_dependencies) d) (optional : d.optional ≡ true) (name : f.name ≡ d.key) (items : f.items ≡ item.Dependency d.key ∷ [])

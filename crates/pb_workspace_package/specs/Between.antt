@@ -18,8 +18,7 @@ abbrev pub upward : List (List ℕ) → List (List ℕ)
 upward names = replicate (length names) (codes "..")
 
 -- The steps from the first path to the second. The common beginning of the two paths is left out.
--- Then each name that is left in the first path is one `..`, and the names that are left in the
--- second path follow.
+-- Then each name left in the first path becomes one `..`. The names left in the second path follow.
 abbrev pub steps_between : List (List ℕ) → List (List ℕ) → List (List ℕ)
 steps_between [] others = others
 steps_between (name ∷ names) [] = upward (name ∷ names)

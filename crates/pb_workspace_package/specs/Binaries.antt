@@ -31,8 +31,8 @@ abbrev pub looked_in_bin : List ℕ → World → List ℕ → Option (List ℕ)
 looked_in_bin folder sources name = first_some (own_source folder sources (flat_source name)) (own_source folder sources (nested_source name))
 
 -- The source of a `[[bin]]` without a written path: the first of three paths that is a file. The
--- paths are `src/main.rs`, if the binary has its package's name, and the two in `src/bin`. If none
--- is a file, the source is the first of these paths.
+-- paths are `src/main.rs`, if the binary has its package's name, and the two in `src/bin`. If no
+-- path is that of a file, the source is the first of these paths.
 abbrev pub looked_for : List ℕ → World → Bool → List ℕ → List ℕ
 looked_for folder sources is_packages name =
     if is_packages then unwrap_or (first_some (own_source folder sources main_source) (looked_in_bin folder sources name)) (below folder main_source)

@@ -9,12 +9,12 @@ use Rattle.pb_manifest_types.specs.declared.feature.FeatureItem.{FeatureItem}
 use Rattle.pb_manifest_types.specs.declared.feature.FeatureItem.TheVariants as item
 use Rattle.pb_workspace_package.specs.Sorted.{with_entry}
 
--- the item is `dep:N`, in which N is this name
+-- the item is `dep:N` for this name N
 abbrev pub enables : List ℕ → FeatureItem → Bool
 enables name (item.Dependency dependency) = bytes_eq name dependency
 enables name _ = false
 
--- some feature lists the item `dep:N`, in which N is this name
+-- some feature lists the item `dep:N` for this name N
 abbrev pub is_enabled_by_name : List ℕ → List Feature → Bool
 is_enabled_by_name name features = list_any (λ f. list_any (enables name) f.items) features
 
@@ -22,7 +22,7 @@ is_enabled_by_name name features = list_any (λ f. list_any (enables name) f.ite
 abbrev pub makes_feature : List Feature → Dependency → Bool
 makes_feature written d = d.optional && not (is_enabled_by_name d.key written)
 
--- the features after these entries have added theirs; an added feature has the single item
+-- the features after these entries; an entry that makes a feature adds it, with the single item
 -- `dep:KEY`
 abbrev pub with_made : List Feature → List (List ℕ × List FeatureItem) → List Dependency → List (List ℕ × List FeatureItem)
 with_made written entries [] = entries

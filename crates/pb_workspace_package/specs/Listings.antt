@@ -1,5 +1,5 @@
--- What is read of a package's folder: all that decides what is found there. `sources` is the world
--- without the files at or below the target folder.
+-- What is read of a package's folder. Nothing else decides what is found there. `sources` is the
+-- world without the files at or below the target folder.
 use Rattle.std.specs.Prelude.{◌≡◌, ℕ, Bool, List, filter}
 use Rattle.pb_place_types.specs.World.{World, listed}
 use Rattle.pb_workspace_package.specs.declared.listings.Listings.{Listings}

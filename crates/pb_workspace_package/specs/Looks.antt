@@ -21,13 +21,14 @@ FailsOn (Place path fault) calls old new = FailsAt fault calls old new
 FailsOn e calls old new = ⊥
 
 -- How a step ended with this error. A refusal came after all of these calls. Memory may run out
--- after the first few. A failed call is one of these calls, and no call came after it.
+-- after the first n of them, for some n. A failed call is one of these calls, and no call came
+-- after it.
 abbrev pub LooksUntil : LoadFault → List Call → Counts → Counts → Type 0
 LooksUntil e calls old new = (is_outside e ≡ false → new ≡ past_calls calls old) × (is_failure e ≡ false → MakesSome calls old new) × (is_failure e ≡ true → FailsOn e calls old new)
 
--- After a success, exactly these calls were made. After an error, the first few of them were made.
--- Each call is counted and the failed call is recorded. So the counters also determine the order of
--- the calls.
+-- After a success, exactly these calls were made. After an error, the first n of them were made,
+-- for some n. Each call is counted and the failed call is recorded. So the counters also determine
+-- the order of the calls.
 abbrev pub Looks : {T : Type 0} → Result T LoadFault → List Call → Counts → Counts → Type 0
 Looks result calls old new = MatchResult result (λ _. new ≡ past_calls calls old) (λ e. LooksUntil e calls old new)
 

@@ -24,8 +24,8 @@ use Rattle.pb_workspace_package.specs.FoundBinaries.{found_binaries}
 use Rattle.pb_workspace_package.specs.Sources.{found_readme, library_of, script_of}
 use Rattle.pb_workspace_package.specs.Wanted.{each_wanted, wanted_of}
 
--- the name of the README that is found in the folder; if the manifest mentions a README, none is
--- looked for
+-- the name of the README that is found in the folder; if the manifest mentions a README, this name
+-- is empty
 abbrev pub readme_found : List ℕ → World → Inheritable Readme → List ℕ
 readme_found folder sources (Written readme) = []
 readme_found folder sources Workspace = []
@@ -38,7 +38,7 @@ wanted_in at given dependencies build =
     each_wanted (wanted_of at.root at.folder at.manifest given.dependencies ForScript) build >>= (λ for_script.
     Ok (normal ++ for_script)))
 
--- the binaries that are found, or none if `autobins` is false
+-- the binaries that are found, or no binaries if `autobins` is false
 abbrev pub discovered : List ℕ → World → List ℕ → Bool → List Binary
 discovered folder sources name autobins = if autobins then found_binaries folder sources name else []
 

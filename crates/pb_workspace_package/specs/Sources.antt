@@ -45,7 +45,7 @@ abbrev pub library_source : List ℕ → Option (List ℕ) → List ℕ
 library_source folder None = below folder (codes "src/lib.rs")
 library_source folder (Some text) = resolved folder text
 
--- the crate types that are written for a library, or `lib` if none is written
+-- the crate types that are written for a library, or `lib` if no crate type is written
 abbrev pub served_types : List CrateType → List CrateType
 served_types [] = Lib ∷ []
 served_types (t ∷ ts) = t ∷ ts

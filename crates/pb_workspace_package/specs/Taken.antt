@@ -17,8 +17,8 @@ use Rattle.pb_workspace_types.specs.declared.fault.LoadFault.TheVariants.{NoInhe
 use Rattle.pb_workspace_types.specs.declared.package.About.{About}
 use Rattle.pb_workspace_package.specs.Between.{text_between}
 
--- a value that a package must have; either its manifest writes the value, or it inherits it from
--- the workspace
+-- a value that a package must have; either its manifest writes the value, or the package inherits
+-- the value from the workspace
 abbrev pub own_or_given : {A : Type 0} → Inherited A → Option A → Result A LoadFault
 own_or_given (inherited.Written x) given = Ok x
 own_or_given inherited.Workspace given = some_or NoInherited given
@@ -44,7 +44,7 @@ authors_of (Written authors) given = Ok (joined_authors authors)
 authors_of Workspace given = some_or NoInherited given >>= (λ authors. Ok (joined_authors authors))
 authors_of Absent given = Ok []
 
--- the path from the member's folder to a path, or the text itself if it is no path
+-- the path from the member's folder to a path, or the text itself if the text is not a path
 abbrev pub between_or : List ℕ → List ℕ → Result (List ℕ) PathFault → List ℕ
 between_or folder text (Ok path) = text_between folder path
 between_or folder text (Err fault) = text

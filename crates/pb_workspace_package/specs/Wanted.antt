@@ -42,7 +42,7 @@ abbrev pub shared_at : List ℕ → List WorkspaceDependency → Option Workspac
 shared_at key dependencies = find (λ d. bytes_eq key d.key) dependencies
 
 -- What an entry requests if it inherits a workspace entry. The features are those of the workspace
--- entry, followed by its own. `default` is requested if one of the two entries requests it.
+-- entry, followed by the entry's own. `default` is requested if one of the two entries requests it.
 abbrev pub taken_from : List ℕ → List ℕ → DependencyKind → Dependency → Bool → WorkspaceDependency → WorkspaceSource → Result Wanted LoadFault
 taken_from root manifest kind d default w (shared.Path source) = Ok (wanted_at root kind d.key d.optional (source.default_features || default) (w.features ++ d.features) source)
 taken_from root manifest kind d default w shared.Unsupported = Err (Manifest manifest UnsupportedSource)

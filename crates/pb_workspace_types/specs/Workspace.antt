@@ -1,4 +1,5 @@
--- Which package has which entry, feature or item. Packages and entries are meant by their indices.
+-- Which package has which entry, feature or item. Packages and entries are identified by their
+-- indices.
 use Rattle.std.specs.Prelude.{◌≡◌, ℕ, Bool, true, List, Some, Contains, slice_get}
 use Rattle.std.specs.List.{list_any}
 use Rattle.std.specs.Str.{bytes_eq}
@@ -12,8 +13,8 @@ use Rattle.pb_workspace_types.specs.declared.workspace.Workspace.{Workspace}
 use Rattle.pb_manifest_types.specs.declared.feature.Feature.{Feature}
 use Rattle.pb_manifest_types.specs.declared.feature.FeatureItem.{FeatureItem}
 
--- The side on which an entry's package is built, if the entry's own package is built on this side.
--- Build dependencies are built for the host.
+-- The side of the package to which an entry leads, if the package that has the entry is on this
+-- side. Build dependencies are on the host's side.
 abbrev pub side_of : DependencyKind → Side → Side
 side_of Normal side = side
 side_of Build side = Host

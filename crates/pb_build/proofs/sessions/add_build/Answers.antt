@@ -9,7 +9,7 @@ pub returns-clause-taken : goal.returns-clause-taken
 returns-clause-taken g c =
     let built = c.build_by-result in
     let heard = (g.O.Out.heard built.new.out) in record {
-      answer = record { result = built.result };
+      answer = built.result;
       ended = moment (at_in built.new.memory) heard;
       picked = built.ensures.picked;
       kept = built.ensures.kept;
@@ -25,11 +25,11 @@ pub returns-in_err-push-clause-lost : goal.returns-in_err-push-clause-lost
 returns-in_err-push-clause-lost g c =
     let built = c.build_by-result in
     let heard = (g.O.Out.heard built.new.out) in
-    let answers = c.args.answers.now ++ record { result = built.result } ∷ [] in
+    let answers = c.args.answers.now ++ built.result ∷ [] in
     on_err c.from_residual.result (
       point c.fuse.new.self heard answers,
       record {
-        answer = record { result = built.result };
+        answer = built.result;
         ended = moment (at_in built.new.memory) heard;
         picked = built.ensures.picked;
         kept = built.ensures.kept;

@@ -1,71 +1,35 @@
--- The sentence of each fault that ends a build. The fault's `Display` writes the same sentence, and
--- a test compares the two.
+-- Why a build is refused. Each refusal has a name, which is in the result line, and a sentence. The
+-- fault's `Display` writes the same sentence, and a test compares the two.
 use Rattle.std.specs.Prelude.{ℕ, codes, List, ◌++◌}
-use Rattle.std.specs.Fmt.{decimal, signed_decimal}
-use Rattle.pb_build_result.specs.declared.fault.BuildFault.{BuildFault}
-use Rattle.pb_build_result.specs.declared.fault.BuildFault.TheVariants as build
-use Rattle.pb_build_result.specs.declared.fault.DeviceFault.{DeviceFault}
-use Rattle.pb_build_result.specs.declared.fault.DeviceFault.TheVariants as device
-use Rattle.pb_build_result.specs.declared.fault.Refusal.{Refusal}
-use Rattle.pb_build_result.specs.declared.fault.Refusal.TheVariants as refusal
-use Rattle.pb_command_types.specs.declared.fault.UnitFault.{UnitFault}
-use Rattle.pb_command_types.specs.declared.fault.UnitFault.TheVariants as unit
-use Rattle.pb_directive.specs.declared.fault.LineFault.{LineFault}
-use Rattle.pb_directive.specs.declared.fault.LineFault.TheVariants as line
 use Rattle.pb_feature.specs.declared.fault.FeatureFault.{FeatureFault}
 use Rattle.pb_feature.specs.declared.fault.FeatureFault.TheVariants as feature
 use Rattle.pb_manifest_types.specs.Keys.{spelled}
 use Rattle.pb_manifest_types.specs.declared.fault.ManifestFault.{ManifestFault}
 use Rattle.pb_manifest_types.specs.declared.fault.ManifestFault.TheVariants as manifest
-use Rattle.pb_place_types.specs.declared.place.PlaceFault.{PlaceFault}
-use Rattle.pb_place_types.specs.declared.place.PlaceFault.TheVariants as place
-use Rattle.pb_place_types.specs.declared.place.StartFault.{StartFault}
-use Rattle.pb_place_types.specs.declared.place.StartFault.TheVariants as start
 use Rattle.pb_profile.specs.declared.fault.ProfileFault.{ProfileFault}
 use Rattle.pb_profile.specs.declared.fault.ProfileFault.TheVariants as profile
 use Rattle.pb_unit.specs.declared.fault.PlanFault.{PlanFault}
 use Rattle.pb_unit.specs.declared.fault.PlanFault.TheVariants as plan
 use Rattle.pb_workspace_types.specs.declared.fault.LoadFault.{LoadFault}
 use Rattle.pb_workspace_types.specs.declared.fault.LoadFault.TheVariants as load
+use Rattle.pb_build_result.specs.Failures.{place_sentence}
+use Rattle.pb_build_result.specs.declared.fault.Refusal.{Refusal}
+use Rattle.pb_build_result.specs.declared.fault.Refusal.TheVariants as refusal
 
--- which call of a place failed
-abbrev pub place_sentence : PlaceFault → List ℕ
-place_sentence place.Read = codes "a file could not be read"
-place_sentence place.List = codes "a folder could not be listed"
-place_sentence place.Write = codes "a file could not be written"
-place_sentence place.Remove = codes "a file or folder could not be removed"
-place_sentence place.Variable = codes "a variable could not be read"
-place_sentence place.OutOfMemory = codes "out of memory"
-
--- why a child gave no answer
-abbrev pub start_sentence : StartFault → List ℕ
-start_sentence start.CannotStart = codes "the program cannot be started"
-start_sentence start.Died = codes "the child process ended without a status"
-start_sentence start.Capture = codes "the output of the child process could not be read"
-start_sentence start.OutOfMemory = codes "out of memory"
-
--- why a call on files or variables, or one for a unit's record, failed
-abbrev pub device_sentence : DeviceFault → List ℕ
-device_sentence (device.Place fault) = place_sentence fault
-device_sentence device.NumbersSpent = codes "no run number is left"
-
--- what is wrong with a line of a script's output
-abbrev pub line_sentence : LineFault → List ℕ
-line_sentence (line.NotText number) = codes "line " ++ decimal number ++ codes " is not UTF-8"
-line_sentence (line.UnknownKey number) = codes "line " ++ decimal number ++ codes " has an unknown key"
-line_sentence (line.BadValue number) = codes "line " ++ decimal number ++ codes " has a bad value"
-line_sentence (line.BadFlag number) = codes "line " ++ decimal number ++ codes " has a bad flag"
-line_sentence line.OutOfMemory = codes "out of memory"
-
--- why a unit is bad
-abbrev pub unit_sentence : UnitFault → List ℕ
-unit_sentence (unit.Status status) = codes "the child process ended with status " ++ signed_decimal status
-unit_sentence (unit.Directive fault) = codes "the script's output is refused: " ++ line_sentence fault
-unit_sentence unit.NoDepInfo = codes "the compiler left no readable dep-info"
-unit_sentence (unit.ForeignInput path) = codes "the input `" ++ path ++ codes "` is in the target folder"
-unit_sentence unit.OutputTooLong = codes "the child process wrote too much to a stream"
-unit_sentence unit.ScriptError = codes "the build script reported an error"
-unit_sentence unit.OutOfMemory = codes "out of memory"
+-- the name of a manifest's fault, without its fields
+abbrev pub manifest_fault_name : ManifestFault → List ℕ
+manifest_fault_name manifest.NotToml = codes "NotToml"
+manifest_fault_name (manifest.BadKind key) = codes "BadKind"
+manifest_fault_name manifest.BadName = codes "BadName"
+manifest_fault_name manifest.BadVersion = codes "BadVersion"
+manifest_fault_name manifest.UnsupportedTable = codes "UnsupportedTable"
+manifest_fault_name manifest.UnsupportedSource = codes "UnsupportedSource"
+manifest_fault_name manifest.UnsupportedCrateType = codes "UnsupportedCrateType"
+manifest_fault_name manifest.BadProfile = codes "BadProfile"
+manifest_fault_name manifest.BadFeature = codes "BadFeature"
+manifest_fault_name manifest.TooLarge = codes "TooLarge"
+manifest_fault_name manifest.OldResolver = codes "OldResolver"
+manifest_fault_name manifest.OutOfMemory = codes "OutOfMemory"
 
 -- why a manifest is refused
 abbrev pub manifest_sentence : ManifestFault → List ℕ
@@ -81,6 +45,23 @@ manifest_sentence manifest.BadFeature = codes "a feature has a name or an item t
 manifest_sentence manifest.TooLarge = codes "the manifest is too long"
 manifest_sentence manifest.OldResolver = codes "resolver 1 is not supported"
 manifest_sentence manifest.OutOfMemory = codes "out of memory"
+
+-- the name of the reason why a workspace cannot be read; for a bad manifest it is the name of the
+-- manifest's fault
+abbrev pub load_fault_name : LoadFault → List ℕ
+load_fault_name (load.NoManifest path) = codes "NoManifest"
+load_fault_name (load.Manifest path fault) = manifest_fault_name fault
+load_fault_name load.SameName = codes "SameName"
+load_fault_name load.NameMismatch = codes "NameMismatch"
+load_fault_name load.VersionMismatch = codes "VersionMismatch"
+load_fault_name load.LinksTwice = codes "LinksTwice"
+load_fault_name load.LinksWithoutScript = codes "LinksWithoutScript"
+load_fault_name load.NoInherited = codes "NoInherited"
+load_fault_name load.TooMany = codes "TooMany"
+load_fault_name load.SameBinary = codes "SameBinary"
+load_fault_name (load.Place path fault) = codes "Place"
+load_fault_name load.NoSuchPackage = codes "NoSuchPackage"
+load_fault_name load.OutOfMemory = codes "OutOfMemory"
 
 -- why a workspace cannot be read, or why nothing can be selected in it
 abbrev pub load_sentence : LoadFault → List ℕ
@@ -98,6 +79,12 @@ load_sentence load.SameBinary = codes "a package has two binaries with the same 
 load_sentence load.NoSuchPackage = codes "a requested package is not a member of the workspace"
 load_sentence load.OutOfMemory = codes "out of memory"
 
+abbrev pub feature_fault_name : FeatureFault → List ℕ
+feature_fault_name feature.NoSuchFeature = codes "NoSuchFeature"
+feature_fault_name feature.NoSuchDependency = codes "NoSuchDependency"
+feature_fault_name feature.NotOptional = codes "NotOptional"
+feature_fault_name feature.OutOfMemory = codes "OutOfMemory"
+
 -- why no features are resolved
 abbrev pub feature_sentence : FeatureFault → List ℕ
 feature_sentence feature.NoSuchFeature = codes "a requested feature does not exist"
@@ -105,12 +92,27 @@ feature_sentence feature.NoSuchDependency = codes "a feature names a dependency 
 feature_sentence feature.NotOptional = codes "a feature names a dependency that is not optional"
 feature_sentence feature.OutOfMemory = codes "out of memory"
 
+abbrev pub profile_fault_name : ProfileFault → List ℕ
+profile_fault_name profile.NoSuchProfile = codes "NoSuchProfile"
+profile_fault_name profile.InheritsCycle = codes "InheritsCycle"
+profile_fault_name profile.NotInOverride = codes "NotInOverride"
+profile_fault_name profile.OutOfMemory = codes "OutOfMemory"
+
 -- why a profile has no settings
 abbrev pub profile_sentence : ProfileFault → List ℕ
 profile_sentence profile.NoSuchProfile = codes "a requested profile does not exist"
 profile_sentence profile.InheritsCycle = codes "profiles inherit from one another"
 profile_sentence profile.NotInOverride = codes "an override in a profile sets `panic`, `lto` or `rpath`"
 profile_sentence profile.OutOfMemory = codes "out of memory"
+
+-- the name of the reason why there is no plan; for a bad profile it is the name of the profile's
+-- fault
+abbrev pub plan_fault_name : PlanFault → List ℕ
+plan_fault_name (plan.Cycle names) = codes "Cycle"
+plan_fault_name plan.TooManyUnits = codes "TooManyUnits"
+plan_fault_name plan.NothingToBuild = codes "NothingToBuild"
+plan_fault_name (plan.Profile fault) = profile_fault_name fault
+plan_fault_name plan.OutOfMemory = codes "OutOfMemory"
 
 -- why there is no plan
 abbrev pub plan_sentence : PlanFault → List ℕ
@@ -120,17 +122,13 @@ plan_sentence plan.NothingToBuild = codes "there is nothing to build"
 plan_sentence (plan.Profile fault) = profile_sentence fault
 plan_sentence plan.OutOfMemory = codes "out of memory"
 
+abbrev pub refusal_name : Refusal → List ℕ
+refusal_name (refusal.Load fault) = load_fault_name fault
+refusal_name (refusal.Feature fault) = feature_fault_name fault
+refusal_name (refusal.Plan fault) = plan_fault_name fault
+
 -- why a build is refused
 abbrev pub refusal_sentence : Refusal → List ℕ
 refusal_sentence (refusal.Load fault) = load_sentence fault
 refusal_sentence (refusal.Feature fault) = feature_sentence fault
 refusal_sentence (refusal.Plan fault) = plan_sentence fault
-
--- why a build ends without a summary
-abbrev pub build_sentence : BuildFault → List ℕ
-build_sentence (build.Plan why) = refusal_sentence why
-build_sentence build.Toolchain = codes "the compiler did not report its version and host"
-build_sentence (build.Child unit fault) = codes "`" ++ unit ++ codes "` gave no answer: " ++ start_sentence fault
-build_sentence (build.Device unit fault) = codes "a call for `" ++ unit ++ codes "` failed: " ++ device_sentence fault
-build_sentence build.Sink = codes "the message lines cannot be written"
-build_sentence build.OutOfMemory = codes "out of memory"
