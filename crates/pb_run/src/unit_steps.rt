@@ -115,7 +115,7 @@ pub fn begin_unit<P: Place>(
         (command_of setup.now project.now unit.now done.now) (P.at place.old) (P.at place.new)) }
 
     // Suppose that the records are sound, or that there are no records. Then after a success the
-    // unit has begun, and what was true of the other units stays true.
+    // unit has begun, and what was true of the other units that have begun stays true.
     ensures build { (premise : Premise) (sources : World) → IsTrue P.is_modelled →
         BeginsBuild (build_context premise P.child setup.now project.now sources) done.now index
         unit.now
