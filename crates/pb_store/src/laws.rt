@@ -19,9 +19,11 @@ pub fn first_name_is_first()
 {}
 
 /// The tests by which `differs` decides how far it looks agree with the definitions. There are
-/// three tests: whether the present value of an input is the recorded value, whether a command is
-/// the recorded command, and whether a needed unit has the files that a record of format 1
-/// contains.
+/// three tests:
+///
+/// - whether the present value of an input is the recorded value;
+/// - whether a command is the recorded command;
+/// - whether a needed unit has the files that a record of format 1 contains.
 pub fn tests_decide()
     ensures { TestsDecide }
 {}
