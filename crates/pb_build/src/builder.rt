@@ -1,4 +1,5 @@
-//! A whole build.
+//! A whole build: its plan, what is prepared before units run, the run of the units, and the finish
+//! line.
 
 ghost use Rattle.std.specs.Prelude.{◌≡◌, ◌⊎◌, ◌+◌, [], max, IsTrue, IfOk, IfErr, MatchResult, OnErr};
 ghost use Rattle.pb_build.specs.Causes.{MayPlan, MayReady, NamesCall, PlansInTurn, ReadiesInTurn, StopsBefore, plan_called, OnlyLooks, OnlyAsks};
@@ -181,8 +182,11 @@ pub struct BuildPlan {
 /// then the workspace. The selected packages, their features and the plan are found next, in this
 /// order. No child is started, no line is written, and no file is changed.
 ///
-/// Errors: `Plan`, with the first refusal; `Device`, with the
-/// variable's name or the path of the failed call; `OutOfMemory`.
+/// Errors:
+///
+/// - `Plan`, with the first refusal.
+/// - `Device`, with the variable's name or the path of the failed call.
+/// - `OutOfMemory`.
 pub fn plan_build<P: Place>(
     alloc: Global,
     place: &mut P,
@@ -217,9 +221,13 @@ pub fn plan_build<P: Place>(
 /// Queries the compiler's version, and opens the records of the profile's folder. If the plan
 /// failed, returns the fault of the plan. No file is changed, and no line is written.
 ///
-/// Errors: the plan's fault; `Child` with `-vV`, if the compiler does not answer; `Toolchain`, if
-/// the compiler does not report its host; `Device`, with the path of the failed call;
-/// `OutOfMemory`.
+/// Errors:
+///
+/// - The plan's fault.
+/// - `Child` with `-vV`, if the compiler does not answer.
+/// - `Toolchain`, if the compiler does not report its host.
+/// - `Device`, with the path of the failed call.
+/// - `OutOfMemory`.
 pub fn prepare<P: Place>(
     alloc: Global,
     place: &mut P,
@@ -274,8 +282,8 @@ pub fn prepare<P: Place>(
     }
 }
 
-/// Runs a planned build up to its finish line. If only the planning came before this call, the
-/// contract is about the moment before the planning.
+/// Runs a planned build, but does not write its finish line. If no call came between the planning
+/// and this call, the contract describes all changes since the planning began.
 fn work<P: Place, O: Out, T: Turn>(
     alloc: Global,
     place: &mut P,
@@ -335,16 +343,16 @@ fn close<O: Out>(out: &mut O, inner: Result<Summary, BuildFault>) -> Result<Summ
     }
 }
 
-/// Builds what was planned, by the steps that a turn chooses, as `build_turns` does after its plan.
-/// If the plan failed, the build ends as `build_turns` ends after a failed plan.
+/// Builds what was planned, as `build_turns` does after its plan. A turn chooses the steps. If the
+/// plan failed, the build ends as `build_turns` ends after a failed plan.
 ///
 /// Suppose that since the planning began no other call of the place was made and nothing was
 /// written. Then the build ends as `build_turns` promises (`builds`), from the moment before the
 /// planning.
 ///
-/// A plan of another moment or of other options can also be built. The units of the plan's own
-/// project are run in the plan's own environment, with these options. Their records are those of
-/// the plan's own profile folder.
+/// The plan may be older, or made with other options. Then this call runs the units of the plan's
+/// own project in the plan's own environment, but with these options. It uses the records of the
+/// plan's own profile folder.
 pub fn build_plan_turns<P: Place, O: Out, T: Turn>(
     alloc: Global,
     place: &mut P,
@@ -402,24 +410,30 @@ pub fn build_plan<P: Place, O: Out>(
     build_plan_turns(alloc, place, out, options, plan, &mut jobs)
 }
 
-/// Builds the workspace of a root manifest as `cargo build` does, by the steps that a turn chooses.
+/// Builds the workspace of a root manifest, as `cargo build` does. A turn chooses the steps.
 ///
 /// The order is fixed. The build is planned first, as by `plan_build`. Then the query `-vV` is
 /// made, and the records of the profile's folder are opened. The units of the plan are run next,
 /// and the finish line is written last.
 ///
 /// The turn chooses which unit begins or answers next. The turns end when all units have answered,
-/// or all units up to and including the first bad unit. A unit's child is started only if something
-/// differs from the unit's record. Message lines are written in plan order, as units answer. At the
-/// end, or after a fault, the children in flight are awaited, in the order in which they began, and
-/// their answers are dropped.
+/// or when all units up to and including the first bad unit have answered. A unit's child is
+/// started only if something differs from the unit's record. Message lines are written in plan
+/// order, as units answer. At the end, or after a fault, the children in flight are awaited, in the
+/// order in which they began, and their answers are dropped.
 ///
-/// Errors: `Plan`, before a child is started, a line is written or a file is changed; `Toolchain`,
-/// if the compiler does not report its host; `Child`, if a child does not answer; `Device`, if a
-/// call on files or variables fails, or if no run number is left; `Sink`; `OutOfMemory`. After a
-/// failed call no further call is made, except to wait for children in flight. After any error
-/// except `Plan` and `Sink`, the finish line of a failed build is written. A bad unit is not an
-/// error: the summary names the unit.
+/// Errors:
+///
+/// - `Plan`, before a child is started, a line is written or a file is changed.
+/// - `Toolchain`, if the compiler does not report its host.
+/// - `Child`, if a child does not answer.
+/// - `Device`, if a call on files or variables fails, or if no run number is left.
+/// - `Sink`, if the sink fails.
+/// - `OutOfMemory`.
+///
+/// After a failed call no further call is made, except to wait for children in flight. After any
+/// error except `Plan` and `Sink`, the finish line of a failed build is written. A bad unit is not
+/// an error: the summary names the unit.
 ///
 /// However the build ends, the files outside the target folder and the variables do not change.
 /// Afterwards no child is in flight.
@@ -446,7 +460,7 @@ pub fn build_turns<P: Place, O: Out, T: Turn>(
 
 /// Builds with as many units in flight at a time as the options allow. If fewer units are in flight
 /// and some unit may begin, the pick chooses the unit that begins. Otherwise the unit that began
-/// first answers. The pick is borrowed, and its choices change its state.
+/// first answers. The pick is borrowed, because each choice may change the state of the pick.
 ///
 /// Errors: those of `build_turns`.
 pub fn build_with<P: Place, O: Out, K: Pick>(

@@ -107,7 +107,7 @@ fn standard_target(alloc: Global, root: &PathText) -> Result<PathText, AllocErro
 }
 
 /// Returns the path that a text names. A relative text starts at the root. If there is no text, or
-/// if the text contains byte 0, returns the other path.
+/// if the text contains byte 0, returns `other`.
 fn told_or(
     alloc: Global,
     root: &PathText,

@@ -28,7 +28,7 @@ pub fn worlds_have_one_result()
     ensures { HasOneResult }
 {}
 
-/// The units that a build has produced are the units of its world's result.
+/// The units that a build has in a world, with their outcomes, are the result of this world.
 pub fn units_are_of_the_result()
     ensures { UnitsAreOfResult }
 {}
@@ -43,7 +43,7 @@ pub fn records_stay_true()
 {}
 
 /// After any edits and builds, a build of a session produces what a clean build of the present
-/// workspace produces. If a fault ends the build, only the first of these lines have been written.
+/// workspace produces. If a fault ends the build, only a prefix of these lines has been written.
 pub fn any_build_gives()
     ensures { AnyBuildGives }
 {}
@@ -54,8 +54,8 @@ pub fn same_build_starts_none<T: Turn, U: Turn>()
     ensures { SameBuildStartsNone T.turns U.turns }
 {}
 
-/// A caller may know of a build only how its work ended and what was written after that, as the
-/// caller of the program does. The headline is true for this caller, too.
+/// The headline follows from `Builds`, and from `BuildsFirst`. These definitions say how the work
+/// of a build ended and what was written afterwards. The program promises no more than that.
 pub fn builds_keep_the_headline<T: Turn>()
     ensures turns { BuildsKeepHeadline T.turns }
     ensures first { FirstBuildsKeepHeadline }

@@ -1,4 +1,4 @@
-//! The packages without a library to which enabled dependencies lead.
+//! The packages that have no library although enabled dependencies lead to them.
 
 ghost use Rattle.std.specs.Prelude.{◌≡◌, IsTrue, IfOk, IfErr};
 ghost use Rattle.pb_build.specs.Causes.{MayPlan, PlansInTurn, plan_called, OnlyLooks};
@@ -13,8 +13,8 @@ use pb_place_types::Place;
 use pb_workspace_types::Options;
 use std::alloc::Global;
 
-/// Returns the names of the packages without a library to which
-/// enabled dependencies of a plan lead.
+/// Returns the names of the packages that have no library although enabled dependencies of a plan
+/// lead to them.
 fn without_library(plan: BuildPlan) -> Items<Text>
     ensures { result ≡ plan.project.plan.without_library }
 {
@@ -23,9 +23,9 @@ fn without_library(plan: BuildPlan) -> Items<Text>
     plan.without_library
 }
 
-/// Returns the names of the packages without a library to which enabled dependencies lead, in byte
-/// order, each once. Nothing is done after the plan: no child is started, no line is written, and
-/// no file is changed.
+/// Returns the names of the packages that have no library although enabled dependencies lead to
+/// them, in byte order, each once. Nothing is done after the plan: no child is started, no line is
+/// written, and no file is changed.
 ///
 /// Errors: those of `plan_build`.
 pub fn missing_libraries<P: Place>(

@@ -154,8 +154,8 @@ fn parts_of(
     }
 }
 
-/// Returns the project of a workspace that was read: its
-/// selected packages, its features and its plan.
+/// Returns the project of a workspace that was read: its selected packages, its features and its
+/// plan.
 fn project_of(
     alloc: Global,
     options: &Options,
@@ -197,8 +197,11 @@ fn project_of(
 
 /// Reads the workspace and plans the build. No child is started, and no file is changed.
 ///
-/// Errors: `Plan`, with the first refusal; `Device`, with the
-/// path of the failed call; `OutOfMemory`.
+/// Errors:
+///
+/// - `Plan`, with the first refusal.
+/// - `Device`, with the path of the failed call.
+/// - `OutOfMemory`.
 pub(crate) fn plan_project<P: Place>(
     alloc: Global,
     place: &mut P,

@@ -164,7 +164,8 @@ fn take_step<C: Child + Copy, O: Out>(
     }
 }
 
-/// Makes the call with this number in the next build fail. If the number is 0, no call fails.
+/// Sets the fuse: in the next build, the call with this number fails. If the number is 0, no call
+/// fails.
 fn light<C: Child>(memory: &mut Memory<C>, number: u64) -> Result<(), AllocError>
     ensures ok { OnOk result
         (memory.new ≡ record memory.old { tally = one_setting memory.old.tally; fuse = number }) }
@@ -174,16 +175,17 @@ fn light<C: Child>(memory: &mut Memory<C>, number: u64) -> Result<(), AllocError
     Ok(())
 }
 
-/// Takes steps in turn over a place in memory with no child in flight, and returns
-/// an answer for each build. All builds write their message lines to one sink.
+/// Takes steps in turn over a place in memory with no child in flight, and returns an answer for
+/// each build. All builds write their message lines to one sink.
 ///
 /// Each build ends as `build` promises, in the world that the earlier steps left. The session
 /// reports the cause of each end. If nothing was set to fail, and nothing has failed, no call of a
 /// build fails, unless memory runs out.
 ///
-/// Errors: only out of memory, and only outside of a build. If memory runs out in a build, this is
-/// the build's answer. If memory runs out at a step, the steps before it were taken. If this step
-/// is a build, the build has ended. Any other step has done nothing.
+/// Errors: only out of memory, and only outside of a build. After this error, all steps before the
+/// failing step have been taken. If the failing step is a build, the build has ended. Any other
+/// failing step has done nothing. If memory runs out inside a build, `OutOfMemory` is the build's
+/// answer, and the session goes on.
 pub fn session<C: Child + Copy, O: Out>(
     alloc: Global,
     memory: &mut Memory<C>,

@@ -71,8 +71,10 @@ fn childless(unit: Text, fault: StartFault) -> BuildFault
 
 /// Starts a child, by one call, and waits for its end.
 ///
-/// Errors: `Child` with this name, if the child cannot be started or does not answer;
-/// `OutOfMemory`.
+/// Errors:
+///
+/// - `Child` with this name, if the child cannot be started or does not answer.
+/// - `OutOfMemory`.
 fn start<P: Place>(
     alloc: Global,
     place: &mut P,
@@ -84,7 +86,7 @@ fn start<P: Place>(
     ensures only { ChangesOnlyInSome command.now.out (P.at place.old).world
         (P.at place.new).world }
 
-    // One more child was in flight. After a fault, perhaps no child was added.
+    // The greatest number of children in flight. After a fault, this child may not be counted.
     ensures most { OnOk result ((P.at place.new).most
         ≡ max (P.at place.old).most (length (P.at place.old).counts.starts.flying + 1)) }
     ensures most_else { OnErr result (((P.at place.new).most ≡ (P.at place.old).most)
@@ -107,8 +109,11 @@ fn start<P: Place>(
 
 /// Queries the compiler's version.
 ///
-/// Errors: `Toolchain`, if the compiler does not report its host; `Child` with `-vV`, if the
-/// compiler does not answer.
+/// Errors:
+///
+/// - `Toolchain`, if the compiler does not report its host.
+/// - `Child` with `-vV`, if the compiler does not answer.
+/// - `OutOfMemory`.
 #[tactic(auto, using(crate::proofs::Called::ask_laws))]
 pub(crate) fn ask<P: Place>(
     alloc: Global,

@@ -19,9 +19,9 @@ pub fn asked_part_for_part()
     ensures { AskedPartForPart }
 {}
 
-/// A law about the variable that is reported as the first difference between a record that was read
-/// and a unit's command. Its name is the least name, in byte order, that has another text, is
-/// missing, or is new.
+/// A law: the first name at which the variables of a recorded command and of a unit's command
+/// differ is the least such name, in byte order. Either the texts of this name differ, or only one
+/// of the two commands has the name.
 pub fn first_name_is_least()
     ensures { FirstNameIsLeast }
 {}

@@ -43,9 +43,12 @@ pub enum BuildFault {
     /// The build is refused. No child was started, no line was written and no file was changed.
     #[error("{0}")]
     Plan(Refusal),
-    /// The compiler does not report its version. The query `-vV` ended with a status other than 0,
-    /// or a stream is over 4,194,304 bytes. Another reason is that standard output is not UTF-8, or
-    /// has no line `host: TRIPLE`.
+    /// The compiler does not report its version. The query `-vV` ended in one of these ways:
+    ///
+    /// - Its status is not 0.
+    /// - A stream is over 4,194,304 bytes.
+    /// - Standard output is not UTF-8.
+    /// - Standard output has no line `host: TRIPLE`.
     #[error("the compiler did not report its version and host")]
     Toolchain,
     /// A child did not answer. The name is `-vV` for the query, and the unit's key for a unit.

@@ -87,14 +87,19 @@ fn fault_line(alloc: Global, fault: &BuildFault) -> Result<String, AllocError>
 /// Returns the line that says how a build ended, as a session prints the line. The text does not
 /// end with a line feed. The form is our own choice:
 ///
-/// - `ok started=KEYS`, if all units are good;
-/// - `bad KEY FAULT started=KEYS`, with the key of the first bad unit in plan order, and the name
-///   of the unit's fault: `Status(N)`, where N is a signed decimal number; `Directive(NAME)`, with
-///   the name of the line's fault; `ScriptError`, `NoDepInfo`, `ForeignInput`, `OutputTooLong`;
-/// - `refused NAME`, with the innermost fault's name without its fields;
-/// - `fault AT NAME`. AT is the unit's key, the path, or the variable's name. NAME is the name of
-///   the child's fault, `Device` for a call on files or variables, or `NumbersSpent`; `fault -vV
-///   Toolchain`, `fault sink Sink` and `fault memory OutOfMemory`.
+/// - `ok started=KEYS`, if all units are good.
+/// - `bad KEY FAULT started=KEYS`, if a unit is bad. KEY is the key of the first bad unit in plan
+///   order. FAULT is the name of the unit's fault: `Status(N)`, in which N is a signed decimal
+///   number; `Directive(NAME)`, with the name of the line's fault; `ScriptError`, `NoDepInfo`,
+///   `ForeignInput` or `OutputTooLong`.
+/// - `refused NAME`, if the build is refused. NAME is the name of the innermost fault, without its
+///   fields.
+/// - `fault AT NAME`, if a child did not answer or a call failed. AT is the unit's key, `-vV`, the
+///   path or the variable's name. NAME is the name of the child's fault, `Device` for a call on
+///   files or variables, or `NumbersSpent`.
+/// - `fault -vV Toolchain`, if the compiler does not report its version and host.
+/// - `fault sink Sink`, if the sink failed.
+/// - `fault memory OutOfMemory`, if memory ran out.
 ///
 /// KEYS are the keys of the units whose child was started, in order of starting, with `,` between
 /// them. If no child was started, KEYS is `-`.

@@ -17,13 +17,13 @@ pub struct Summary {
     pub said: Bytes,
     /// The keys of the units whose child was started, in order of starting.
     pub started: Items<Text>,
-    /// For each of these units, in the same order, the first difference: the reason why its child
-    /// was started.
+    /// For each of these units, in the same order, the first difference: the reason why the unit's
+    /// child was started.
     pub differences: Items<Difference>,
-    /// The keys of the units that began and for which nothing
-    /// differed, in plan order: their records are replayed.
+    /// The keys of the units that began and for which nothing differed, in plan order: their
+    /// records are replayed.
     pub kept: Items<Text>,
-    /// The keys and the directives of the runs of build scripts
-    /// that succeeded before the first bad unit, in plan order.
+    /// The keys and the directives of the runs of build scripts that succeeded before the first bad
+    /// unit, in plan order.
     pub directives: Items<(Text, Directives)>,
 }

@@ -1,4 +1,4 @@
-//! Texts that are put together.
+//! Puts texts together from parts.
 
 ghost use Rattle.std.specs.Prelude.{◌≡◌, ◌++◌, map, IfOk, string_bytes};
 ghost use Rattle.std.specs.List.{concat};

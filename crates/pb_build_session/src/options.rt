@@ -1,4 +1,4 @@
-//! The options of a build of a session.
+//! Reads the options of a build in a session file.
 
 ghost use Rattle.std.specs.Prelude.{◌≡◌, ◌||◌, ◌∷◌, [], IfOk, codes};
 ghost use Rattle.std.specs.Str.{bytes_eq};

@@ -1,4 +1,4 @@
-//! A session file.
+//! Reads a session file: the steps of a session, one after another.
 
 ghost use Rattle.std.specs.Prelude.{◌≡◌, ℕ, List};
 ghost use Rattle.serde_json.specs.View.{view, items_view};
@@ -130,12 +130,17 @@ fn document_in(alloc: Global, bytes: &[u8]) -> Result<Value, BadSession>
 ///   The way of failing, KIND, is `CannotStart`, `Died` or `Capture`.
 /// - `{"fuse":N}` makes a call fail: the Nth call to the outside world in the next build. 0 removes
 ///   the fuse.
-/// - `{"build":OPTIONS}` builds. OPTIONS is an object with any of these keys: `manifest`, the path
-///   of the root manifest (default `/w/Cargo.toml`); `profile`, a text (default `dev`); `packages`,
-///   `features` and `bin`, lists of texts; `workspace`, `all_features`, `no_default_features`,
-///   `lib` and `bins`, truth values; `jobs`, how many units may be in flight at a time (default 1);
-///   `pick`, the choice among the units that may begin: `first` (the default) or `last`. The
-///   builder is called `cargo`, and build scripts are run by `mini --run`.
+/// - `{"build":OPTIONS}` builds. The builder is called `cargo`, and build scripts are run by `mini
+///   --run`.
+///
+/// OPTIONS is an object with any of these keys:
+///
+/// - `manifest`: the path of the root manifest (default `/w/Cargo.toml`).
+/// - `profile`: a text (default `dev`).
+/// - `packages`, `features` and `bin`: lists of texts.
+/// - `workspace`, `all_features`, `no_default_features`, `lib` and `bins`: truth values.
+/// - `jobs`: how many units may be in flight at a time (default 1).
+/// - `pick`: the choice among the units that may begin, `first` (the default) or `last`.
 ///
 /// A path is an absolute text without byte 0. A number consists of digits only, and is at most
 /// 18446744073709551615. If an object has a key twice, the last value counts, as `serde_json` reads

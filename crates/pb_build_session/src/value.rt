@@ -26,9 +26,9 @@ pub(crate) fn text_of(alloc: Global, value: &Value) -> Result<Text, BadSession>
     }
 }
 
-/// Returns a number of digits only, up to 18446744073709551615. For `serde_json` a greater number
-/// is another kind of number. So is a numeral with a sign, a point or an exponent, as `-0`, `1.0`
-/// and `1e1`.
+/// Returns the number that a numeral of digits denotes, up to 18446744073709551615. `serde_json`
+/// has another kind of number for greater numbers, and for numerals with a sign, a point or an
+/// exponent (`-0`, `1.0`, `1e1`). Such numbers are refused.
 pub(crate) fn number_of(value: &Value) -> Result<u64, BadSession>
     ensures { UnlessOom result (number_of (view value.now)) }
 {

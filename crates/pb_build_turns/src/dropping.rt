@@ -34,7 +34,7 @@ fn drop_first<P: Place>(alloc: Global, crew: &mut UnitExecutor, place: &mut P)
         → Dropped (tickets_of crew.old.running.items) (P.at place.old).counts new }
     ensures most { (P.at place.new).most ≡ (P.at place.old).most }
 
-    // What has happened so far is still true.
+    // What was true of the events so far stays true.
     ensures told { (first : World) (es : List (Event BadUnit)) → IsTrue P.is_modelled
         → Changes crew.old.project first crew.old.running.items es
         (P.at place.old).world (P.at place.old).counts.starts.flying
@@ -57,7 +57,7 @@ fn drop_first<P: Place>(alloc: Global, crew: &mut UnitExecutor, place: &mut P)
 pub(crate) fn drain<P: Place>(alloc: Global, crew: &mut UnitExecutor, place: &mut P)
     requires consistent { IsConsistent crew.old (P.at place.old).counts }
 
-    // No unit is in flight; nothing else of the crew has changed.
+    // No unit is in flight; nothing else of the executor has changed.
     ensures same { crew.new ≡ record crew.old { running = crew.new.running } }
     ensures landed { (P.at place.new).counts.starts.flying ≡ [] }
 
@@ -65,7 +65,7 @@ pub(crate) fn drain<P: Place>(alloc: Global, crew: &mut UnitExecutor, place: &mu
     ensures drained { Drained (P.at place.old).counts (P.at place.new).counts }
     ensures most { (P.at place.new).most ≡ (P.at place.old).most }
 
-    // What has happened so far is still true.
+    // What was true of the events so far stays true.
     ensures told { (first : World) (es : List (Event BadUnit)) → IsTrue P.is_modelled
         → Changes crew.old.project first crew.old.running.items es
         (P.at place.old).world (P.at place.old).counts.starts.flying

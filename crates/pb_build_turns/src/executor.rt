@@ -50,7 +50,7 @@ pub struct UnitExecutor {
     /// The units for which a child was started, in order.
     pub started: Vec<usize>,
     /// For each unit, the note of its first difference. A unit that has not begun has no note. The
-    /// note of any other unit contains the difference, or says that nothing differed.
+    /// note of a unit that has begun contains the difference, or says that nothing differed.
     pub reasons: Vec<Option<Option<Difference>>>,
 }
 
@@ -103,7 +103,8 @@ fn note_begun(
     reasons[unit] = Some(difference);
 }
 
-/// Begins a unit of the executor's project that is not in flight. After a fault the unit is not in flight.
+/// Begins a unit of the executor's project. The unit must not be in flight. After a fault the unit
+/// is not in flight.
 fn begin_at<P: Place>(
     alloc: Global,
     crew: &mut UnitExecutor,

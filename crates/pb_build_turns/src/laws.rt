@@ -4,10 +4,10 @@ ghost use Rattle.pb_build_turns.specs.Ends.{SaysFirstRows, StartsNothing, Leaves
 
 use pb_run_flight::Turn;
 
-/// Suppose that each unit that has answered has the outcome that it has in a clean build. Then the
+/// Suppose that the outcome of each answered unit is the unit's outcome in a clean build. Then the
 /// lines due are those of a clean build's first rows. After all units up to and including the first
 /// bad unit have answered, all lines of all rows are due. The order in which units begin and answer
-/// does not matter. It does not matter who decides this order.
+/// does not matter, nor who decides this order.
 pub fn answers_say_rows()
     ensures { SaysFirstRows }
 {}
@@ -24,9 +24,9 @@ pub fn success_leaves_records<T: Turn>()
     ensures { LeavesRecords T.turns }
 {}
 
-/// If each unit has its record at first, units that ended without a fault started no child, and no
-/// unit is reported as started. If a successful build is made again, these conditions are true of
-/// the second build.
+/// Take a run of units that ended without a fault. If each unit had its record before this run, and
+/// nothing differed, no child was started, and no unit is reported as started. By the law above, a
+/// second build after a successful one is such a run.
 pub fn same_build_starts_none<T: Turn>()
     ensures { StartsNoneAgain T.turns }
 {}

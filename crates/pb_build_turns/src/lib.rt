@@ -1,4 +1,4 @@
-//! The units of a build begin and answer in turns.
+//! Runs the units of a build by the steps that a turn decides, and makes the build's summary.
 #![tactic(auto)]
 
 mod dropping;

@@ -76,7 +76,7 @@ fn noted_of(
     Ok(noted)
 }
 
-/// Adds the first difference of a unit, if its child was started for it.
+/// Adds the first difference of a unit, if a child was started for this unit.
 fn note_reason(
     alloc: Global,
     found: &mut Items<Difference>,
@@ -91,7 +91,7 @@ fn note_reason(
     Ok(())
 }
 
-/// Adds the first difference of the unit at an index, if its child was started for it.
+/// Adds the first difference of the unit at an index, if a child was started for this unit.
 fn note_difference(
     alloc: Global,
     found: &mut Items<Difference>,

@@ -1,4 +1,4 @@
-//! The units of a project begin and answer in turns.
+//! Runs the units of a project: they begin and answer by the steps that a turn decides.
 
 ghost use Rattle.std.specs.Prelude.{◌≡◌, [], ℕ, List, IfOk, IsTrue, length, map, true, None};
 ghost use Rattle.pb_run_flight.specs.Table.{fresh, first_bad};
@@ -95,9 +95,10 @@ fn sum_up(
 }
 
 /// Runs the units of a project that is in order, by the steps that a turn decides. The run ends
-/// when all units have answered, or all units up to and including the first bad unit. Then the ends
-/// of the children in flight are awaited, in the order in which they began, and their answers are
-/// dropped. After a fault the children are awaited, too, and no other call of the place is made.
+/// when all units have answered, or when all units up to and including the first bad unit have
+/// answered. Then the ends of the children in flight are awaited, in the order in which they began,
+/// and their answers are dropped. After a fault the children are awaited, too, and no other call of
+/// the place is made.
 ///
 /// Errors:
 ///
@@ -155,7 +156,7 @@ pub fn run_turns<P: Place, O: Out, T: Turn>(
         reasons,
     };
     let driven = drive(alloc, &mut crew, place, out, &mut flight, turn);
-    // No child is left before the fault is returned.
+    // No child may be in flight when the fault is returned.
     drain(alloc, &mut crew, place);
     match driven {
         Ok(()) => match sum_up(alloc, &crew, flight) {

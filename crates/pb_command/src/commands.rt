@@ -103,7 +103,8 @@ struct Asking {
     pairs: Items<(Text, Text)>,
 }
 
-/// The folders that a unit's child writes and may read, the target folder, and the compiler's version.
+/// The folders that a unit's child writes and may read, the target folder, and the compiler's
+/// version.
 #[derive(Drop)]
 struct Surroundings {
     out: PathText,
@@ -112,8 +113,8 @@ struct Surroundings {
     reads: Items<PathText>,
 }
 
-/// Returns the folders that a unit's child writes and may read, the target folder, and the compiler's
-/// version.
+/// Returns the folders that a unit's child writes and may read, the target folder, and the
+/// compiler's version.
 fn surroundings_of(
     alloc: Global,
     setup: &Setup,
@@ -336,11 +337,15 @@ fn nothing_of(alloc: Global, setup: &Setup, project: &Project) -> Result<Command
 /// the index of each run in the plan. At the index of a compile, `done` contains no directives. An
 /// index past the end of `done` counts as an index without directives.
 ///
-/// A compile starts the compiler in the workspace's root. The first arguments are the crate's name,
-/// edition and source. The crate's types and output come next, and then its settings, the features
-/// that are on, and the features that exist. The folders of the libraries that the unit reaches
-/// follow, and then the libraries under the names that the source uses. The requests of build
-/// scripts, and the user's flags, come last.
+/// A compile starts the compiler in the workspace's root. Its arguments are, in this order:
+///
+/// - the crate's name, edition and source;
+/// - the crate's types and output;
+/// - its settings;
+/// - the features that are on, and the features that exist;
+/// - the folders of the libraries that the unit reaches;
+/// - the libraries, under the names that the source uses;
+/// - what build scripts have requested, and the user's flags.
 ///
 /// A run starts the build script in its package's folder, after the runner if there is one. The
 /// variables are those of The Cargo Book, Environment Variables, and those that the package's

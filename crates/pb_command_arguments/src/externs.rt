@@ -1,5 +1,4 @@
-//! The libraries of a compile: the folders in which the compiler looks for them, and the names by
-//! which it gets them.
+//! The libraries of a compile: their folders, and the names under which the compiler gets them.
 
 ghost use Rattle.std.specs.Prelude.{◌≡◌, ◌++◌, ◌∷◌, IfOk, OnOk, string_bytes};
 ghost use Rattle.std.specs.List.{flat_map};
@@ -108,7 +107,8 @@ fn push_folders(
     Ok(())
 }
 
-/// Returns whether an entry of this kind is for a library that such a unit needs.
+/// Returns whether a unit needs the libraries of entries of this kind. `what` is what the unit
+/// makes.
 fn leads(what: &What, kind: DependencyKind) -> bool
     ensures { result ≡ leads what.now kind }
 {

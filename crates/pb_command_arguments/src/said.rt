@@ -66,7 +66,7 @@ fn push_links(alloc: Global, words: &mut Items<Text>, said: &[Directive]) -> Res
     Ok(())
 }
 
-/// Adds a directive's condition that is on, if the directive has such a condition.
+/// Adds the condition that a directive turns on, if the directive turns on a condition.
 fn push_condition(
     alloc: Global,
     words: &mut Items<Text>,

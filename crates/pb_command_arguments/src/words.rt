@@ -265,7 +265,7 @@ fn push_all_quoted(text: &mut String, features: &[Feature]) -> Result<(), AllocE
     }
 }
 
-/// Returns the features that a package has, as the compiler expects them.
+/// Returns the features that a package has, as the compiler's argument.
 #[tactic(auto, unfolding(crate::specs::Words::expected_text))]
 fn expected_text(alloc: Global, features: &[Feature]) -> Result<String, AllocError>
     ensures { IfOk result (λ text. string_bytes text ≡ expected_text features.now) }
@@ -276,7 +276,7 @@ fn expected_text(alloc: Global, features: &[Feature]) -> Result<String, AllocErr
     Ok(text)
 }
 
-/// Adds the features of a unit's package that are on.
+/// Adds those features of a unit's package that are on.
 fn push_unit_features(
     alloc: Global,
     words: &mut Items<Text>,

@@ -1,4 +1,4 @@
-//! The compiler's host platform, and the word of a profile.
+//! The compiler's host platform, and the word of a profile: `release` or `debug`.
 
 ghost use Rattle.std.specs.Prelude.{◌≡◌, IfOk, map, codes, Ok};
 ghost use Rattle.std.specs.List.{list_any};
@@ -54,7 +54,7 @@ fn has_release(line: &[Ancestor]) -> bool
     line.iter().any(|ancestor| ancestor.name == "release")
 }
 
-/// Returns whether a profile in a line of profiles is `release`.
+/// Returns whether a profile in a line of inheritance is `release`.
 #[tactic(auto, using(crate::proofs::Released::released_laws))]
 fn is_released(line: &[Ancestor]) -> bool
     ensures { result ≡ is_released (map seen line.now) }
@@ -62,7 +62,7 @@ fn is_released(line: &[Ancestor]) -> bool
     has_release(line)
 }
 
-/// Returns the word of a line of profiles.
+/// Returns the word, `release` or `debug`, of a line of inheritance.
 fn released_text(line: &[Ancestor]) -> &'static str
     ensures { result.now ≡ released_text (Ok (map seen line.now)) }
 {

@@ -73,7 +73,7 @@ fn is_debugged(debug: Word) -> bool
     }
 }
 
-/// Sets the platform that is compiled for, the host, and the number of jobs.
+/// Sets the platform for which units are compiled, the host, and the number of jobs.
 fn set_platform(alloc: Global, all: &mut TextMap, triple: &str) -> Result<(), AllocError>
     ensures { OnOk result (all.new ≡ all_set all.old (platform_pairs triple.now)) }
 {
@@ -99,7 +99,7 @@ fn set_settings(
     Ok(())
 }
 
-/// Adds flags after another flag.
+/// Adds flags, with byte 0x1f before each flag.
 fn push_flags(text: &mut String, flags: &[Text]) -> Result<(), AllocError>
     ensures { OnOk result (string_bytes text.new ≡ string_bytes text.old
         ++ flat_map (λ flag. (31 ∷ []) ++ flag) flags.now) }
@@ -111,7 +111,7 @@ fn push_flags(text: &mut String, flags: &[Text]) -> Result<(), AllocError>
     Ok(())
 }
 
-/// Returns arguments with byte 0x1f between them.
+/// Returns flags as one text, with byte 0x1f between them.
 fn encode_flags(alloc: Global, flags: &[Text]) -> Result<String, AllocError>
     ensures { IfOk result (λ text. string_bytes text ≡ encoded flags.now) }
 {

@@ -11,27 +11,28 @@ ghost use Rattle.pb_command_laws.specs.Starts.{CompilesStart, RunsStart};
 ghost use Rattle.pb_command_laws.specs.Texts.{InfosAreRead, LinesAreTrimmed, OutputsAreRead};
 ghost use Rattle.pb_command_laws.specs.Variables.{CompilesHave, RunsHave};
 
-/// A law: the arguments of a compile are read back by the compiler's own option grammar. The
-/// arguments say the crate, settings, conditions, folders and libraries of the compile, and then
-/// what the user's flags say.
+/// A law: the compiler's own option grammar reads the arguments of a compile back. The result lists
+/// the crate, settings, conditions, folders and libraries of the compile, and then what the user's
+/// flags request.
 pub fn compiles_say()
     ensures { CompilesSay }
 {}
 
-/// A law: if arguments are read in this way, the result contains each argument, so no argument is
-/// skipped.
+/// A law: arguments that were read by this grammar can be made again from the result. So no
+/// argument is skipped.
 pub fn sayings_keep_words()
     ensures { SayingsKeepWords }
 {}
 
-/// A law: a compile has the stated variables. Each has the stated value, unless the run of the
-/// compile's own package has set the variable. Apart from these variables, a compile has only
-/// variables that this run has set.
+/// A law: a compile has the variables that the definition lists. Each variable has the listed
+/// value, unless the run of the compile's own package has set the variable. Apart from these
+/// variables, a compile has only variables that this run has set.
 pub fn compiles_have()
     ensures { CompilesHave }
 {}
 
-/// A law: a run has the stated variables, each with the stated value, and no other variables.
+/// A law: a run has the variables that the definition lists, each with the listed value, and no
+/// other variables.
 pub fn runs_have()
     ensures { RunsHave }
 {}
@@ -54,7 +55,8 @@ pub fn commands_follow_plans()
 {}
 
 /// This law applies all other laws to the command of a unit in a plan. It says what the command
-/// starts, its variables, arguments and libraries, and the run whose directives it gets, if any.
+/// starts, which variables, arguments and libraries it has, and from which run it gets directives,
+/// if any.
 pub fn commands_of_plans()
     ensures compiles { CompilesOfPlans }
     ensures runs { RunsOfPlans }

@@ -202,8 +202,10 @@ fn push_variables(inputs: &mut Items<InputName>, names: Items<Text>) -> Result<(
 
 /// Returns the inputs: the paths outside the target folder, and the variables.
 ///
-/// Errors: `ForeignInput`, if a path is in the target folder but in no folder of a reached unit;
-/// `OutOfMemory`.
+/// Errors:
+///
+/// - `ForeignInput`, if a path is in the target folder but in no folder of a reached unit.
+/// - `OutOfMemory`.
 pub(crate) fn inputs_of(
     alloc: Global,
     command: &Command,

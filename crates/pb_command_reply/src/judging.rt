@@ -53,8 +53,10 @@ fn info_in(alloc: Global, bytes: &Bytes) -> Result<DepInfo, UnitFault>
 
 /// Returns the dep-info of a compile.
 ///
-/// Errors: `NoDepInfo`, if there is no dep-info, or if the dep-info is too long or cannot be read;
-/// `OutOfMemory`.
+/// Errors:
+///
+/// - `NoDepInfo`, if there is no dep-info, or if the dep-info is too long or cannot be read.
+/// - `OutOfMemory`.
 fn read_info(alloc: Global, dep_info: Option<&Bytes>) -> Result<DepInfo, UnitFault>
     ensures { UnlessOom unit_fault.OutOfMemory (λ info.
         info) result (read_info (option_map (λ bytes. bytes.now) dep_info.entry)) }
@@ -305,7 +307,7 @@ fn run_answered<M: Meaning>(
     })
 }
 
-/// Returns what a reply yields, if the child's end is no fault.
+/// Returns what a reply yields, if the child's end is not a fault.
 fn answered_by<M: Meaning>(
     alloc: Global,
     meaning: &M,
@@ -326,7 +328,7 @@ fn answered_by<M: Meaning>(
     }
 }
 
-/// Returns what the reply of a unit's child yields, with the paths of this meaning.
+/// Returns what the reply of a unit's child yields. `meaning` determines the paths of texts.
 fn answered_with<M: Meaning>(
     alloc: Global,
     meaning: &M,
@@ -359,7 +361,8 @@ fn answered_with<M: Meaning>(
 /// the command sets (The Cargo Book, Build Cache). The inputs of a run are the paths and variables
 /// of its lines `rerun-if-changed` and `rerun-if-env-changed`. Without these lines, the folder of
 /// its package is the input (The Cargo Book, Build Scripts). Paths in the folder of a reached unit
-/// are left out, since the reached unit covers them. A text means the path of `PathText::join`.
+/// are left out, since the reached unit covers them. The path of a text is the one that
+/// `PathText::join` returns.
 ///
 /// Errors: the first of these that occurs.
 ///
@@ -386,9 +389,9 @@ pub fn check_reply(
     answered_with(alloc, &ByText {}, project, unit, command, ended, dep_info)
 }
 
-/// Returns what the reply of a unit's child yields, as `answered` does, and with the same errors. A
-/// text means the path of the place (`Place::path_from`). On a machine, a `..` after a link leads
-/// to the folder that contains the link's target.
+/// Returns what the reply of a unit's child yields, as `check_reply` does, and with the same
+/// errors. Here the path of a text is the one that the place returns (`Place::path_from`). On a
+/// machine, a `..` after a link leads to the folder that contains the link's target.
 pub fn check_reply_at<P: Place>(
     alloc: Global,
     place: &P,
@@ -416,7 +419,7 @@ pub fn check_reply_at<P: Place>(
 
 /// Returns the names of the inputs of a unit, from its child's reply.
 ///
-/// Errors: those of `answered`.
+/// Errors: those of `check_reply`.
 pub fn inputs(
     alloc: Global,
     project: &Project,

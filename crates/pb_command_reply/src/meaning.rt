@@ -44,7 +44,7 @@ impl Meaning for ByText {
 /// A place determines the path.
 #[derive(Drop)]
 pub(crate) struct ByPlace<'a, P> {
-    /// The place that determines it.
+    /// The place that determines the path.
     pub(crate) place: &'a P,
 }
 

@@ -1,4 +1,4 @@
-//! What a unit needs, by its package, and the directives of runs.
+//! Looks up the units that a unit needs, by their packages, and the directives of runs.
 
 ghost use Rattle.std.specs.Prelude.{◌≡◌, IfOk, option_map};
 ghost use Rattle.pb_command_types.specs.Targets.{unit_at, is_library, is_script, is_run, is_one_of, needed, own_run, file_at, library_file, script_file, said_at, own_said};

@@ -119,7 +119,7 @@ fn between(alloc: Global, first: &str, text: &str, last: &str) -> Result<String,
     Ok(made)
 }
 
-/// Returns the file in a folder to which a crate is compiled.
+/// Returns the file that the compile of a crate makes in a folder.
 fn file_by(
     alloc: Global,
     what: &What,

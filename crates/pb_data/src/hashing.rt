@@ -1,4 +1,4 @@
-//! Texts as keys of tables.
+//! The hash of a text, so that texts can be the keys of tables.
 
 use crate::text::Text;
 use std::hash::{Hash, Hasher};

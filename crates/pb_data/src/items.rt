@@ -67,7 +67,7 @@ impl<T> Items<T> {
 
     /// Adds an item at the end.
     ///
-    /// Errors: out of memory; the items stay as they were.
+    /// Errors: out of memory. Then the items stay as they were.
     pub fn push(&mut self, item: T) -> Result<(), AllocError>
     where
         T: Drop,

@@ -1,6 +1,6 @@
 //! The data types that every crate of the builder uses. Contracts see texts and bytes as lists of
-//! numbers, and items as lists. The crate also has the words for an answer that running out of
-//! memory may prevent.
+//! numbers, and items as lists. The crate also defines words of contracts, such as `UnlessOom`, for
+//! answers that running out of memory may prevent.
 #![tactic(auto)]
 
 mod bytes;

@@ -40,7 +40,7 @@ impl OrderedSet {
 
     /// Adds a text at the end, unless the set already has this text.
     ///
-    /// Errors: out of memory; the texts stay as they were.
+    /// Errors: out of memory. Then the texts stay as they were.
     pub fn insert(&mut self, text: Text) -> Result<(), AllocError>
         ensures ok { OnOk result (self.new ≡ mentioned self.old text) }
         ensures err { OnErr result (self.new ≡ self.old) }

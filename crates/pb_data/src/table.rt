@@ -13,8 +13,8 @@ use indexmap::map::Iter;
 use std::alloc::{AllocError, Global};
 use std::marker::Model;
 
-/// A table of values by texts. Each text occurs once, in order of first mention. Contracts see the
-/// list of the entries.
+/// A table from texts to values. Each text occurs once, in order of first mention. Contracts see
+/// the table as the list of its entries.
 #[derive(Debug, Drop)]
 pub struct Table<V> {
     inside: IndexMap<Text, V>,
@@ -46,7 +46,7 @@ impl<V: Drop> Table<V> {
     /// Adds an entry. If the table already has this text, the old entry keeps its position and gets
     /// the new value. Otherwise the new entry goes last.
     ///
-    /// Errors: out of memory; the entries stay as they were.
+    /// Errors: out of memory. Then the entries stay as they were.
     pub fn insert(&mut self, name: Text, value: V) -> Result<(), AllocError>
         ensures ok { OnOk result (self.new ≡ with_entry self.old name value) }
         ensures err { OnErr result (self.new ≡ self.old) }

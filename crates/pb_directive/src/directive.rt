@@ -2,8 +2,8 @@
 
 use pb_data::{Items, Text};
 
-/// What one line of a build script's output means (The Cargo Book, "Build
-/// Scripts"). A line `rustc-flags` has a directive for each of its flags.
+/// What one line of a build script's output means (The Cargo Book, "Build Scripts"). A line
+/// `rustc-flags` has a directive for each of its flags.
 #[derive(Drop)]
 pub enum Directive {
     /// `rerun-if-changed`: a path whose change makes the script run again.
@@ -34,7 +34,7 @@ pub enum Directive {
     CheckCfg(Text),
     /// `rustc-env`: a variable's name and value.
     Env(Text, Text),
-    /// Metadata for the scripts of direct dependents: its key and value.
+    /// A key and a value of metadata, for the scripts of direct dependents.
     Metadata(Text, Text),
     /// `warning`: a text for the user.
     Warning(Text),

@@ -15,8 +15,13 @@ pub enum LineFault {
     /// The key after `cargo::` is unknown.
     #[error("line {0} has an unknown key")]
     UnknownKey(u64),
-    /// A key has a value that is not allowed, or `=` is missing after `cargo::`. Or a name is
-    /// empty, a name or a word has byte 0, or no colon ends the outputs of a rule of dep-info.
+    /// A line has one of these faults:
+    ///
+    /// - A key has a value that is not allowed.
+    /// - `=` is missing after `cargo::`.
+    /// - A name is empty.
+    /// - A name or a word contains byte 0.
+    /// - No colon ends the outputs of a rule of dep-info.
     #[error("line {0} has a bad value")]
     BadValue(u64),
     /// A word of `rustc-flags` is neither a library nor a folder of libraries.
@@ -36,8 +41,13 @@ pub enum Problem {
     /// The key after `cargo::` is unknown.
     #[error("an unknown key")]
     UnknownKey,
-    /// A key has a value that is not allowed, or `=` is missing after `cargo::`. Or a name is
-    /// empty, a name or a word has byte 0, or no colon ends the outputs of a rule of dep-info.
+    /// The line has one of these faults:
+    ///
+    /// - A key has a value that is not allowed.
+    /// - `=` is missing after `cargo::`.
+    /// - A name is empty.
+    /// - A name or a word contains byte 0.
+    /// - No colon ends the outputs of a rule of dep-info.
     #[error("a bad value")]
     BadValue,
     /// A word of `rustc-flags` is neither a library nor a folder of libraries.

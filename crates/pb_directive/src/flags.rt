@@ -37,7 +37,7 @@ fn flag_of(alloc: Global, word: &str) -> Result<Directive, Problem>
     Err(Problem::BadFlag)
 }
 
-/// Returns the next word, as the name of a flag whose letter is a separate word.
+/// Returns the next word as the name of a flag. The word before it was the flag's letter.
 fn next_name(alloc: Global, words: &mut Words) -> Result<Text, Problem>
     ensures name { NextName result words.old words.new }
     ensures shorter { length words.new ≤ length words.old }

@@ -1,4 +1,4 @@
-//! The table of keys.
+//! The keys of a build script's output, by their names.
 
 ghost use Rattle.std.specs.Prelude.{◌≡◌};
 ghost use Rattle.pb_directive.specs.Directives.{key_of, new_key_of};

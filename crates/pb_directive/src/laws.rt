@@ -27,7 +27,7 @@ pub fn names_concatenate()
         ≡ then_named (line_count text) (all_names_of text) (all_names_of more) }
 {}
 
-/// A line that begins with neither prefix means what an empty line means.
+/// A line that begins with neither `cargo::` nor `cargo:` means what an empty line means.
 pub fn other_lines_say_nothing()
     ensures { (number : ℕ) (before after : List (List ℕ)) (line : List ℕ)
         → after_prefix (codes "cargo::") (trimmed line) ≡ None
@@ -48,7 +48,7 @@ pub fn variables_stand_once()
         → EachOnce info.variables }
 {}
 
-/// The last value that metadata gives a variable counts.
+/// If metadata sets a variable more than once, the last value counts.
 pub fn last_metadata_counts()
     ensures { (links name : List ℕ) (directives : List Directive)
         → value_at name (dep_pairs links directives) ≡ last_value name (passed links directives) }
@@ -60,14 +60,14 @@ pub fn passed_names_stand_once()
         → names_of (dep_pairs links directives) ≡ once (names_of (passed links directives)) }
 {}
 
-/// A line of a build script's output means what its key means with its value, for each key. Each
+/// This law says, for each key, what a line of a build script's output with this key means. Each
 /// refused line gets the right error (The Cargo Book, Build Scripts, Outputs of the Build Script).
 pub fn lines_say()
     ensures { LinesSay }
 {}
 
-/// A line of dep-info names what its kind of line names (The Cargo Book, Build Cache, Dep-Info
-/// Files). Each refused line gets the right error.
+/// This law says, for each kind of line of dep-info, what such a line names (The Cargo Book, Build
+/// Cache, Dep-Info Files). Each refused line gets the right error.
 pub fn infos_say()
     ensures { InfosSay }
 {}

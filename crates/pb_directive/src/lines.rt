@@ -22,8 +22,8 @@ impl<'a> Model for Lines<'a> {
     ghost view = { λ a. option_map_or (λ rest. lines_of rest.now) a.rest [] };
 }
 
-/// Returns the lines of a text, without their line feeds. What
-/// follows the last line feed is a line too.
+/// Returns the lines of a text, without their line feeds. What follows the last line feed is a line
+/// too.
 #[tactic(auto, using(crate::proofs::TextLemmas::length_laws))]
 pub fn lines_of(bytes: &[u8]) -> Lines<'_>
     ensures lines { result ≡ lines_of bytes.now }

@@ -35,7 +35,7 @@ fn name_of(text: &str) -> &str
     }
 }
 
-/// Adds a variable to what dep-info names.
+/// Adds a variable to the names of dep-info.
 fn add_variable(alloc: Global, text: &str, info: &mut DepInfo) -> Result<(), Problem>
     ensures { AddsInfo result info.old info.new (variable_info text.now) }
 {
@@ -48,7 +48,7 @@ fn add_variable(alloc: Global, text: &str, info: &mut DepInfo) -> Result<(), Pro
     Ok(())
 }
 
-/// Adds the words of a rule to what dep-info names.
+/// Adds the words of a rule to the names of dep-info.
 fn add_rule(alloc: Global, text: &str, info: &mut DepInfo) -> Result<(), Problem>
     ensures { AddsInfo result info.old info.new (rule_info (after_outputs text.now)) }
 {
@@ -62,7 +62,7 @@ fn add_rule(alloc: Global, text: &str, info: &mut DepInfo) -> Result<(), Problem
     Ok(())
 }
 
-/// Adds what a line that is not empty names.
+/// Adds the names in a line that is not empty.
 fn add_full_line(alloc: Global, text: &str, info: &mut DepInfo) -> Result<(), Problem>
     ensures { AddsInfo result info.old info.new (full_line text.now) }
 {
@@ -75,7 +75,7 @@ fn add_full_line(alloc: Global, text: &str, info: &mut DepInfo) -> Result<(), Pr
     Ok(())
 }
 
-/// Adds what a line names.
+/// Adds the names in a line.
 fn add_line(alloc: Global, line: &[u8], info: &mut DepInfo) -> Result<(), Problem>
     ensures { AddsInfo result info.old info.new (line_info line.now) }
 {
@@ -90,16 +90,22 @@ fn add_line(alloc: Global, line: &[u8], info: &mut DepInfo) -> Result<(), Proble
 
 /// Reads the dep-info of a compiler (The Cargo Book, "Build Cache").
 ///
-/// The text is read line by line. What follows the last line feed is a line too, and a
-/// carriage return at the end of a line is ignored. An empty line names nothing. A line
-/// `# env-dep:NAME` or `# env-dep:NAME=VALUE` names a variable, whatever the value;
-/// other lines that begin with `#` name nothing. Any other line is a rule: its outputs
-/// end at the first `:` that a space follows or that ends the line. After this `:` come the rule's
-/// words, separated by spaces. In a word, `\ ` means a space, and any other `\` means itself.
+/// The text is read line by line. What follows the last line feed is a line too, and a carriage
+/// return at the end of a line is ignored. A line is one of these:
 ///
-/// Errors: the error of the first faulty line, with the line's number, counted from 1. `NotText`,
-/// if the line is not UTF-8. `BadValue`, for a rule without such a `:`, a word or a variable's name
-/// with byte 0, or an empty name. `OutOfMemory`.
+/// - An empty line names nothing.
+/// - A line `# env-dep:NAME` or `# env-dep:NAME=VALUE` names a variable, whatever the value. Other
+///   lines that begin with `#` name nothing.
+/// - Any other line is a rule. The outputs of the rule end at the first `:` that is followed by a
+///   space or ends the line. After this `:` come the rule's words, separated by spaces. In a word,
+///   `\ ` means a space, and any other `\` means itself.
+///
+/// Errors: the error of the first faulty line, with the line's number, counted from 1:
+///
+/// - `NotText`, if the line is not UTF-8.
+/// - `BadValue`, if a rule has no such `:`, if a word or a variable's name contains byte 0, or if a
+///   name is empty.
+/// - `OutOfMemory`.
 pub fn read_dep_info(alloc: Global, bytes: &[u8]) -> Result<DepInfo, LineFault>
     ensures { TextGives result (dep_info_of bytes.now) }
 {

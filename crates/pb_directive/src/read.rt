@@ -111,16 +111,20 @@ fn add_line(alloc: Global, line: &[u8], found: &mut Directives) -> Result<(), Pr
 
 /// Reads the output of a build script (The Cargo Book, "Build Scripts").
 ///
-/// The text is read line by line. What follows the last line feed is a line too, and
-/// spaces, tabs and carriage returns at both ends of a line are ignored. A line that is
-/// not UTF-8, or that begins with neither `cargo::` nor `cargo:`, means nothing. After
-/// the prefix comes the key, up to the first `=`. After `cargo:`, a line without `=`
-/// means nothing, and any other key, including `metadata` and `error`, is metadata.
+/// The text is read line by line. What follows the last line feed is a line too. Spaces, tabs and
+/// carriage returns at both ends of a line are ignored. A line that is not UTF-8, or that begins
+/// with neither `cargo::` nor `cargo:`, means nothing. After the prefix comes the key, up to the
+/// first `=`.
 ///
-/// Errors: the error of the first faulty line, with the line's number, counted from 1. After
-/// `cargo::`: `UnknownKey`, if the key is unknown (our own choice), and `BadValue`, if there is no
-/// `=`. After either prefix: `BadValue`, for a value that the key does not accept, and `BadFlag`,
-/// for a word of `rustc-flags` that is neither `-l` nor `-L` with a name. `OutOfMemory`.
+/// After `cargo:`, a line without `=` means nothing. Any other key after `cargo:` is metadata, and
+/// so are the keys `metadata` and `error`.
+///
+/// Errors: the error of the first faulty line, with the line's number, counted from 1:
+///
+/// - `UnknownKey`, if the key after `cargo::` is unknown (our own choice).
+/// - `BadValue`, if there is no `=` after `cargo::`, or if the key does not accept the value.
+/// - `BadFlag`, if a word of `rustc-flags` is neither `-l` nor `-L` with a name.
+/// - `OutOfMemory`.
 pub fn read_directives(alloc: Global, bytes: &[u8]) -> Result<Directives, LineFault>
     ensures { TextGives result (directives_of bytes.now) }
 {

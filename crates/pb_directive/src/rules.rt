@@ -52,7 +52,7 @@ fn before_backslash(part: &str) -> Option<&str>
     part.strip_suffix('\\')
 }
 
-/// Returns the first part of a text and the text after the space that ends this part. There is a
+/// Returns the first part of a text, and the text after the space that ends this part. There is a
 /// second text only if there is such a space.
 fn first_part(alloc: Global, text: &str) -> Result<(String, Option<&str>), AllocError>
     ensures parts { IfOk result (λ p.

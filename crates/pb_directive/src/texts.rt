@@ -1,4 +1,4 @@
-//! The parts of a text in one line.
+//! Reads parts of one line: bytes as a text, what follows a prefix, and the texts around `=`.
 
 ghost use Rattle.std.specs.Prelude.{◌≡◌, codes};
 ghost use Rattle.std.specs.Option.{option_copied, option_map};

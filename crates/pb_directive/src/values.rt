@@ -1,4 +1,4 @@
-//! The forms of a key's value.
+//! Reads the value of a key, in each of the forms that keys require.
 
 ghost use Rattle.pb_directive.specs.Faults.{LineGives};
 ghost use Rattle.pb_directive.specs.Directives.{plain, filled, variable, halves, named_value};
@@ -8,7 +8,7 @@ use crate::texts::{has_nul, split_at_equals};
 use pb_data::Text;
 use std::alloc::Global;
 
-/// Returns a value without byte 0.
+/// Returns a value, if it does not contain byte 0.
 pub fn plain(alloc: Global, value: &str) -> Result<Text, Problem>
     ensures { LineGives result (plain value.now) }
 {
@@ -18,7 +18,7 @@ pub fn plain(alloc: Global, value: &str) -> Result<Text, Problem>
     Ok(Text::from_str(alloc, value)?)
 }
 
-/// Returns a value without byte 0 that is not empty.
+/// Returns a value, if it is not empty and does not contain byte 0.
 pub fn unless_empty(alloc: Global, value: &str) -> Result<Text, Problem>
     ensures { LineGives result (filled value.now) }
 {
@@ -29,7 +29,7 @@ pub fn unless_empty(alloc: Global, value: &str) -> Result<Text, Problem>
     Ok(text)
 }
 
-/// Returns the name of a variable, which is not empty and contains neither `=` nor byte 0.
+/// Returns the name of a variable, if it is not empty and contains neither `=` nor byte 0.
 pub fn variable(alloc: Global, value: &str) -> Result<Text, Problem>
     ensures { LineGives result (variable value.now) }
 {
@@ -40,7 +40,8 @@ pub fn variable(alloc: Global, value: &str) -> Result<Text, Problem>
     Ok(name)
 }
 
-/// Returns the texts before and after the first `=` of a value without byte 0.
+/// Returns the texts before and after the first `=` of a value, if the value contains `=` and does
+/// not contain byte 0.
 pub fn halves(alloc: Global, value: &str) -> Result<(Text, Text), Problem>
     ensures { LineGives result (halves value.now) }
 {
@@ -57,7 +58,8 @@ pub fn halves(alloc: Global, value: &str) -> Result<(Text, Text), Problem>
     }
 }
 
-/// Returns the parts of `NAME=VALUE`, with a name that is not empty.
+/// Returns NAME and VALUE of a value `NAME=VALUE`, if NAME is not empty and the value does not
+/// contain byte 0.
 pub fn named_value(alloc: Global, value: &str) -> Result<(Text, Text), Problem>
     ensures { LineGives result (named_value value.now) }
 {

@@ -1,15 +1,19 @@
-//! Runs the examples: sessions in memory, and scripts that run the programs `pb_tool` and `pb_mini` over real folders
-//! and real children.
+//! Runs the examples: sessions in memory, and scripts that run the programs `pb_tool` and `pb_mini`
+//! over real folders and real children.
 //!
-//! This program is both of them. If it is started under a name that ends in `pb_tool` or in
-//! `pb_mini`, it does what that program does. Under any other name it goes through the files of the
-//! current folder, in byte order of the names. Each file `NAME.json` is a session, which it runs as
-//! `pb_tool session` does. Each file `NAME.sh` is a script. The shell carries it out in a new
-//! folder, which has links of the two names to this program. In what a script prints, `/w` replaces
-//! the path of that folder. Before each session or script, the program prints a line `== NAME`.
+//! This program is also `pb_tool` and `pb_mini`. If it is started under a name that ends in
+//! `pb_tool` or `pb_mini`, it does what the program of that name does. Under any other name, it
+//! runs the files of the current folder, in byte order of their names:
 //!
-//! The gate starts it in a copy of `data/` and compares what it prints with the file `stdout`. So a
-//! new example needs its file in `data/` and its part of `stdout`.
+//! - `NAME.json` is a session, which the program runs as `pb_tool session` does.
+//! - `NAME.sh` is a script. The shell runs the script in a new folder. This folder contains links
+//!   to this program under both names. In what a script prints, `/w` replaces the path of that
+//!   folder.
+//!
+//! Before each session or script, the program prints a line `== NAME`.
+//!
+//! The gate starts this program in a copy of `data/` and compares what it prints with the file
+//! `stdout`. So a new example needs its file in `data/` and its part of `stdout`.
 #![tactic(auto)]
 
 use pb_mini_program::compiler;
@@ -105,7 +109,8 @@ fn print_all(rt: &HostRuntime) -> io::Result<()> {
     Ok(())
 }
 
-/// Does what the program of its name does, and returns the status with which to end.
+/// Does what the program of this name does, and returns the status with which this program must
+/// end.
 fn status(rt: &HostRuntime) -> u8 {
     let Ok(name) = own_name(rt) else {
         return 1;

@@ -11,7 +11,7 @@ use crate::seeds::of_package;
 use pb_workspace_types::{Package, Selection};
 use std::alloc::{AllocError, Global};
 
-/// Returns whether a text means this feature of the package with this name.
+/// Returns whether a text requests this feature of the package with this name.
 fn is_text_of(alloc: Global, name: &str, feature: &str, text: &str) -> Result<bool, AllocError>
     ensures { IfOk result (λ is. is ≡ is_text_of name.now feature.now text.now) }
 {
@@ -19,7 +19,7 @@ fn is_text_of(alloc: Global, name: &str, feature: &str, text: &str) -> Result<bo
     Ok(text == feature || text == whole.as_str())
 }
 
-/// Returns whether a text means a feature of this package.
+/// Returns whether a text requests a feature of this package.
 fn is_owner_of(alloc: Global, owner: &Package, text: &str) -> Result<bool, AllocError>
     ensures { IfOk result (λ is. is ≡ is_owner_of owner.now text.now) }
 {
@@ -32,7 +32,7 @@ fn is_owner_of(alloc: Global, owner: &Package, text: &str) -> Result<bool, Alloc
     Ok(false)
 }
 
-/// Returns whether a text means a feature of the package at an index.
+/// Returns whether a text requests a feature of the package at an index.
 fn is_owner_at(
     alloc: Global,
     packages: &[Package],
@@ -47,7 +47,7 @@ fn is_owner_at(
     }
 }
 
-/// Returns whether a text means a feature of a package at one of these indices.
+/// Returns whether a text requests a feature of a package at one of these indices.
 fn is_answered(
     alloc: Global,
     packages: &[Package],

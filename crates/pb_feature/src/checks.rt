@@ -38,7 +38,7 @@ fn is_lesser_at(packages: &[Package], place: usize, first: Option<First>) -> boo
     }
 }
 
-/// Returns what has been found after one more package.
+/// Returns the first package with a wrong item, after one more package has been checked.
 fn first_of(
     fault: Option<FeatureFault>,
     first: Option<First>,
@@ -60,7 +60,7 @@ fn first_of(
     }
 }
 
-/// Returns the first package in byte order of names that has a wrong item.
+/// Of the packages with a wrong item, returns the first in byte order of names.
 fn first_fault(packages: &[Package]) -> Option<First>
     ensures { IsSofar packages.now (length packages.now) result }
 {

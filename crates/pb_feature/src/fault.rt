@@ -9,8 +9,11 @@ use thiserror::Error;
 /// Why no features are resolved.
 #[derive(Clone, Copy, Debug, PartialEq, Eq, Error)]
 pub enum FeatureFault {
-    /// An item names a feature that its package does not have. Or no selected package has a
-    /// requested feature. Or a feature is requested of a package that does not have this feature.
+    /// A feature does not exist. There are three cases:
+    ///
+    /// - An item names a feature that its package does not have.
+    /// - No selected package has a requested feature.
+    /// - A feature is requested of a package that does not have this feature.
     #[error("a requested feature does not exist")]
     NoSuchFeature,
     /// An item names a dependency that its package does not have.

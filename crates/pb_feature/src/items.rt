@@ -86,7 +86,7 @@ fn entry_fault(owner: &Package, name: &[u8]) -> Option<FeatureFault>
     }
 }
 
-/// Returns what is wrong with an item that names an entry. That entry must be optional.
+/// Returns what is wrong with an item that names an entry and requires this entry to be optional.
 fn optional_fault(owner: &Package, name: &[u8]) -> Option<FeatureFault>
     ensures { result ≡ optional_fault owner.now name.now }
 {

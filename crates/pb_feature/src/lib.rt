@@ -1,5 +1,5 @@
-//! Which packages, features and dependencies are on, on each of
-//! two sides (The Cargo Book, Features, resolver 2).
+//! Which packages, features and dependencies are on, on each of two sides (The Cargo Book,
+//! Features, resolver 2).
 #![tactic(auto)]
 
 mod asked;

@@ -87,8 +87,8 @@ fn number_from(base: usize, side: Side, local: usize) -> Option<usize>
         .checked_add(side_number(side))
 }
 
-/// Returns the number of the feature with a name, counted from 1. Returns 0 if there is no such
-/// feature.
+/// Returns the slot of the feature with a name: the number of the feature, counted from 1. Returns
+/// 0 if there is no such feature.
 pub(crate) fn slot(features: &FeaturesByName, name: &[u8]) -> usize
     ensures { result ≡ slot features.now name.now }
 {
@@ -118,8 +118,8 @@ impl Ground<'_> {
         }
     }
 
-    /// Returns the number of the package's feature with a name, counted from 1. Returns 0 if there
-    /// is no such feature.
+    /// Returns the slot of the package's feature with a name. Returns 0 if there is no such
+    /// feature.
     pub(crate) fn slot_at(&self, place: usize, name: &[u8]) -> usize
         ensures { result ≡ slot_at self.now.packages.now place name.now }
     {

@@ -63,8 +63,7 @@ fn marks_of(
     }
 }
 
-/// Returns whether a feature is requested of the package at an index that this package does not
-/// have.
+/// Returns whether the package at an index does not have a feature that is requested of it.
 fn is_missing_at(ground: &Ground<'_>, marks: &[bool], place: usize) -> Result<bool, AllocError>
     ensures { IfOk result (λ is. is
         ≡ (is_on marks.now (has ground.now.bases.now place Target 0)
@@ -75,7 +74,7 @@ fn is_missing_at(ground: &Ground<'_>, marks: &[bool], place: usize) -> Result<bo
     Ok(is_marked(marks, target) || is_marked(marks, host))
 }
 
-/// Checks that only features that a package has are requested of this package.
+/// Checks that each package has all features that are requested of it.
 fn check_missing(ground: &Ground<'_>, marks: &[bool]) -> Result<(), FeatureFault>
     ensures ok { OnOk result (NoneMarkedMissing marks.now ground.now.bases.now
         (length ground.now.packages.now)) }
@@ -115,9 +114,12 @@ fn resolve_checked(
 /// Returns which packages, features and entries are on, on each of two sides. This is the least set
 /// of what is chosen and what the rules yield (The Cargo Book, Features, resolver 2).
 ///
-/// Errors, in this order: the first wrong item of the first package in byte order of names; a
-/// requested feature that no selected package has; a feature that is requested of a package that is
-/// on and does not have this feature. Besides these errors, only out of memory.
+/// Errors: the first of these that occurs, or out of memory at any time.
+///
+/// - The fault of the first wrong item, in the first package in byte order of names.
+/// - `NoSuchFeature`, if no selected package has a requested feature.
+/// - `NoSuchFeature`, if a feature is requested of a package that is on and does not have this
+///   feature.
 pub fn resolve(alloc: Global, selected: &SelectedWorkspace<'_>) -> Result<Features, FeatureFault>
     ensures resolved { IfOk result (IsResolved selected.now.workspace selected.now.selection) }
     ensures right { OnOk result ((fault : FeatureFault) →

@@ -1,4 +1,4 @@
-//! The resolved features, as they are returned.
+//! Turns marked numbers into the resolved features. A number is marked if its fact is true.
 
 ghost use Rattle.std.specs.Prelude.{◌≡◌, ◌++◌, [], ◌∷◌, IfOk, OnOk};
 ghost use Rattle.pb_graph.specs.Closure.{is_on};
@@ -13,7 +13,7 @@ use pb_manifest_types::Feature;
 use pb_workspace_types::{Entry, Package, Side};
 use std::alloc::{AllocError, Global};
 
-/// Adds the name of a feature that is marked.
+/// Adds the name of a feature, if the number of the feature is marked.
 fn add_name(
     alloc: Global,
     names: &mut Items<Text>,

@@ -1,5 +1,5 @@
-//! The rules that the items of a package's features yield, written
-//! with numbers. What an item names is looked up once, for both sides.
+//! The rules that the items of a package's features yield, written with numbers. What an item names
+//! is looked up once, for both sides.
 
 ghost use Rattle.std.specs.Prelude.{◌≡◌, ◌+◌, ◌++◌, [], ◌∷◌, Some, OnOk, IfOk, length, if◌then◌else◌};
 ghost use Rattle.std.specs.Option.{option_copied};
@@ -58,7 +58,7 @@ fn add_own(
     }
 }
 
-/// An item of a feature, at an entry that it may name.
+/// An item of a feature, together with an entry that the item may name.
 #[derive(Clone, Copy)]
 struct AtEntry<'a> {
     /// The index of the package.
@@ -90,7 +90,7 @@ fn number_of_named(ground: &Ground<'_>, side: Side, at: &AtEntry<'_>) -> Result<
     ground.number_of_entry(at.place, side, at.features.as_slice().len(), at.index)
 }
 
-/// Adds the rule of an item `dep:N` at an entry N.
+/// Adds the rule of an item `dep:N` for an entry N.
 fn add_dependency(
     rules: &mut Vec<Rule>,
     ground: &Ground<'_>,
@@ -107,7 +107,7 @@ fn add_dependency(
     add_alone(rules, has, enabled)
 }
 
-/// Adds the rules of an item `N/F` at an entry N, by the slots of the features N and F.
+/// Adds the rules of an item `N/F` for an entry N, by the slots of the features N and F.
 fn add_of(
     rules: &mut Vec<Rule>,
     ground: &Ground<'_>,
@@ -131,7 +131,7 @@ fn add_of(
     add_there(rules, ground, has, at.place, side, entry.optional, own)
 }
 
-/// Adds the rule of an item `N?/F` at an entry N, by the slot of the feature F.
+/// Adds the rule of an item `N?/F` for an entry N, by the slot of the feature F.
 fn add_of_enabled(
     rules: &mut Vec<Rule>,
     ground: &Ground<'_>,
@@ -157,15 +157,15 @@ fn add_of_enabled(
     Ok(())
 }
 
-/// Returns the number of the feature with a name, counted from 1, if a test is true. Otherwise
-/// returns 0, as if there were no such feature.
+/// Returns the slot of the feature with a name, if a test is true. Otherwise returns 0, as if there
+/// were no such feature.
 fn slot_where(test: bool, features: &FeaturesByName, name: &[u8]) -> usize
     ensures { result ≡ (if test then slot features.now name.now else 0) }
 {
     if test { slot(features, name) } else { 0 }
 }
 
-/// Adds the rules of an item at an entry that the item may name, on both sides. The features that
+/// Adds the rules of an item for an entry that the item may name, on both sides. The features that
 /// the item names are looked up once.
 fn add_item(
     rules: &mut Vec<Rule>,
@@ -231,7 +231,7 @@ fn entry_named(item: &FeatureItem) -> Option<&Text>
     }
 }
 
-/// Adds the rules of an item at the entry with an index, if an entry was found.
+/// Adds the rules of an item for the entry at an index, if an entry was found.
 fn add_found(
     rules: &mut Vec<Rule>,
     ground: &Ground<'_>,
@@ -263,8 +263,8 @@ fn add_found(
     }
 }
 
-/// Adds the rules of an item at the entries with the name in the item. Each table has at most one
-/// such entry.
+/// Adds the rules of an item for the entries that the item names. Each table has at most one such
+/// entry.
 fn add_named(
     rules: &mut Vec<Rule>,
     ground: &Ground<'_>,

@@ -1,4 +1,5 @@
-//! What is chosen for the selected packages.
+//! The facts that are true from the start: the selected packages, and the features that are chosen
+//! for these packages.
 
 ghost use Rattle.std.specs.Prelude.{◌≡◌, ◌++◌, ◌||◌, Some, IfOk, OnOk};
 ghost use Rattle.std.specs.List.{list_any};

@@ -1,4 +1,5 @@
-//! The least set that rules yield. A list contains the things that must still be looked at.
+//! The least set that rules yield. It is computed with a list of the things that must still be
+//! looked at.
 
 ghost use Rattle.std.specs.Prelude.{◌≡◌, ℕ, ◌+◌, ◌<◌, IfOk, OnOk, All, Contains, IsTrue, length};
 ghost use Rattle.pb_graph.specs.Closure.{Least, IsYielded, IsLeast, is_on, with_mark, with_marks};

@@ -1,4 +1,4 @@
-//! How many nodes each node reaches, and the levels that follow.
+//! How many nodes each node reaches, and the levels of the nodes.
 
 ghost use Rattle.std.specs.Prelude.{◌≡◌, ◌⊎◌, ℕ, ◌<◌, ◌^◌, IfOk, OnOk, All, AllPairs, Contains, map, filter, length, false, slice_index, replicate};
 ghost use Rattle.pb_graph.specs.Graph.{IsGraph, needs_at, above};
@@ -8,7 +8,7 @@ use crate::graph::Node;
 use crate::reach::{needs_at, reached_from};
 use std::alloc::{AllocError, Global};
 
-/// How many nodes a node reaches.
+/// A node, how many nodes it reaches, and whether it reaches itself.
 #[derive(Clone, Copy)]
 pub struct Extent {
     pub node: usize,

@@ -1,8 +1,9 @@
-//! Closures and orders of graphs.
+//! Least sets, and orders of graphs.
 //!
 //! `least` computes the least set that contains some seeds and is closed under rules. `order` sorts
-//! the nodes that some nodes reach, by level and then by key. Each node then comes after all nodes
-//! that it needs. If some nodes reach themselves, `order` returns these nodes as its error.
+//! the roots, and all nodes that the roots reach, by level and then by key. Each node then comes
+//! after all nodes that it needs. If some nodes reach themselves, `order` returns these nodes as
+//! its error.
 #![tactic(auto)]
 
 mod closure;

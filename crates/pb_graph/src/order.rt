@@ -1,4 +1,4 @@
-//! The order of the nodes that some nodes reach.
+//! The order of the roots and of all nodes that the roots reach.
 
 ghost use Rattle.std.specs.Prelude.{◌≡◌, ◌≢◌, ◌↔◌, ◌⊎◌, ℕ, ◌<◌, ◌≤◌, IfOk, IfErr, OnOk, All, AllPairs, Contains, map, length, slice_index, Some};
 ghost use Rattle.std.specs.List.Sorted.{IsStrictlyIncreasing};
@@ -197,8 +197,10 @@ fn order_nodes(
 /// Returns the order of the roots and of the nodes that the roots reach. The nodes are sorted by
 /// level, and then by the bytes of their keys.
 ///
-/// Errors: `Circle`, if some of these nodes reach themselves; otherwise `TooMany`, if there are
-/// more than `most` nodes; `OutOfMemory`.
+/// Errors: the first of these that occurs, or `OutOfMemory` at any time.
+///
+/// - `Circle`, if some of these nodes reach themselves.
+/// - `TooMany`, if there are more than `most` nodes.
 pub fn order(
     alloc: Global,
     nodes: &[Node],

@@ -1,4 +1,4 @@
-//! Nodes in order.
+//! Sorts nodes by level and then by key.
 
 ghost use Rattle.std.specs.Prelude.{◌≡◌, ◌≤◌, ℕ, ◌<◌, IfOk, OnOk, All, Any, Contains, length, map, true, IsPermutation};
 ghost use Rattle.std.specs.List.Sorted.{IsStrictlySortedBy};

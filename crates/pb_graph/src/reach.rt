@@ -1,4 +1,4 @@
-//! The nodes that some nodes reach.
+//! The nodes that the roots reach.
 
 ghost use Rattle.std.specs.Prelude.{◌≡◌, ◌<◌, ℕ, List, IfOk, OnOk, All, length, false, replicate};
 ghost use Rattle.pb_graph.specs.Graph.{IsGraph, needs_at};

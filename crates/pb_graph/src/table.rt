@@ -1,4 +1,4 @@
-//! Rules as they are written down, each with two premises, and what follows from them.
+//! Rules, each written with two premises, and what follows from the rules.
 
 ghost use Rattle.std.specs.Prelude.{◌<◌, IfOk, All, Contains};
 ghost use Rattle.pb_graph.specs.Closure.{Least, IsLeast, is_on};
@@ -51,8 +51,8 @@ impl<'a> Rules for Indexed<'a> {
     }
 }
 
-/// Returns what follows from the seeds by the rules, among the things from
-/// 0 up to a count. Each rule is looked at once for each of its premises.
+/// Returns what follows from the seeds by the rules, among the things from 0 up to a count. Each
+/// rule is looked at once for each of its premises.
 ///
 /// Errors: out of memory.
 pub fn derive(

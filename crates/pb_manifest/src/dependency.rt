@@ -57,7 +57,7 @@ fn source_of(
     }
 }
 
-/// Returns an entry that is a table.
+/// Returns the entry that a table describes.
 fn dependency_keys(alloc: Global, name: &str, table: &Table) -> Result<Dependency, ManifestFault>
     ensures { UnlessOom result (dependency_keys name.now (table_view table.now)) }
 {

@@ -60,7 +60,7 @@ fn dependency_item(alloc: Global, word: &str, name: &str) -> Result<FeatureItem,
     Ok(FeatureItem::Dependency(name))
 }
 
-/// Returns an item without `/`.
+/// Returns the item in a text without `/`.
 fn whole_item(alloc: Global, text: &str) -> Result<FeatureItem, ManifestFault>
     ensures { UnlessOom result (whole_item text.now (parted 58 text.now)) }
 {
@@ -105,7 +105,7 @@ fn item_of_enabled(
     })
 }
 
-/// Returns an item with `/`.
+/// Returns the item in a text with `/`, from the texts before and after the `/`.
 fn parted_item(alloc: Global, name: &str, feature: &str) -> Result<FeatureItem, ManifestFault>
     ensures { UnlessOom result (parted_item name.now (parted 63 name.now) feature.now) }
 {
@@ -115,7 +115,7 @@ fn parted_item(alloc: Global, name: &str, feature: &str) -> Result<FeatureItem, 
     }
 }
 
-/// Returns an item of a feature.
+/// Returns the item of a feature that a text spells.
 fn item_in(alloc: Global, text: &str) -> Result<FeatureItem, ManifestFault>
     ensures { UnlessOom result (item_in text.now) }
 {
@@ -125,7 +125,7 @@ fn item_in(alloc: Global, text: &str) -> Result<FeatureItem, ManifestFault>
     }
 }
 
-/// Returns an item of a feature.
+/// Returns the item of a feature that a value spells.
 fn feature_item_of(alloc: Global, value: &Value) -> Result<FeatureItem, ManifestFault>
     ensures { UnlessOom result (feature_item_of (view value.now)) }
 {

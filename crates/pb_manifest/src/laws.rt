@@ -16,8 +16,8 @@ ghost use Rattle.pb_manifest_types.specs.Values.{Text};
 ghost use Rattle.pb_manifest.specs.Workspace.{workspace_of, workspace_package_of};
 ghost use Rattle.pb_manifest_types.specs.declared.key.Key.{Key};
 
-/// In each table with fixed keys, the result never depends on a key that no rule names. The Cargo
-/// Book (Manifest Format) says that unused keys cause at most a warning.
+/// For each table with fixed keys, the result of reading the table does not depend on keys that no
+/// rule names. The Cargo Book (Manifest Format) says that unused keys cause at most a warning.
 pub fn unnamed_keys_change_nothing()
     ensures package { PassesOver package_of }
     ensures library { PassesOver library_of }
@@ -64,7 +64,7 @@ pub fn documents_are_in_order()
 ///
 /// - Names have valid letters, and paths contain no byte 0.
 /// - Each key of a profile has a value that is allowed for the key. So `codegen-units` is from 1 to
-/// 65,536.
+///   65,536.
 /// - A custom profile has `inherits`, and no custom profile is called `debug`.
 /// - The entries of each table are in byte order of their keys, without repeats.
 pub fn manifests_keep_promises()

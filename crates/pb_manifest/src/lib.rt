@@ -1,7 +1,7 @@
 //! The manifest reader: what the bytes of a `Cargo.toml` mean, by The Cargo Book.
 //!
-//! `read_manifest` is its only function. Its contract names one definition, `manifest_of` of
-//! `specs/Document.antt`, which is composed of one small definition for each table and key.
+//! `read_manifest` is the crate's only function. Its contract names one definition, `manifest_of`
+//! of `specs/Document.antt`, which is composed of one small definition for each table and key.
 #![tactic(auto)]
 
 mod dependency;

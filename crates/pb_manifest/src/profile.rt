@@ -87,7 +87,7 @@ fn build_override_at(table: &Table) -> Result<Option<ProfileKeys>, ManifestFault
     }
 }
 
-/// Returns whether a profile exists without being written.
+/// Returns whether a profile is built in: it exists even if no manifest contains it.
 #[tactic(auto, unfolding(crate::specs::Profiles::is_built_in))]
 fn is_built_in(name: &str) -> bool
     ensures { result ≡ is_built_in name.now }
@@ -103,7 +103,7 @@ fn may_be_profile(name: &str, inherits: &Option<Text>) -> bool
     is_built_in(name) || (is_name(name) && name != "debug" && inherits.is_some())
 }
 
-/// Returns a profile that is a table.
+/// Returns the profile that a table describes.
 fn profile_of_table(alloc: Global, name: &str, table: &Table) -> Result<Profile, ManifestFault>
     ensures { UnlessOom result (profile_of_table name.now (table_view table.now)) }
 {

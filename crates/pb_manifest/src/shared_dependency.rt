@@ -54,7 +54,7 @@ fn shared_source_of(
     }
 }
 
-/// Returns an entry that is a table.
+/// Returns the entry that a table describes.
 fn shared_dependency_keys(
     alloc: Global,
     name: &str,
@@ -79,7 +79,7 @@ fn shared_dependency_keys(
     })
 }
 
-/// Returns an entry that is a version, and therefore has no path.
+/// Returns the entry that is written as a version only. Such an entry has no path.
 fn shared_version(
     alloc: Global,
     name: &str,

@@ -44,7 +44,7 @@ pub fn workspaces_say()
 /// - Bytes are read as a manifest if and only if they are the bytes of such a document.
 /// - A document means at most one manifest.
 /// - The written form of a manifest that was read, each key with its value, is read as the same
-/// manifest. The same is true of a text that prints the written form as `toml` does.
+///   manifest. The same is true of a text that prints the written form as `toml` does.
 pub fn manifests_say()
     ensures documents { ReadsDocuments }
     ensures manifests { ReadsManifests }

@@ -8,8 +8,8 @@ use std::alloc::{AllocError, Global};
 /// The package that an entry with a path requests.
 #[derive(Drop)]
 pub struct PathSource {
-    /// The package's folder, relative to the manifest's folder, or in `[workspace.dependencies]`
-    /// relative to the workspace's root.
+    /// The path of the package's folder. The path is relative to the manifest's folder. In
+    /// `[workspace.dependencies]` it is relative to the workspace's root.
     pub path: WrittenPath,
     /// The package's name. `None` means the entry's key.
     pub package: Option<Text>,

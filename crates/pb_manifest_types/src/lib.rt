@@ -1,7 +1,7 @@
 //! The contents of a manifest, by The Cargo Book: its types, and why a manifest is refused.
 //!
-//! `pb_manifest` reads a manifest. The fields of each type describe their possible values.
-//! The types of versions, requirements and paths guarantee that these are valid.
+//! `pb_manifest` reads a manifest. The fields of each type describe their possible values. The
+//! types of versions, requirements and paths have only valid values.
 #![tactic(auto)]
 
 mod crate_names;

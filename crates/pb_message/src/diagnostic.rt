@@ -11,7 +11,7 @@ use pb_directive::texts::text_of;
 use serde_json::Value;
 use std::alloc::{AllocError, Global};
 
-/// Returns whether a text is a JSON object. The empty text is no JSON object, and is not parsed.
+/// Returns whether a text is a JSON object. The empty text is not a JSON object, and is not parsed.
 fn reads_as_object(alloc: Global, text: &str) -> Result<bool, AllocError>
     ensures { IfOk result (λ answer. answer ≡ reads_as_object (read text.now)) }
 {
@@ -30,7 +30,7 @@ fn reads_as_object(alloc: Global, text: &str) -> Result<bool, AllocError>
     }
 }
 
-/// Returns a line of standard error as a diagnostic, or none if the line is no JSON object.
+/// Returns a line of standard error as a diagnostic, or none if the line is not a JSON object.
 fn diagnostic_in(alloc: Global, line: &[u8]) -> Result<Option<&str>, AllocError>
     ensures { IfOk result (λ found. option_map (λ text. text.now) found ≡ diagnostic_in line.now) }
 {

@@ -65,7 +65,8 @@ fn required_text(alloc: Global, features: &[Text]) -> Result<String, AllocError>
     }
 }
 
-/// Returns the target object with these values in JSON, and the member for required features.
+/// Returns the object of a target. `required` is the member for required features, and the other
+/// values are JSON.
 #[tactic(auto, unfolding(crate::specs::Message::target_object))]
 fn target_object(
     alloc: Global,
@@ -119,8 +120,8 @@ fn target_text(alloc: Global, target: &Target) -> Result<String, AllocError>
     )
 }
 
-/// Returns the members with which the lines of a compiled unit begin, from its package and, in
-/// JSON, its manifest and target.
+/// Returns the first members, after the reason, of the lines of a compiled unit. `manifest` and
+/// `target` are JSON.
 #[tactic(auto, unfolding(crate::specs::Message::subject_object))]
 fn subject_object(
     alloc: Global,
@@ -137,7 +138,7 @@ fn subject_object(
     )
 }
 
-/// Returns the members with which the lines of a compiled unit begin, after their reason.
+/// Returns the first members, after the reason, of the lines of a compiled unit.
 fn subject_text(alloc: Global, subject: &Subject) -> Result<String, AllocError>
     ensures { IfOk result (λ text. string_bytes text ≡ subject_text subject.now) }
 {
@@ -210,7 +211,7 @@ fn executable_text(alloc: Global, artifact: &Artifact) -> Result<String, AllocEr
     }
 }
 
-/// Adds the line of an artifact with these values in JSON.
+/// Adds the line of an artifact. The values are JSON.
 #[tactic(auto, unfolding(crate::specs::Message::artifact_object))]
 fn push_artifact_object(
     out: &mut String,
@@ -280,7 +281,7 @@ fn level_text(level: Level) -> &'static str
     }
 }
 
-/// Adds the line of a note with this level, and this text in JSON.
+/// Adds the line of a note. The level is a word, and the text is JSON.
 #[tactic(auto, unfolding(crate::specs::Message::note_object))]
 fn push_note_object(out: &mut String, id: &str, level: &str, text: &str) -> Result<(), AllocError>
     ensures { OnOk result (string_bytes out.new ≡ string_bytes out.old
@@ -315,7 +316,7 @@ fn push_note(
     push_note_object(out, id, level_text(level), json.as_str())
 }
 
-/// Adds the line of an executed script with these values in JSON.
+/// Adds the line of an executed script. The values are JSON.
 #[tactic(auto, unfolding(crate::specs::Message::executed_object))]
 fn push_executed_object(
     out: &mut String,
@@ -375,7 +376,7 @@ fn push_executed(
     )
 }
 
-/// Adds the line of a message after its unit's first members.
+/// Adds the line of a message. `subject` contains the members that begin the lines of a compile.
 fn push_line(
     alloc: Global,
     out: &mut String,
@@ -395,7 +396,7 @@ fn push_line(
     }
 }
 
-/// Adds the lines of messages after their unit's first members.
+/// Adds the lines of messages. `subject` contains the members that begin the lines of a compile.
 fn push_lines(
     alloc: Global,
     out: &mut String,

@@ -18,7 +18,7 @@ pub enum Level {
 pub struct Artifact {
     /// The settings under which it was compiled.
     pub settings: Settings,
-    /// The features of its package that are on, in byte order.
+    /// Those features of its package that are on, in byte order.
     pub features: Items<Text>,
     /// The file.
     pub file: PathText,

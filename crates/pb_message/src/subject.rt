@@ -28,7 +28,7 @@ pub struct Target {
     pub required_features: Items<Text>,
 }
 
-/// The package and the target of lines.
+/// The package and the target that message lines describe.
 #[derive(Drop)]
 pub struct Subject {
     /// The package's name.

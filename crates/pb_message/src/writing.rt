@@ -11,8 +11,8 @@ use pb_place_types::{Out, write_all};
 #[derive(Clone, Copy, Debug, PartialEq, Eq)]
 pub struct SinkFault;
 
-/// Writes lines into a sink. After success all bytes are written. After an error only the first n
-/// bytes are written, but not all.
+/// Writes lines into a sink. After success all bytes are written. After an error a prefix of the
+/// bytes is written, but not all of them.
 ///
 /// Errors: `SinkFault`, if the sink fails, or takes no byte of a write. In this case the number of
 /// the sink's failures has risen, and nothing more is written.

@@ -20,9 +20,9 @@ pub fn diagnostics_are_lines()
     ensures { DiagnosticsAreLines }
 {}
 
-/// A law: messages of one package and target with the same line are of the same kind. If the
-/// messages are diagnostics or notes, the messages are equal. For artifacts and executed scripts we
-/// promise no more, since the lines of these messages contain less than the messages.
+/// A law: if two messages of one package and target have the same line, the messages are of the
+/// same kind. If they are diagnostics or notes, the messages are equal. For artifacts and executed
+/// scripts we promise no more, since the lines of these messages contain less than the messages.
 pub fn lines_tell_messages()
     ensures { LinesTellMessages }
 {}

@@ -318,10 +318,12 @@ fn both(alloc: Global, ended: &Ended) -> Result<Bytes, AllocError>
     Ok(Bytes::new(said))
 }
 
-/// Returns the output of a bad unit's child, except what messages contain (our own choice). If a
-/// stream is too long, the result is empty. For a script that reported an error, the result is
-/// standard error. For any other script, the result is both streams. For a compile, the result is
-/// the lines that are not diagnostics.
+/// Returns the output of a bad unit's child, except what messages contain (our own choice):
+///
+/// - If a stream is too long, the result is empty.
+/// - For a script that reported an error, the result is standard error.
+/// - For any other script, the result is both streams.
+/// - For a compile, the result is the lines that are not diagnostics.
 ///
 /// Errors: out of memory.
 pub fn said_by(

@@ -72,7 +72,7 @@ fn script_of(
     }
 }
 
-/// Returns the target of a package that a unit compiles or runs, if the package has this target.
+/// Returns the target that a unit compiles or runs, if its package has this target.
 fn target_of(alloc: Global, owner: &Package, what: &What) -> Result<Option<Target>, AllocError>
     ensures { IfOk result (λ made. made ≡ target_of owner.now what.now) }
 {

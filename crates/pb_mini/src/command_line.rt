@@ -339,7 +339,7 @@ fn dep_info_name(alloc: Global, name: &str) -> Result<Text, AllocError>
 
 /// Returns a name as a file inside the output folder.
 ///
-/// Errors: `Bad`, if the name is no file name; `OutOfMemory`.
+/// Errors: `Bad`, if the name is not a file name; `OutOfMemory`.
 fn file_named(alloc: Global, name: Text) -> Result<RelativePath, CommandLineFault>
     ensures { UnlessOom fault.OutOfMemory (λ file. file) result (file_named name) }
 {
@@ -351,7 +351,7 @@ fn file_named(alloc: Global, name: Text) -> Result<RelativePath, CommandLineFaul
 
 /// Returns the output folder.
 ///
-/// Errors: `Bad`, if the text is no absolute path; `OutOfMemory`.
+/// Errors: `Bad`, if the text is not an absolute path; `OutOfMemory`.
 fn folder_of(alloc: Global, text: &str) -> Result<PathText, CommandLineFault>
     ensures { UnlessOom fault.OutOfMemory (λ folder. folder) result (folder_of text.now) }
 {
@@ -399,7 +399,7 @@ fn once_in(alloc: Global, said: &Arguments) -> Result<Once, CommandLineFault>
 
 /// Returns the file of the image.
 ///
-/// Errors: `Bad`, if the crate's name is no file name; `OutOfMemory`.
+/// Errors: `Bad`, if the crate's name is not a file name; `OutOfMemory`.
 fn image_named(alloc: Global, once: &Once) -> Result<RelativePath, CommandLineFault>
     ensures { UnlessOom fault.OutOfMemory (λ file.
         file) result (file_named (image_name once.now.crate_type once.now.crate_name)) }
@@ -410,7 +410,7 @@ fn image_named(alloc: Global, once: &Once) -> Result<RelativePath, CommandLineFa
 
 /// Returns the file of the dep-info.
 ///
-/// Errors: `Bad`, if the crate's name is no file name; `OutOfMemory`.
+/// Errors: `Bad`, if the crate's name is not a file name; `OutOfMemory`.
 fn dep_info_named(alloc: Global, once: &Once) -> Result<RelativePath, CommandLineFault>
     ensures { UnlessOom fault.OutOfMemory (λ file.
         file) result (file_named (dep_info_name once.now.crate_name)) }
@@ -437,8 +437,11 @@ fn outputs_of(alloc: Global, once: &Once) -> Result<Outputs, CommandLineFault>
 
 /// Returns the values that occur once, and the values that follow from them.
 ///
-/// Errors: `Bad`, if a value that must occur once is absent or repeated, or if a name or a folder
-/// is invalid; `OutOfMemory`.
+/// Errors:
+///
+/// - `Bad`, if a value that must occur once is absent or repeated, or if a name or a folder is
+///   invalid.
+/// - `OutOfMemory`.
 fn settled_by(alloc: Global, said: &Arguments) -> Result<Settled, CommandLineFault>
     ensures { UnlessOom fault.OutOfMemory (λ settled. settled) result (settled_by said.now) }
 {
@@ -455,12 +458,13 @@ fn settled_by(alloc: Global, said: &Arguments) -> Result<Settled, CommandLineFau
     })
 }
 
-/// Returns the compile of these arguments. `--crate-name` and `--out-dir` must occur once, and
-/// `--crate-type` at least once. The other options may occur with their values, and so may settings
-/// in one argument. One more argument is the source.
+/// Returns the compile that these arguments request. `--crate-name` and `--out-dir` must occur
+/// once, and `--crate-type` at least once. The other options may occur with their values. Settings
+/// in one argument, such as `--edition=2021`, may occur. Exactly one more argument must occur: the
+/// source.
 ///
-/// Errors: `Bad`, for any other arguments; `OutOfMemory`. By our own choice, `Bad` includes an
-/// output folder that is no absolute path, and a crate name that is no file name.
+/// Errors: `OutOfMemory`, and `Bad` for any other arguments. By our own choice, `Bad` includes an
+/// output folder that is not an absolute path, and a crate name that is not a file name.
 pub(crate) fn command_line_of(
     alloc: Global,
     words: &[Text],

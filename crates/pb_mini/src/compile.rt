@@ -115,7 +115,7 @@ fn add_source<V: View>(
 /// The path of a source, and its text.
 #[derive(Drop)]
 pub struct Source {
-    /// None if the argument is no absolute path.
+    /// None if the argument is not an absolute path.
     pub path: Option<PathText>,
     /// None if there is no file, or if the file is not UTF-8.
     pub text: Option<Text>,

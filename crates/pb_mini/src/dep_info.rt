@@ -77,14 +77,14 @@ fn rule_text(alloc: Global, output: &PathText, paths: &[Text]) -> Result<Vec<u8>
     Ok(text)
 }
 
-/// Returns the variables among names.
+/// Returns the variables in `names`.
 fn variables_of(alloc: Global, names: Names) -> Result<Items<(Text, Option<Text>)>, AllocError>
     ensures { IfOk result (λ variables. variables ≡ names.variables) }
 {
     names.variables.into_items(alloc)
 }
 
-/// Returns a text, and then the lines of the variables among names.
+/// Returns a text followed by the lines of the variables in `names`.
 fn with_variables(alloc: Global, text: Vec<u8>, names: Names) -> Result<Vec<u8>, AllocError>
     ensures { IfOk result (λ whole. whole.items ≡ text.items ++ variables_text names.variables) }
 {

@@ -15,7 +15,7 @@ use std::alloc::{AllocError, Global};
 /// The effects of the lines of a source, together.
 #[derive(Drop)]
 pub struct Effects {
-    /// The lines of the image after its first, each with its line feed.
+    /// The lines of the image after the first line, each with its line feed.
     pub image: Buffer,
     /// The diagnostics about the lines.
     pub diagnostics: Items<Diagnostic>,
@@ -78,7 +78,7 @@ pub(crate) fn add_copied(effects: &mut Effects, line: &str) -> Result<(), AllocE
     Ok(())
 }
 
-/// Adds each line of a file to the image, after a mark.
+/// Adds the lines of a file to the image, each after a mark.
 pub(crate) fn add_file(
     alloc: Global,
     effects: &mut Effects,

@@ -10,7 +10,7 @@ use pb_data::{Bytes, Table, Text, TryCopy};
 use pb_place_types::{PathFault, PathText, View, ViewFault};
 use std::alloc::{AllocError, Global};
 
-/// Returns the path of a text, or none if the text is no absolute path.
+/// Returns the path of a text, or none if the text is not an absolute path.
 pub(crate) fn path_of(alloc: Global, text: &str) -> Result<Option<PathText>, AllocError>
     ensures { IfOk result (λ path. path ≡ path_of text.now) }
 {

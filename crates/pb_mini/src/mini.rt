@@ -110,15 +110,20 @@ fn reply_to<V: View>(
 /// If there is no image, the status is 2, with `mini: no image` on standard error.
 ///
 /// Our own choices: if the path of the source is not absolute, the error is also `no source`. An
-/// output folder that is no absolute path, or a crate name that is no file name, is a bad command
-/// line. A library whose path is not absolute has no file. A line of an image that is not UTF-8 is
-/// ignored.
+/// output folder that is not an absolute path, or a crate name that is not a file name, is a bad
+/// command line. A library whose path is not absolute has no file. A line of an image is ignored if
+/// it is not UTF-8.
 ///
 /// `pairs` are names and values that override the variables of the view. If several pairs have the
 /// same name, the last one counts.
 ///
-/// Errors: `Failed`, only if the view fails; `OutOfMemory`. A view of real files does not report
-/// what it shows. For such a view, no clause promises what the reply is.
+/// Errors:
+///
+/// - `Failed`, only if the view fails.
+/// - `OutOfMemory`.
+///
+/// A view of real files does not report what it shows. For such a view, no clause promises what the
+/// reply is.
 ///
 /// The arguments are those that Cargo passes to a compiler; the language of the source is our own
 /// choice.
@@ -150,7 +155,8 @@ pub fn answer<V: View>(
     }
 }
 
-/// The small compiler as a child. A reply depends only on the arguments, the pairs and what the view shows.
+/// The small compiler as a child. A reply depends only on the arguments, the pairs and what the
+/// view shows.
 #[derive(Clone, Copy, Debug)]
 pub struct Mini;
 

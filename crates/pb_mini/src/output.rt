@@ -13,8 +13,8 @@ use std::alloc::Global;
 pub struct Output {
     /// All that it wrote to standard output.
     pub stdout: Buffer,
-    /// The files that it put in its folder, by their names. If two have the same name, the later
-    /// one counts.
+    /// The files that the script put in its folder, by their names. If two files have the same
+    /// name, the later file counts.
     pub files: Items<(RelativePath, Bytes)>,
 }
 

@@ -31,7 +31,7 @@ fn compile_in(alloc: Global, words: &[Text]) -> Result<Request, CommandLineFault
 /// Returns the request of some arguments. `-vV` alone requests the version. `--run` with one more
 /// argument requests the run of an image. Other arguments request a compile.
 ///
-/// Errors: `Bad`, if the arguments are no valid request; `OutOfMemory`.
+/// Errors: `Bad`, if the arguments are not a valid request; `OutOfMemory`.
 pub(crate) fn request_of(alloc: Global, words: &[Text]) -> Result<Request, CommandLineFault>
     ensures { UnlessOom fault.OutOfMemory (λ request. request) result (request_of words.now) }
 {

@@ -38,7 +38,8 @@ fn add_library(alloc: Global, libraries: &mut Table<Text>, written: &str) -> Res
     Ok(())
 }
 
-/// Returns the libraries with their files; the first counts if several have the same name.
+/// Returns the libraries with their files. If several libraries have the same name, the first one
+/// counts.
 fn libraries_of(alloc: Global, externs: &[Text]) -> Result<Table<Text>, AllocError>
     ensures { IfOk result (λ libraries. libraries ≡ libraries_of externs.now) }
 {

@@ -20,7 +20,7 @@ use std::alloc::{AllocError, Global};
 /// What a line does, by its first word.
 #[derive(Clone, Copy)]
 pub enum Deed {
-    /// Prints the rest.
+    /// Prints the rest of the line.
     Print,
     /// Shows a variable.
     Show,
@@ -30,7 +30,7 @@ pub enum Deed {
     Put,
     /// Ends the script.
     Exit,
-    /// Nothing.
+    /// Does nothing.
     Skip,
 }
 
@@ -178,7 +178,7 @@ fn full_path<V: View>(
     Ok(text)
 }
 
-/// Returns a text as a path, or none if it is no absolute path.
+/// Returns a text as a path, or none if it is not an absolute path.
 fn path_in(alloc: Global, text: Text) -> Result<Option<PathText>, AllocError>
     ensures { IfOk result (λ path. path ≡ path_of text) }
 {
@@ -208,8 +208,8 @@ fn has_slash(text: &str) -> bool
     text.as_bytes().iter().any(|byte| *byte == b'/')
 }
 
-/// Returns the path of a file with this name in the output folder, or none if the name is no file
-/// name.
+/// Returns the path of a file with this name in the output folder, or none if the name is not a
+/// file name.
 fn file_named(alloc: Global, name: &str) -> Result<Option<RelativePath>, AllocError>
     ensures { IfOk result (λ path. path ≡ (if is_file_name name.now then Some name.now else None)) }
 {
@@ -220,8 +220,8 @@ fn file_named(alloc: Global, name: &str) -> Result<Option<RelativePath>, AllocEr
     Ok(RelativePath::of(name))
 }
 
-/// Carries out `put NAME TEXT`. If NAME is no file name, returns the status with which the script
-/// ends.
+/// Carries out `put NAME TEXT`. If NAME is not a file name, returns the status with which the
+/// script ends.
 fn put(alloc: Global, output: &mut Output, name: &str, text: &str) -> Result<Option<u8>, AllocError>
     ensures { IfOk result (λ ends. Goes ends output.new output.old (was_put name.now text.now)) }
 {
@@ -269,7 +269,7 @@ fn status_in(text: &str) -> u8
     }
 }
 
-/// Returns the status of three digits.
+/// Returns the status that three digits spell.
 fn three_digits(a: u8, b: u8, c: u8) -> u8
     ensures { result ≡ three_digits a b c }
 {

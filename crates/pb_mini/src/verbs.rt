@@ -26,13 +26,13 @@ pub enum Verb {
     Include,
     /// The value of a variable is added to the image.
     Env,
-    /// A warning with the rest as its message.
+    /// A warning is reported. The rest of the line is its message.
     Warn,
-    /// An error with the rest as its message.
+    /// An error is reported. The rest of the line is its message.
     Fail,
     /// The line is added to the image unchanged. A run of the image carries it out.
     Copied,
-    /// No verb of the language.
+    /// The word is not a verb of the language.
     Unknown,
 }
 
@@ -79,7 +79,7 @@ fn is_given(alloc: Global, given: &OrderedSet, condition: &str) -> Result<bool, 
     Ok(given.contains(&condition))
 }
 
-/// Returns the condition and the line of a line `when COND LINE`, or none for any other line.
+/// Returns COND and LINE of a line `when COND LINE`, or none for any other line.
 
 fn condition_of(line: &str) -> Option<(&str, &str)>
     ensures line { (given : List (List ℕ)) → line_meant given line.now

@@ -47,16 +47,20 @@ pub fn small_builds_give<T: Turn>()
     ensures { SmallBuildsGive T.turns }
 {}
 
-/// A law about a build of a session with the small compiler. Suppose that before it there were only
-/// edits outside of the folder of its records, and builds as in `small_builds_give`. Then the build
-/// produces what a clean build of the present workspace produces. If a fault ends the build, only
-/// the first of these lines have been written.
+/// A law about a build of a session with the small compiler. Suppose that only edits and builds
+/// came before this build. The edits were outside of the folder of its records, and the builds were
+/// as in `small_builds_give`. Then the build produces what a clean build of the present workspace
+/// produces. If a fault ends the build, only a prefix of these lines has been written.
 ///
 /// If a session file begins without files, the same is true of each of its builds under fewer
-/// conditions. Any two target folders are the same, or neither is inside the other. Edits stay out
-/// of these folders, or remove a whole folder. A profile is a name, `RUSTFLAGS` contains no
-/// `--extern`, and the compiler can report what it reads. The form of a session file ensures the
-/// other conditions.
+/// conditions:
+///
+/// - Any two target folders are the same, or neither is inside the other.
+/// - Each edit stays out of these folders, or removes a whole folder.
+/// - The name of a profile has the letters of package names.
+/// - `RUSTFLAGS` contains no `--extern`, and the small compiler can report what it reads.
+///
+/// The form of a session file ensures the other conditions.
 pub fn small_sessions_give()
     ensures records { SmallSessionsGive }
     ensures files { SessionFilesGive }

@@ -64,7 +64,7 @@ fn out_dir_in(words: &[Text]) -> Option<&Text>
     None
 }
 
-/// Returns the folder of a text, or none if the text is no absolute path.
+/// Returns the folder of a text, or none if the text is not an absolute path.
 fn path_of(alloc: Global, text: &str) -> Result<Option<PathText>, AllocError>
     ensures { IfOk result (λ path. path ≡ path_of text.now) }
 {

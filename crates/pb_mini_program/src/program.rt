@@ -1,4 +1,4 @@
-//! What the program does.
+//! The work of the program `pb_mini`: it replies, and writes the files and streams of the reply.
 
 ghost use Rattle.std.specs.Prelude.{◌≡◌, ◌≢◌, ◌⊎◌, ℕ, List, [], Option, Some, OnOk, IfOk, IfErr, IsTrue};
 ghost use Rattle.std.specs.Io.KnownBytes.{Appends};
@@ -18,8 +18,7 @@ use std::alloc::Global;
 
 /// Writes files in a folder, one after another, at their paths relative to the folder.
 ///
-/// Errors: `Write`; `OutOfMemory`. In this case the files before the failing file have been
-/// written.
+/// Errors: `Write`; `OutOfMemory`. Then the files before the failing file have been written.
 fn write_files<P: Place>(
     alloc: Global,
     place: &mut P,
@@ -46,7 +45,11 @@ fn write_files<P: Place>(
 
 /// Writes the files of a reply in its output folder, if there is an output folder.
 ///
-/// Errors: `Read`, if the view fails; `Write`, if a file cannot be written; `OutOfMemory`.
+/// Errors:
+///
+/// - `Read`, if the view fails.
+/// - `Write`, if a file cannot be written.
+/// - `OutOfMemory`.
 fn leave_files<P: Place, V: View>(
     alloc: Global,
     words: &[Text],
@@ -62,7 +65,7 @@ fn leave_files<P: Place, V: View>(
         × IsFolderOf V.is_modelled words.now (V.shown view.now) files.now folder
         × PutsIn P.is_modelled folder files.now (kept (P.at place.old)) (kept (P.at place.new))) }
 
-    // Why it fails:
+    // If the call fails:
     ensures read { IfErr result (λ e. e ≡ Fault.Read → V.fails view.now
         × (place.new ≡ place.old)) }
     ensures write { IfErr result (λ e. e ≡ Fault.Write → (folder : List ℕ)
@@ -120,7 +123,7 @@ pub fn carry_out<V: View, P: Place, O: Out, E: Out>(
         (outside (P.at place.old) (O.heard out.old) (E.heard err.old))
         (outside (P.at place.new) (O.heard out.new) (E.heard err.new))) }
 
-    // Why it fails:
+    // If the call fails:
     ensures read { IfErr result (λ e. e ≡ Fault.Read → V.fails view.now
         × (place.new ≡ place.old) × (out.new ≡ out.old) × (err.new ≡ err.old)) }
     ensures write { IfErr result (λ e. e ≡ Fault.Write → (reply : Reply)

@@ -10,8 +10,9 @@ ghost use Rattle.pb_place.specs.Memory.{is_for, fate_of, other_deaths};
 use pb_data::Text;
 use pb_place_types::{ChildInFlight, PathText, StartFault};
 
-/// A child in flight, and what a place stores with it. A place in memory stores the fault that the
-/// child's end will return, if it will return a fault. A real place stores the running child.
+/// A child in flight, and what a place stores with the child. A place in memory stores the fault
+/// with which the child will end, if it will end with a fault. A real place stores the running
+/// child.
 #[derive(Drop)]
 pub struct Flying<K> {
     /// The child.

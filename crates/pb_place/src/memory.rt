@@ -166,9 +166,9 @@ impl<C> Memory<C> {
         self.fuse = number;
     }
 
-    /// Makes the next start whose folder has this name fail with this fault. If there are two
-    /// settings for the same name, the earlier one is used first. A start that fails by the fuse,
-    /// or runs out of memory, leaves the setting for the next start.
+    /// Sets a start to fail: the next start whose folder has this name fails with this fault. If
+    /// there are two settings for the same name, the earlier one is used first. A start that fails
+    /// by the fuse, or runs out of memory, leaves the setting for the next start.
     ///
     /// `CannotStart` occurs at the spawn, which changes nothing. Any other fault occurs at the end.
     /// Then only the first half of the reply's files remains, in byte order; the half's length is

@@ -99,7 +99,7 @@ impl Tally {
         }
     }
 
-    /// Counts a fault of the outside. The call itself is counted separately.
+    /// Counts a fault of the outside world. The call itself is counted separately.
     pub fn fail(&mut self, failure: Failure)
         ensures { self.new ≡ past_fault failure self.old }
     {

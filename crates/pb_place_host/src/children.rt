@@ -1,4 +1,4 @@
-//! Children of the machine, as a place keeps them.
+//! The machine's child processes: how they are started, and what a place stores about them.
 
 ghost use Rattle.std.specs.Prelude.{◌≡◌, ◌+◌, ◌<◌, ◌++◌, ◌∷◌, [], length, max, IfOk};
 ghost use Rattle.std.specs.Vec.{vec_len, vec_capacity};
@@ -91,8 +91,8 @@ pub(crate) fn child_in_flight(
     })
 }
 
-/// Adds a child in flight, for which space is reserved, and returns the most children that were
-/// ever in flight.
+/// Adds a child in flight, for which space is reserved, and returns the greatest number of children
+/// that were ever in flight at a time.
 #[tactic(auto, using(pb_place::proofs::InFlight::fly_laws))]
 pub(crate) fn add_child<K: Drop>(flying: &mut Vec<Flying<K>>, most: u64, one: Flying<K>) -> u64
     requires room { vec_len flying.old < vec_capacity flying.old }

@@ -7,9 +7,9 @@ use std::alloc::Global;
 use std::rt::Files;
 use std::{fs, io};
 
-/// Returns what is at an entry whose links lead further than the system follows links. Nothing is
-/// there if the entry's own link leads in a circle. Otherwise the entry is too deep: a link to a
-/// folder above this link is followed again and again.
+/// Returns what is at an entry for which the system gave up following links. If the entry's own
+/// link leads in a circle, nothing is there. Otherwise the entry is too deep: some link leads to a
+/// folder above the link, so that it is followed again and again.
 fn standing_in_circle<R: Files + AllocGlobal>(
     runtime: &R,
     alloc: Global,

@@ -31,7 +31,7 @@ use std::rt::{Env, Files};
 /// A place of real files, variables and children, over a runtime. Contracts do not see the maps of
 /// this place, since no contract can say what a disk contains. Calls are counted as at every place.
 ///
-/// The place follows links. The rest is our own choice, as are the limits of the other formats:
+/// The place follows links. The following rules and limits are our own choice:
 /// - A path is absent if nothing is there, if its link leads nowhere, or if something other than a
 ///   file or a folder is there.
 /// - Reading fails for a file of more than 4,294,967,296 bytes, and for a variable whose value is
@@ -157,13 +157,14 @@ impl<'a, R: Files + Env + Processes + AllocGlobal> HostPlace<'a, R> {
         }
     }
 
-    /// Returns whether a path that the child with an output folder read has moved.
+    /// Returns whether the child with this output folder read a path that has moved.
     fn has_moved(&self, out: &PathText) -> bool {
         self.moved.iter().any(|moved| &moved.out == out)
     }
 
-    /// Remembers a path at or below this path that has moved, if there is such a path, for the
-    /// child with an output folder. If the place cannot find out, the given path counts as moved.
+    /// Looks at a path and below it for a path that has moved since the child with this output
+    /// folder was spawned. Remembers the first such path. If the time of the spawn is unknown, the
+    /// given path counts as moved. Nothing is done if a moved path is already known for this child.
     fn look_for(
         &mut self,
         alloc: Global,

@@ -12,8 +12,8 @@ use std::rt::{Env, Files};
 ///
 /// Links are followed. A path has no file if nothing is there, if its link leads nowhere, or if
 /// something else is there, such as a folder. A look fails for a file of more than 4,294,967,296
-/// bytes, a file that cannot be read, and a variable whose value is not UTF-8. What fails is our
-/// own choice, as are the limits of the other formats.
+/// bytes, a file that cannot be read, and a variable whose value is not UTF-8. These rules and
+/// limits are our own choice.
 #[derive(Drop)]
 pub struct HostView<'a, R> {
     runtime: &'a R,

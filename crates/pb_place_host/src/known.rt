@@ -147,8 +147,8 @@ fn call_text(
     format!(in alloc; "cannot {verb} {path}: {}", reason.as_str())
 }
 
-/// Returns what a call on a path answered, and remembers the failure of the call. A failure becomes
-/// the call's own fault, except that out of memory is not changed.
+/// Returns what a call on a path answered, and remembers the failure of the call. If memory ran
+/// out, the fault is `OutOfMemory`. Any other failure becomes the call's own fault.
 pub(crate) fn note_answer<T>(
     alloc: Global,
     known: &mut Known,
@@ -279,8 +279,8 @@ fn status_text(alloc: Global, command: &Command, output: &Output) -> Result<Stri
     Ok(text)
 }
 
-/// Returns the report on a child without an output folder that answered: its status, and the first
-/// lines of its standard error.
+/// Returns the report on the answer of a child without an output folder: the status, and the first
+/// lines of standard error.
 fn query_report(alloc: Global, command: &Command, output: &Output) -> Report {
     let mut report = report_of(alloc, status_text(alloc, command, output));
     for line in first_text(output.stderr.as_slice()).lines() {

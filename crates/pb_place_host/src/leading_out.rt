@@ -11,7 +11,8 @@ use std::rt::Files;
 /// The end of the name of the output folder of a script's run.
 const RUN: &str = ".run";
 
-/// The greatest number of links and folders that are looked at. There are no notes on further links.
+/// The greatest number of links and folders that are looked at. There are no notes on further
+/// links.
 const MOST_LOOKS: usize = 100_000;
 
 /// A search for the links that a script left: the target folder, what the script printed, and the

@@ -1,5 +1,5 @@
-//! The machine that the programs run on: real files, variables
-//! and children, behind the traits of the outside world.
+//! The machine that the programs run on: real files, variables and children, behind the traits of
+//! the outside world.
 #![tactic(auto)]
 
 mod children;

@@ -87,8 +87,11 @@ fn add_folder(found: &mut Found, path: PathText, above: u8) -> Result<(), Failed
 
 /// Adds an entry of a folder: a file to the found files, a folder to the waiting folders.
 ///
-/// Errors: `List`, if the entry's name is not a name of a path, if the kind of the entry is
-/// unknown, or if the entry is a folder that is too deep; `OutOfMemory`.
+/// Errors:
+///
+/// - `List`, if the entry's name is not a name of a path, if the kind of the entry is unknown, or
+///   if the entry is a folder that is too deep.
+/// - `OutOfMemory`.
 fn take_entry<R: Files + AllocGlobal>(
     runtime: &R,
     alloc: Global,
@@ -119,8 +122,8 @@ fn take_entry<R: Files + AllocGlobal>(
     }
 }
 
-/// Returns whether an error means that there is no such folder, and this folder is the listed
-/// folder. The listed folder need not exist.
+/// Returns whether an error means only that the listed folder itself does not exist. The listed
+/// folder need not exist.
 fn may_be_absent(here: &Waiting, error: &io::Error) -> bool {
     here.depth == 0 && says_absent(error)
 }
@@ -166,7 +169,7 @@ fn untold(error: io::Error) -> Failed {
 
 /// Adds an entry that a folder reports.
 ///
-/// Errors: a failure that the folder reports; the errors of `take_entry`.
+/// Errors: a failure that the folder reports, and the errors of `take_entry`.
 fn take_told<R: Files + AllocGlobal>(
     runtime: &R,
     alloc: Global,
@@ -224,8 +227,8 @@ fn take_folder<R: Files + AllocGlobal>(
     }
 }
 
-/// Returns all files below a folder that are not left out, in the order in which they are found.
-/// Folders are listed one after another. The folder that was found last is listed first.
+/// Returns the files below a folder, except files that are left out, in the order in which they are
+/// found. Folders are listed one after another. The folder that was found last is listed first.
 fn files_found<R: Files + AllocGlobal>(
     runtime: &R,
     alloc: Global,
@@ -304,8 +307,8 @@ pub(crate) fn found_here<R: Files + AllocGlobal>(
     Ok(found)
 }
 
-/// Returns the paths of all files below a folder that are not left out, in byte order. Returns no
-/// paths if no folder is at the path.
+/// Returns the paths of the files below a folder, in byte order, except files that are left out.
+/// Returns no paths if no folder is at the path.
 fn files_listed<R: Files + AllocGlobal>(
     runtime: &R,
     alloc: Global,
@@ -385,9 +388,9 @@ fn folders_of(alloc: Global, waiting: Vec<Waiting>) -> Result<Vec<PathText>, Fai
     Ok(folders)
 }
 
-/// Returns the paths of the folders directly in a folder that are not left out, in byte order.
-/// Returns no paths if no folder is at the path. The call does not look into these folders, so
-/// nothing in them can make the call fail. A name that is not UTF-8 is skipped.
+/// Returns the paths of the folders directly in a folder, in byte order, except folders that are
+/// left out. Returns no paths if no folder is at the path. The call does not look into these
+/// folders, so nothing in them can make the call fail. A name that is not UTF-8 is skipped.
 pub(crate) fn folders_directly<R: Files + AllocGlobal>(
     runtime: &R,
     alloc: Global,

@@ -13,8 +13,8 @@ fn is_link<R: Files>(runtime: &R, path: &PathText) -> bool {
     }
 }
 
-/// Returns the path to which the system leads. Returns `None` if the system leads nowhere, or to a
-/// path that `PathText` does not allow.
+/// Returns the path to which the system leads from a path, after following links. Returns `None` if
+/// the system leads nowhere, or to a path that `PathText` does not allow.
 pub(crate) fn led_to<R: Files + AllocGlobal>(
     runtime: &R,
     alloc: Global,

@@ -20,7 +20,7 @@ pub(crate) struct Moment {
 /// What a look at a path shows.
 #[derive(Clone, Copy, Debug, PartialEq, Eq)]
 enum Sight {
-    /// Something that has changed since.
+    /// Something that has changed since the moment.
     Moved,
     /// A folder, which has not changed itself.
     Folder,
@@ -84,7 +84,7 @@ fn look<R: Files>(runtime: &R, since: Moment, path: &str) -> Sight {
 }
 
 /// Returns whether there may have been something at a path that is absent now. The answer is yes if
-/// the nearest existing folder above the path has changed since.
+/// the nearest existing folder above the path has changed since the given moment.
 fn is_gone<R: Files>(
     runtime: &R,
     alloc: Global,
@@ -143,7 +143,8 @@ fn has_moved<R: Files + AllocGlobal>(
     }
 }
 
-/// Returns whether a path below the watched one is skipped: a target folder, by its tag.
+/// Returns whether a path is skipped: it is below the watched path, and its tag marks it as a
+/// target folder.
 fn is_passed_over<R: Files + AllocGlobal>(
     runtime: &R,
     alloc: Global,

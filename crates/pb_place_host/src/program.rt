@@ -14,7 +14,7 @@ const WITHOUT_PATH: &str = "/bin:/usr/bin";
 /// The bits of a file's mode that let somebody run it.
 const MAY_RUN: u32 = 0o111;
 
-/// Returns whether a file that may be run is at a path, after following links.
+/// Returns whether there is a file that somebody may run at a path, after following links.
 fn is_program<R: Files>(runtime: &R, path: &str) -> bool {
     match fs::metadata(runtime, path) {
         Ok(metadata) => metadata.is_file() && metadata.mode() & MAY_RUN != 0,
@@ -22,8 +22,8 @@ fn is_program<R: Files>(runtime: &R, path: &str) -> bool {
     }
 }
 
-/// Returns the path of a name in a folder. The path of a folder that is not absolute starts at the
-/// current folder.
+/// Returns the path of a name in a folder. A relative path of a folder starts at the current
+/// folder.
 fn path_in<R: Files + Env + AllocGlobal>(
     runtime: &R,
     alloc: Global,
@@ -90,7 +90,7 @@ pub(crate) fn program_of<R: Files + Env + AllocGlobal>(
         Ok(folders) => found_in(runtime, alloc, folders.as_str(), name),
         Err(VarError::NotPresent) => found_in(runtime, alloc, WITHOUT_PATH, name),
         Err(VarError::OutOfMemory) => Err(io::Error::from(ErrorKind::OutOfMemory)),
-        // This error does not contain a path from this builder.
+        // `PATH` is not UTF-8. The error `not_found` contains no path from this builder.
         Err(VarError::NotUnicode) => Err(not_found()),
     }
 }

@@ -26,7 +26,7 @@ pub(crate) enum Standing {
     Nothing,
 }
 
-/// Returns why reading failed: out of memory, or a failure of the outside.
+/// Returns why reading failed: out of memory, or a failure of the outside world.
 pub(crate) fn fault_of(failed: Failed) -> ViewFault
     ensures memory { error_kind failed.error ≡ ErrorKind.OutOfMemory
         → result ≡ view_fault.OutOfMemory }

@@ -88,7 +88,7 @@ fn process_of(
     Ok(made)
 }
 
-/// Starts a process with an empty standard input, whose output is read later.
+/// Starts a process. Its standard input is empty, and its output is read later.
 fn begin<R: Processes>(runtime: &R, mut made: process::Command) -> io::Result<Child<R::Started>> {
     made.stdin(Stdio::null());
     made.stdout(Stdio::piped());
@@ -119,8 +119,11 @@ fn make_out<R: Files>(
 /// Starts the child of a command, after making the output folder. Returns the child with the moment
 /// at which the folder was made. Every later change counts as a change while the child runs.
 ///
-/// Errors: `CannotStart`, if the output folder cannot be made, or
-/// the program is not found or cannot be started; `OutOfMemory`.
+/// Errors:
+///
+/// - `CannotStart`, if the output folder cannot be made, or if the program is not found or cannot
+///   be started.
+/// - `OutOfMemory`.
 pub(crate) fn spawn<R: Files + Env + Processes + AllocGlobal>(
     runtime: &R,
     alloc: Global,

@@ -58,8 +58,10 @@ pub(crate) fn is_tagged<R: Files + AllocGlobal>(
 }
 
 /// Returns whether a link leads into a target folder of this builder that does not contain the link
-/// itself. Two things must be true. The link's goal, or a folder above the goal, is a target folder
-/// of this builder. And `folder`, which contains the link, is not at or below that target folder.
+/// itself. Two things must be true:
+///
+/// - The link's goal, or a folder above the goal, is a target folder of this builder.
+/// - `folder`, which contains the link, is not at or below that target folder.
 ///
 /// Errors: out of memory.
 pub(crate) fn leads_into_target<R: Files + AllocGlobal>(

@@ -141,8 +141,11 @@ fn remove_entry<R: Files>(runtime: &R, path: &str) -> io::Result<bool> {
 /// Removes the files of a folder, and adds its folders to the waiting folders. Names that are not
 /// UTF-8 are left out.
 ///
-/// Errors: the first file that cannot be removed; the folder, if it cannot be listed; out of
-/// memory.
+/// Errors:
+///
+/// - The first file that cannot be removed.
+/// - The folder, if it cannot be listed.
+/// - Out of memory.
 fn clear_folder<R: Files + AllocGlobal>(
     runtime: &R,
     folder: &str,

@@ -21,8 +21,8 @@ pub struct Reply {
     pub stdout: Bytes,
     /// All that it writes to standard error.
     pub stderr: Bytes,
-    /// The files that it leaves in the command's `out`, by their paths there. If two have the same
-    /// path, the later one counts.
+    /// The files that it leaves in the command's `out`, by their paths there. If two files have the
+    /// same path, the later file counts.
     pub files: Items<(RelativePath, Bytes)>,
 }
 
@@ -84,8 +84,8 @@ pub trait View {
         ensures failed { IfErr result (λ e. e ≡ ViewFault.Failed → fails self.now) };
 }
 
-/// A child: a function from a command and what it sees to a reply. A child has no state, so no call
-/// can change the function.
+/// A child: a function that maps a command, and what the child sees, to a reply. A child has no
+/// state, so no call can change the function.
 pub trait Child {
     /// The function.
     ghost answers: { Answers };

@@ -9,7 +9,7 @@ use pb_data::{Bytes, Items};
 /// command's folder, and the folder's files at the spawn.
 #[derive(Drop)]
 pub struct ChildInFlight {
-    /// The number with which its end is requested. No two children in flight have the same.
+    /// The number with which its end is requested. No two children in flight have the same number.
     pub ticket: u64,
     /// The command that was spawned.
     pub command: Command,

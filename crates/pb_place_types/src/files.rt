@@ -149,8 +149,8 @@ impl FileMap {
         self.get(path).is_some()
     }
 
-    /// Returns the folders directly in a folder that have a file below them, in the order of these
-    /// files without repeats. Files at or below another path are ignored.
+    /// Returns those folders directly in a folder that have a file below them. The folders are in
+    /// the order of these files, without repeats. Files at or below another path are ignored.
     ///
     /// Errors: out of memory only.
     pub fn list_folders(
@@ -197,8 +197,8 @@ impl FileMap {
         Ok(())
     }
 
-    /// Removes half of the files at or below a path: the first files in byte order, as many as half
-    /// of their number, rounded down.
+    /// Removes the first half of the files at or below a path, in byte order. If the number of
+    /// these files is odd, the half is rounded down.
     ///
     /// Errors: out of memory only. Nothing changes then.
     pub fn remove_half(&mut self, alloc: Global, path: &PathText) -> Result<(), AllocError>
@@ -233,8 +233,7 @@ impl FileMap {
 
     /// Copies the files at these paths from another map, in turn.
     ///
-    /// Errors: out of memory only. Then the files at the first n of the paths have been copied, for
-    /// some n, and no other files.
+    /// Errors: out of memory only. Then the files at a prefix of these paths have been copied.
     pub fn put_from(
         &mut self,
         alloc: Global,
@@ -285,8 +284,9 @@ fn names_between(
     Ok(names)
 }
 
-/// Returns the keys below a folder, in byte order. These keys lie between the folder's stem with a
-/// slash and its stem with a `0`, since `0` is the next character after the slash.
+/// Returns the keys below a folder, in byte order. In this order, these keys are between the
+/// folder's stem with a slash and its stem with a `0`, since `0` is the next character after the
+/// slash.
 fn names_below(
     alloc: Global,
     files: &BTreeMap<Text, Bytes>,
@@ -328,7 +328,7 @@ fn names_at_or_below(
     Ok(names)
 }
 
-/// Returns the texts that are neither a folder nor below it.
+/// Returns the texts that are neither equal to a folder nor below it.
 fn names_outside(
     alloc: Global,
     names: Vec<Text>,
@@ -404,7 +404,7 @@ fn paths_of(alloc: Global, names: Vec<Text>) -> Result<Items<PathText>, AllocErr
     Ok(paths)
 }
 
-/// Returns the first of two or more parts.
+/// Returns the first part, if there are two or more parts.
 fn first_folder<'a>(parts: &[&'a str]) -> Option<&'a str>
     ensures { option_copied result ≡ first_folder (each (λ part. part.now) parts.now) }
 {
@@ -414,7 +414,7 @@ fn first_folder<'a>(parts: &[&'a str]) -> Option<&'a str>
     }
 }
 
-/// Returns the folder directly in a given folder through which a path leads, if there is such a
+/// Returns the folder that is directly in a given folder and contains a path, if there is such a
 /// folder.
 fn folder_towards(
     alloc: Global,
@@ -459,8 +459,8 @@ fn put_new(folders: &mut Items<PathText>, folder: Option<PathText>) -> Result<()
     Ok(())
 }
 
-/// Returns the folders directly in a folder through which some paths lead, in the order of the
-/// paths, without repeats in a row.
+/// Returns those folders directly in a folder that contain some of these paths. The folders are in
+/// the order of the paths, and no folder is repeated in a row.
 fn folders_among(
     alloc: Global,
     folder: &PathText,

@@ -32,8 +32,8 @@ pub fn folders_nest()
     ensures names { NamesLieApart }
 {}
 
-/// A path inside a folder, joined to the folder, is the path again. Each path except the root is
-/// its last part in its folder.
+/// A path inside a folder, joined to the folder, is the path again. If the last part of a path is
+/// joined to the path's folder, the result is the path, except for the root.
 pub fn paths_join_again()
     ensures again { JoinsAgain }
     ensures found { FoundInside }
@@ -43,9 +43,9 @@ pub fn paths_join_again()
     ensures folder { LiesInFolder }
 {}
 
-/// Two folders with different names in one folder lie apart. Changes at or below one folder leave
-/// each folder that lies apart from it unchanged. Changes in a folder of the target folder leave
-/// the sources unchanged. Two changes in one folder are together one change in this folder. A
+/// Two folders with different names in one folder lie apart. Changes at or below a folder do not
+/// change any folder that lies apart from this folder. Changes in a folder of the target folder
+/// leave the sources unchanged. Two changes in one folder are together one change in this folder. A
 /// change in a folder is also a change in each folder above it.
 pub fn changes_stay_in_folders()
     ensures named { NamedFoldersLieApart }
@@ -56,7 +56,7 @@ pub fn changes_stay_in_folders()
     ensures alone { StandAlone }
 {}
 
-/// The content of a path in each of these: one map laid over another, a folder's files, the
+/// What is at a path in each of these maps: one map laid over another, a folder's files, the
 /// sources, and what a child sees.
 pub fn maps_look_up()
     ensures over { LooksOver }
@@ -77,9 +77,9 @@ pub fn children_see_sources_and_folders()
 /// What a failing call leaves unchanged.
 ///
 /// - After a failed write, every other path has its old content. The written path has its old
-/// bytes, no bytes, or the first n of the new bytes.
+///   bytes, no bytes, or a prefix of the new bytes.
 /// - After a failed removal, every path outside the tree has its old content, and no path has new
-/// bytes.
+///   bytes.
 /// - After a start, even a failed one, every path outside the child's folder has its old content.
 /// - No variable changes.
 pub fn failing_calls_spare()

@@ -1,4 +1,4 @@
-//! Paths: absolute and normalised, and relative ones inside a folder.
+//! Normalised absolute paths.
 
 ghost use Rattle.std.specs.Prelude.{◌≡◌, true, ◌∷◌, ◌++◌, map, IfOk, OnOk, string_bytes};
 ghost use Rattle.std.specs.List.{list_any, list_all};
@@ -157,8 +157,10 @@ impl PathText {
     /// Returns the path that an absolute text spells. Empty parts, `.` and `..` are removed. Each
     /// `..` also removes the name before it, if there is such a name.
     ///
-    /// Errors: `NotAbsolute`, if the text does not begin with `/`; else `BadByte`, if it contains
-    /// byte 0; `OutOfMemory`.
+    /// Errors: the first of these that occurs, or `OutOfMemory` at any time.
+    ///
+    /// - `NotAbsolute`, if the text does not begin with `/`.
+    /// - `BadByte`, if the text contains byte 0.
     ///
     /// This is our own choice, since The Cargo Book leaves paths to the system.
     #[tactic(auto, using(crate::proofs::PathLemmas::path_laws))]
@@ -178,8 +180,8 @@ impl PathText {
         })
     }
 
-    /// Returns the path that a text spells inside this folder: a relative text starts here, an
-    /// absolute one spells its own path.
+    /// Returns the path that a text spells inside this folder. A relative text starts at this
+    /// folder. An absolute text spells its own path.
     ///
     /// Errors: `BadByte`, if the text contains byte 0; `OutOfMemory`.
     ///

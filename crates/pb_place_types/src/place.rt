@@ -102,7 +102,7 @@ impl<T: Drop> From<AllocFailed<T>> for StartFault {
     }
 }
 
-/// Returns the first n of these bytes, where n is at most `most`.
+/// Returns the first bytes, at most `most`.
 fn cut(bytes: Bytes, most: usize) -> Bytes
     ensures { result ≡ take most bytes }
 {
@@ -114,10 +114,9 @@ fn cut(bytes: Bytes, most: usize) -> Bytes
 /// The files, the variables and the child processes of the outside world.
 ///
 /// Clauses about answers and about file contents apply to modelled places. All other clauses apply
-/// to every place. Unless memory runs out, the maps and the child determine each
-/// answer.
+/// to every place. Unless memory runs out, the maps and the child determine each answer.
 ///
-/// Which calls there are is our own choice.
+/// The set of calls is our own choice.
 pub trait Place {
     /// Whether the place is modelled: whether `at` has the files and variables as they are. A real
     /// machine is not modelled, so clauses with this premise do not apply to a real machine.
@@ -292,17 +291,25 @@ pub trait Place {
     /// child in flight has this ticket. The folder `command.out` is created; until the child has
     /// ended, that folder may contain anything.
     ///
-    /// Errors: `CannotStart`, and then no child is in flight; `OutOfMemory`.
+    /// Errors:
+    ///
+    /// - `CannotStart`. Then no child is in flight.
+    /// - `OutOfMemory`.
     fn spawn(&mut self, alloc: Global, command: &Command) -> Result<u64, StartFault>
         ensures spawns { Spawns child command.now result (at self.old) (at self.new) }
         ensures fails { IfErr result (λ e. e ≢ StartFault.OutOfMemory → fails self.old) }
         ensures later { fails self.new → fails self.old };
 
     /// Waits for the end of a child in flight. Whatever the result, the child's ticket is then used
-    /// up. Suppose that the child replies, and that what it sees and its folder have not changed
-    /// since the spawn. Then its reply and its folder are determined by the world at the spawn.
+    /// up. Suppose that the child replies. Suppose also that nothing that it sees, and nothing in
+    /// its folder, has changed since the spawn. Then its reply and its folder are determined by the
+    /// world at the spawn.
     ///
-    /// Errors: `Died`; `Capture`; `OutOfMemory`.
+    /// Errors:
+    ///
+    /// - `Died`.
+    /// - `Capture`.
+    /// - `OutOfMemory`.
     fn finish(&mut self, alloc: Global, ticket: u64) -> Result<Ended, StartFault>
         requires flies { is_flying ticket (at self.old).counts.starts.flying ≡ true }
         ensures ok { IsTrue is_modelled → (at self.old).still ticket → IfOk result
@@ -390,7 +397,8 @@ pub trait Place {
     fn late(&self) -> u64
         ensures { result ≡ (at self.now).counts.late };
 
-    /// Returns the most children that were ever in flight at one moment. The call takes no memory.
+    /// Returns the greatest number of children that were ever in flight at a time. The call takes
+    /// no memory.
     fn most(&self) -> u64
         ensures { result ≡ (at self.now).most };
 }

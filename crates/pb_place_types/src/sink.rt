@@ -1,4 +1,4 @@
-//! Where message bytes go.
+//! Sinks, to which message lines are written.
 
 ghost use Rattle.std.specs.Prelude.{◌≡◌, ◌≤◌, length, take, MatchOption};
 ghost use Rattle.std.specs.Io.KnownBytes.{Keeps, Appends};
@@ -11,8 +11,8 @@ pub trait Out {
     /// The bytes that the sink took, if the sink reports them, and how many writes failed.
     ghost heard: { Self → SinkState };
 
-    /// Takes the first n of some bytes, and returns n, or `None` if the write fails. If there are
-    /// bytes and a write takes no byte, the write has failed too.
+    /// Takes a prefix of some bytes, and returns its length, or `None` if the write fails. A write
+    /// that takes no byte although there are bytes has failed, too.
     fn write(&mut self, bytes: &[u8]) -> Option<usize>
         ensures bound { MatchOption result
             (Keeps (heard self.old).taken (heard self.new).taken)

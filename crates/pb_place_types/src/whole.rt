@@ -7,8 +7,8 @@ ghost use Rattle.pb_place_types.specs.Sinks.{TakesPart};
 
 use crate::sink::Out;
 
-/// Writes the first n of some bytes, and returns n, or `None` if the sink failed. A failing sink
-/// takes nothing.
+/// Writes a prefix of some bytes, and returns its length, or `None` if the sink failed. A failing
+/// sink takes nothing.
 #[tactic(auto, using(crate::proofs::Wholes::took_laws))]
 fn write_some<O: Out>(out: &mut O, bytes: &[u8]) -> Option<usize>
     requires { 0 < length bytes.now }
@@ -30,8 +30,8 @@ fn write_some<O: Out>(out: &mut O, bytes: &[u8]) -> Option<usize>
     }
 }
 
-/// Writes all bytes, and returns whether the sink took them. If not, the sink counts more failures,
-/// and took only the first n of the bytes. If there are no bytes, the sink is not called.
+/// Writes all bytes, and returns whether the sink took them. If not, the sink counts more failures
+/// than before, and took only a prefix of the bytes. If there are no bytes, the sink is not called.
 pub fn write_all<O: Out>(out: &mut O, bytes: &[u8]) -> bool
     ensures all { IsTrue result
         → Appends (O.heard out.old).taken (O.heard out.new).taken bytes.now }

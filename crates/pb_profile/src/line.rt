@@ -1,4 +1,5 @@
-//! The line of a profile: the profile, the profile from which it inherits, and so on.
+//! The line of inheritance of a profile: the profile, the profile from which it inherits, and so
+//! on.
 
 ghost use Rattle.std.specs.Prelude.{◌≡◌, map, option_map};
 ghost use Rattle.std.specs.List.{list_all};
@@ -10,7 +11,7 @@ use crate::fault::ProfileFault;
 use pb_manifest_types::{Profile, ProfileKey, ProfileKeys, ProfileOverride};
 use std::alloc::Global;
 
-/// A profile in a line.
+/// A profile in a line of inheritance.
 #[derive(Drop)]
 pub struct Ancestor<'a> {
     /// The profile's name.
@@ -85,12 +86,15 @@ fn above<'a>(
     }
 }
 
-/// Returns the line of a profile: the profile itself, the profile from which it inherits, and so on
-/// to `dev` or `release`.
+/// Returns the line of inheritance of a profile: the profile itself, the profile from which it
+/// inherits, and so on to `dev` or `release`.
 ///
-/// Errors: `NoSuchProfile`, if a profile of the line is neither built in nor written;
-/// `InheritsCycle`, if the line has no end; `NotInOverride`, if an override of a profile of the
-/// line sets `panic`, `lto` or `rpath`; `OutOfMemory`.
+/// Errors:
+///
+/// - `NoSuchProfile`, if a profile of the line is neither built in nor written.
+/// - `InheritsCycle`, if the line has no end.
+/// - `NotInOverride`, if an override of a profile of the line sets `panic`, `lto` or `rpath`.
+/// - `OutOfMemory`.
 #[tactic(auto, using(crate::proofs::Located::each_seen))]
 pub fn line_of<'a>(
     alloc: Global,
@@ -108,14 +112,14 @@ pub fn line_of<'a>(
     }
 }
 
-/// Returns whether no override of these profiles sets a key that an override may not set.
+/// Returns whether the overrides of these profiles set only keys that an override may set.
 fn all_allow(line: &[Ancestor]) -> bool
     ensures { result ≡ list_all (λ ancestor. allows (seen ancestor)) line.now }
 {
     line.iter().all(|ancestor| allows(ancestor))
 }
 
-/// Returns the line of a profile, whatever its overrides set.
+/// Returns the line of inheritance of a profile, whatever its overrides set.
 fn ancestors_of<'a>(
     alloc: Global,
     profiles: &'a [Profile],
@@ -151,7 +155,7 @@ fn may_override(keys: &ProfileKeys) -> bool
         .all(|key| key.row().in_override || keys.get(*key).is_none())
 }
 
-/// Returns whether no override of a profile sets a key that an override may not set.
+/// Returns whether the overrides of a profile set only keys that an override may set.
 fn allows(ancestor: &Ancestor) -> bool
     ensures { result ≡ allows (seen ancestor.now) }
 {
@@ -171,14 +175,14 @@ fn some_may_override(keys: Option<ProfileKeys>) -> bool
     }
 }
 
-/// Returns whether no override among these sets a key that an override may not set.
+/// Returns whether these overrides set only keys that an override may set.
 fn all_may_override(overrides: &[ProfileOverride]) -> bool
     ensures { result ≡ list_all (λ (o : ProfileOverride). may_override o.keys) overrides.now }
 {
     overrides.iter().all(|one| may_override(&one.keys))
 }
 
-/// Returns whether no override of a table sets a key that an override may not set.
+/// Returns whether the overrides of a table set only keys that an override may set.
 fn table_allows(table: &Profile) -> bool
     ensures { result ≡ table_allows table.now }
 {

@@ -74,7 +74,7 @@ fn written_in(source: Source, table: &Profile, key: ProfileKey) -> Option<Settin
     }
 }
 
-/// Returns the value of a key that a profile of a line has at a location.
+/// Returns the value that a key has at a location in a profile of a line of inheritance.
 fn value_in(source: Source, ancestor: &Ancestor, key: ProfileKey) -> Option<Setting>
     ensures { result ≡ sought source.entry (seen ancestor.now) key }
 {
@@ -88,7 +88,7 @@ fn value_in(source: Source, ancestor: &Ancestor, key: ProfileKey) -> Option<Sett
     }
 }
 
-/// Returns the value of a key at a location along a line.
+/// Returns the value of a key at a location along a line of inheritance.
 fn along(source: Source, line: &[Ancestor], key: ProfileKey) -> Option<Setting>
     ensures { result ≡ along key (sought source.entry) (map seen line.now) }
 {

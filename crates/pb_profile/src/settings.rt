@@ -50,10 +50,13 @@ impl Settings {
     /// The order of the locations in the host's role is our own choice. `panic` in the host's role
     /// is `unwind`.
     ///
-    /// Errors: `NoSuchProfile`, if the profile, or a profile from which it inherits, does not
-    /// exist; `InheritsCycle`, if the profile's line comes back to itself; `NotInOverride`, if an
-    /// override of the profile or of a profile from which it inherits, for any package, sets
-    /// `panic`, `lto` or `rpath`; `OutOfMemory`.
+    /// Errors:
+    ///
+    /// - `NoSuchProfile`, if the profile, or a profile from which it inherits, does not exist.
+    /// - `InheritsCycle`, if the profile's line of inheritance comes back to itself.
+    /// - `NotInOverride`, if an override sets `panic`, `lto` or `rpath`. The override may be for
+    ///   any package, in the profile or in a profile from which it inherits.
+    /// - `OutOfMemory`.
     pub fn settings(
         alloc: Global,
         workspace: &Workspace,
@@ -124,7 +127,7 @@ fn fix_by_role(role: Side, key: ProfileKey, value: Setting) -> Setting
     }
 }
 
-/// Returns the setting of a key of a package in a role along a line.
+/// Returns the setting of a key of a package in a role along a line of inheritance.
 fn setting_of(owner: &Package, role: Side, line: &[Ancestor], key: ProfileKey) -> Setting
     ensures { result ≡ setting_of owner.now role (map seen line.now) key }
 {
@@ -132,8 +135,8 @@ fn setting_of(owner: &Package, role: Side, line: &[Ancestor], key: ProfileKey) -
     fix_by_role(role, key, found.unwrap_or(key.row().dev))
 }
 
-/// Returns the settings of a package in a role along a line. No memory is used, so a caller that
-/// needs many packages under one profile can make the line once.
+/// Returns the settings of a package in a role along a line of inheritance. No memory is used, so a
+/// caller that needs many packages under one profile can make the line once.
 pub fn settings_along(owner: &Package, role: Side, line: &[Ancestor]) -> Settings
     ensures { result ≡ settings_along owner.now role (map seen line.now) }
 {

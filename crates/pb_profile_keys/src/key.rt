@@ -43,7 +43,7 @@ impl ProfileKey {
         ProfileKey::Strip,
     ];
 
-    /// Returns the key at an index of all keys.
+    /// Returns the key at an index in the list of all keys.
     pub fn at(i: usize) -> ProfileKey
         requires { i < length keys }
         ensures { slice_get keys i ≡ Some result }

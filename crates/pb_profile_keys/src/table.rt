@@ -17,9 +17,11 @@ pub struct Row {
     pub dev: Setting,
     /// Its value in `release`.
     pub release: Setting,
-    /// The value in the host's role if no override sets the key, if there is such a value.
+    /// The value in the host's role of a key that no override sets. `None` if there is no such
+    /// value.
     pub beside_override: Option<Setting>,
-    /// The value in the host's role whatever the manifest sets, if there is such a value.
+    /// The value that the host's role fixes, whatever the manifest sets. `None` if there is no such
+    /// value.
     pub in_hosts: Option<Setting>,
     /// Whether an override may set the key.
     pub in_override: bool,
@@ -27,7 +29,7 @@ pub struct Row {
     pub option: &'static str,
     /// The option's value for `true`.
     pub yes: &'static str,
-    /// The value for which the compiler gets no option, if there is such a value.
+    /// The value for which the compiler gets no option. `None` if there is no such value.
     pub untold: Option<Setting>,
     /// Whether only the compile of a binary gets the option.
     pub of_binaries: bool,

@@ -1,4 +1,4 @@
-//! The beginning of a text.
+//! Reads the beginning of a text.
 
 ghost use Rattle.std.specs.Prelude.{◌≡◌, ◌++◌, List, ℕ, MatchOption};
 

@@ -79,7 +79,7 @@ impl Part for Pairs {
     fn spells() {}
 }
 
-/// Returns a file after its letter.
+/// Returns the file whose letter came before this text, and what follows the file.
 fn file_at(alloc: Global, text: &[u8]) -> Result<Option<(Input, &[u8])>, AllocError>
     ensures { IfOk result (λ found.
         MatchOption found (StandsNone IsInput input_bytes (line (codes "f") ++ text.now)) (λ p.
@@ -92,7 +92,7 @@ fn file_at(alloc: Global, text: &[u8]) -> Result<Option<(Input, &[u8])>, AllocEr
     }
 }
 
-/// Returns a folder after its letter.
+/// Returns the folder whose letter came before this text, and what follows the folder.
 fn tree_at(alloc: Global, text: &[u8]) -> Result<Option<(Input, &[u8])>, AllocError>
     ensures { IfOk result (λ found.
         MatchOption found (StandsNone IsInput input_bytes (line (codes "t") ++ text.now)) (λ p.
@@ -105,7 +105,7 @@ fn tree_at(alloc: Global, text: &[u8]) -> Result<Option<(Input, &[u8])>, AllocEr
     }
 }
 
-/// Returns a variable after its letter.
+/// Returns the variable whose letter came before this text, and what follows the variable.
 fn value_at(alloc: Global, text: &[u8]) -> Result<Option<(Input, &[u8])>, AllocError>
     ensures { IfOk result (λ found.
         MatchOption found (StandsNone IsInput input_bytes (line (codes "v") ++ text.now)) (λ p.
@@ -118,7 +118,7 @@ fn value_at(alloc: Global, text: &[u8]) -> Result<Option<(Input, &[u8])>, AllocE
     }
 }
 
-/// Returns what follows a file after its letter.
+/// Returns what follows the file whose letter came before this text.
 fn skip_file(alloc: Global, text: &[u8]) -> Result<Option<&[u8]>, AllocError>
     ensures { IfOk result (λ found. MatchOption found
         (StandsNone IsInput input_bytes (line (codes "f") ++ text.now))
@@ -131,7 +131,7 @@ fn skip_file(alloc: Global, text: &[u8]) -> Result<Option<&[u8]>, AllocError>
     }
 }
 
-/// Returns what follows a folder after its letter.
+/// Returns what follows the folder whose letter came before this text.
 fn skip_tree(alloc: Global, text: &[u8]) -> Result<Option<&[u8]>, AllocError>
     ensures { IfOk result (λ found. MatchOption found
         (StandsNone IsInput input_bytes (line (codes "t") ++ text.now))
@@ -144,7 +144,7 @@ fn skip_tree(alloc: Global, text: &[u8]) -> Result<Option<&[u8]>, AllocError>
     }
 }
 
-/// Returns what follows a variable after its letter.
+/// Returns what follows the variable whose letter came before this text.
 fn skip_value(alloc: Global, text: &[u8]) -> Result<Option<&[u8]>, AllocError>
     ensures { IfOk result (λ found. MatchOption found
         (StandsNone IsInput input_bytes (line (codes "v") ++ text.now))

@@ -4,9 +4,9 @@ ghost use Rattle.pb_record.specs.Laws.{TellsApart, SaysWhereItEnds, FirstPartsSa
 ghost use Rattle.pb_record.specs.Commands.{AskedIsCommand, CommandIsAsked, SameAsked};
 
 /// The bytes of a record differ from the bytes of every other record, of either format, and
-/// determine where the record ends. Therefore no record is the beginning of another record. A
-/// record followed by more bytes is not a record. A proper first part of a record, as a torn write
-/// leaves it, is not a record either.
+/// determine where the record ends. Therefore no record is a prefix of another record. A record
+/// followed by more bytes is not a record. A proper prefix of a record, which a torn write may
+/// leave, is not a record either.
 pub fn records_lie_apart()
     ensures told { TellsApart }
     ensures ends { SaysWhereItEnds }
@@ -44,8 +44,8 @@ pub fn texts_have_a_reading()
 {}
 
 /// A command, turned into a request and back, is the same command. A request, turned into a command
-/// and back, is the same request. A command that requests the same and sets the same variables is
-/// the requested command.
+/// and back, is the same request. If a command requests the same (`asks_as`) and sets the same
+/// variables (`sets_as`), it is the requested command.
 pub fn commands_are_asked()
     ensures command { AskedIsCommand }
     ensures asked { CommandIsAsked }

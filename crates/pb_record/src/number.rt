@@ -1,4 +1,4 @@
-//! Numbers.
+//! Numbers as parts of a record: how they are read and written.
 
 ghost use Rattle.std.specs.Prelude.{◌≡◌, ◌++◌, ◌∷◌, ◌<◌, ◌^◌, ℕ, List, OnOk, MatchOption};
 ghost use Rattle.pb_record.specs.Grammar.{number, decimals};
@@ -33,7 +33,8 @@ fn begins_well(digits: &[u8]) -> bool
     }
 }
 
-/// Returns the number that these digits spell, or `None` if no number below 2 ^ 64 has these digits.
+/// Returns the number that these digits spell, or `None` if no number below 2 ^ 64 has these
+/// digits.
 fn number_of(digits: &[u8]) -> Option<u64>
     ensures { MatchOption result ((n : ℕ) → n < 2 ^ 64 → digits.now ≡ decimals n →
         ⊥) (λ n. (n < 2 ^ 64) × (digits.now ≡ decimals n)) }

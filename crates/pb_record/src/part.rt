@@ -7,7 +7,7 @@ use std::alloc::{AllocError, Global};
 
 /// A part of a record.
 pub trait Part: Drop {
-    /// What a part of this kind is, apart from its bytes.
+    /// The condition that a part of this kind satisfies.
     ghost is_part: { Self → Type 0 };
 
     /// The bytes of the part.
@@ -43,7 +43,7 @@ pub trait Part: Drop {
 
     /// Adds the bytes at the end of a text.
     ///
-    /// Errors: only out of memory; the text then ends with a first part of the bytes.
+    /// Errors: only out of memory. Then the text ends with a prefix of the bytes.
     fn write(&self, out: &mut Vec<u8>) -> Result<(), AllocError>
         ensures written { OnOk result (out.new.items ≡ out.old.items ++ spelled self.now) }
         ensures is { OnOk result (is_part self.now) };

@@ -1,4 +1,4 @@
-//! A record read from its text.
+//! Reads a record from its text.
 
 ghost use Rattle.std.specs.Prelude.{◌≡◌, ◌++◌, codes, ℕ, List, Option, IfOk, MatchOption};
 ghost use Rattle.pb_record.specs.Grammar.{line};
@@ -38,7 +38,7 @@ type CopiedParts = (
     ),
 );
 
-/// Returns the part of a text that consists of a part and the line `end`.
+/// Returns the part with which a text begins, if the rest of the text is the line `end`.
 fn whole<T: Part>(alloc: Global, text: &[u8]) -> Result<Option<T>, AllocError>
     ensures { IfOk result (λ found.
         MatchOption found ((x : T) → T.is_part x → text.now ≡ T.spelled x ++ line (codes "end") →

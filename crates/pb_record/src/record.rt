@@ -5,8 +5,8 @@ use pb_data::{Bytes, Items, Text, TryCopy};
 use pb_place_types::{PathText, RelativePath};
 use std::alloc::{AllocError, Global};
 
-/// The name of something on which a unit's answer depends besides its command and the units that it
-/// reaches.
+/// The name of an input of a unit. A unit's answer depends on its command, on the units that it
+/// reaches, and on its inputs.
 #[derive(Debug, Drop)]
 pub enum InputName {
     /// A file, or all files below a folder.
@@ -15,8 +15,8 @@ pub enum InputName {
     Variable(Text),
 }
 
-/// Something on which a unit's answer depends besides the unit's command and the units that it
-/// reaches, with its value.
+/// An input of a unit, with its value. A unit's answer depends on its command, on the units that it
+/// reaches, and on its inputs.
 #[derive(Drop)]
 pub enum Input {
     /// A file, and the bytes of the file.

@@ -1,4 +1,4 @@
-//! A record written as its text.
+//! Writes a record as its text.
 
 ghost use Rattle.std.specs.Prelude.{◌≡◌, ◌++◌, ◌<◌, codes, ℕ, List, length, take, Option, Some, None, IfOk, OnOk};
 ghost use Rattle.std.specs.List.{AllByRecursion, concat};
@@ -109,8 +109,8 @@ fn text_of(alloc: Global, kept: &Record) -> Result<Bytes, AllocError>
 
 /// Returns the text of a record, from which `read_record` reads the same record again. The format
 /// is our own, in two versions: with the numbers of the needed units, or with copies of their
-/// files. A torn write leaves only a first part of the text, which `read_record` does not accept as
-/// a record.
+/// files. A torn write leaves only a prefix of the text, which `read_record` does not accept as a
+/// record.
 ///
 /// Errors: only out of memory.
 pub fn write_record(alloc: Global, kept: &Record) -> Result<Bytes, AllocError>

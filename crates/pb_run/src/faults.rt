@@ -13,7 +13,7 @@ use pb_store::StoreFault;
 /// Why a step of a unit failed, without the unit's name.
 #[derive(Clone, Copy)]
 pub enum StepFault {
-    /// A call of the store failed, or a call on files or variables; or memory ran out.
+    /// A call of the store, or a call on files or variables, failed. Or memory ran out.
     Store(StoreFault),
     /// The unit's child could not be started, or did not answer.
     Start(StartFault),

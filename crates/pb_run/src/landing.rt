@@ -181,7 +181,7 @@ fn land<P: Place>(
     requires numbers { IsTrue P.is_modelled →
         HasNumbers (records store.old.folder (P.at place.old).world) store.old.numbers }
 
-    // These clauses promise what `answered` promises.
+    // These clauses are those of `answer_begun`, for a unit with a child.
     ensures answers { IfOk result (AnswersUnit P.is_modelled project.now unit.now
         (begun_with unit.now.key command.now (awaited.Child launched.now))
         store.old store.new (P.at place.old) (P.at place.new)) }
@@ -250,7 +250,7 @@ fn reuse<P: Place>(
     requires numbers { IsTrue P.is_modelled →
         HasNumbers (records store.old.folder (P.at place.old).world) store.old.numbers }
 
-    // These clauses promise what `answered` promises.
+    // These clauses are those of `answer_begun`, for a unit without a child.
     ensures answers { IfOk result (AnswersUnit P.is_modelled project.now unit.now
         (begun_with unit.now.key command.now (awaited.Record again.now))
         store.old store.new (P.at place.old) (P.at place.new)) }
@@ -278,7 +278,7 @@ fn reuse<P: Place>(
     if again.numbered {
         return Ok(ran);
     }
-    // If something moved, the unit will be built again, and no record may name its record.
+    // If something moved, the unit will be built again, and no record may name the unit's record.
     if !place.stood_still(command) {
         return Ok(ran);
     }

@@ -30,7 +30,7 @@ fn spawn<P: Place>(alloc: Global, place: &mut P, command: &Command) -> Result<u6
         ≡ max (P.at place.old).most (length (P.at place.old).counts.starts.flying + 1))
         (λ e. (P.at place.new).most ≡ (P.at place.old).most) }
 
-    // Only its folder changes, by one call.
+    // Only the child's folder changes, by one call.
     ensures only { ChangesOnlyInSome command.now.out (P.at place.old).world
         (P.at place.new).world }
     ensures still { StaysStill (P.at place.old).counts.starts.flying (P.at place.old).world
@@ -79,7 +79,8 @@ fn spawn_anew<P: Place>(
     ensures calls { Calls (SpawnsAnew P.child command.now) (AnewEnds out.now) result
         (P.at place.old).counts (P.at place.new).counts }
 {
-    // The folder is emptied before the child is spawned, so that no old file counts as the child's.
+    // The folder is emptied before the child is spawned. So no old file counts as a file of the
+    // child.
     empty(alloc, place, out)?;
     match spawn(alloc, place, command) {
         Ok(ticket) => Ok(ticket),

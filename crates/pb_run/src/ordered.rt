@@ -56,8 +56,8 @@ impl OrderedProject {
         self.inside.plan.planned.as_slice()
     }
 
-    /// Returns the names of the packages without a library to which enabled dependencies of its
-    /// plan lead.
+    /// Returns the names of the packages that have no library although enabled dependencies of its
+    /// plan lead to them.
     pub fn without_library(&self) -> &[Text]
         ensures { result.now ≡ self.now.plan.without_library }
     {

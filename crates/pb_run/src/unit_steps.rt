@@ -115,7 +115,7 @@ pub fn begin_unit<P: Place>(
         (command_of setup.now project.now unit.now done.now) (P.at place.old) (P.at place.new)) }
 
     // Suppose that the records are sound, or that there are no records. Then after a success the
-    // unit has begun, and the other units wait as before.
+    // unit has begun, and what was true of the other units that have begun stays true.
     ensures build { (premise : Premise) (sources : World) → IsTrue P.is_modelled →
         BeginsBuild (build_context premise P.child setup.now project.now sources) done.now index
         unit.now
@@ -192,7 +192,8 @@ fn outcome_of(
     })
 }
 
-/// Answers the unit at an index of the plan that has begun, and makes its message lines.
+/// Answers a unit that has begun, and makes its message lines. The unit is at this index of the
+/// plan.
 ///
 /// If the unit has a child, the child's end is awaited, its dep-info is read, and the answer is
 /// judged. The record is kept if the answer is good. Without a child, the answer that the record
@@ -200,8 +201,8 @@ fn outcome_of(
 /// by the numbers that the store has.
 ///
 /// Whatever the function returns, the unit's child is no longer in flight, and the other children
-/// stay in flight. The child's end changes only files inside the unit's folder, and the calls after
-/// it change only the unit's record. A bad unit is not an error, and its record is not changed.
+/// stay in flight. The child's end changes only files inside the unit's folder. Later calls change
+/// only the unit's record. A bad unit is not an error, and its record is not changed.
 ///
 /// Errors: each error except `OutOfMemory` contains the unit's key. If a call of the place failed,
 /// it was the last call, and the store may lack the numbers of its records.

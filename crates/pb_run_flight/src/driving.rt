@@ -150,7 +150,8 @@ fn answer_one<P, O, F: Drop, E, C: Executor<P, O, F, E>>(
         Ok(answer) => answer,
         Err(fault) => return Err(fault),
     };
-    // The answer is recorded before lines are handed out, because its own lines may be due.
+    // The answer is recorded before lines are handed out, because the lines of this unit may be
+    // due.
     flight.answer(unit, answer);
     match tell(alloc, crew, place, out, flight) {
         Ok(()) => Ok(()),
@@ -226,9 +227,9 @@ fn step<P, O, F: Drop, E, C: Executor<P, O, F, E>, T: Turn>(
 }
 
 /// Drives a flight in which no unit has begun, by the steps that the turn chooses. The flight ends
-/// when all units have answered, or all units up to and including the first bad unit. Then no
-/// further answer is taken, so units later than the first bad unit may still be in flight. After a
-/// fault, any units may be in flight, and the turn decides no further step.
+/// when all units have answered, or when all units up to and including the first bad unit have
+/// answered. Then no further answer is taken, so units later than the first bad unit may still be
+/// in flight. After a fault, any units may be in flight, and the turn decides no further step.
 pub fn drive<P, O, F: Drop, E, C: Executor<P, O, F, E>, T: Turn>(
     alloc: Global,
     crew: &mut C,

@@ -1,4 +1,4 @@
-//! Who begins units and takes their answers.
+//! The trait of the code that begins units and takes their answers.
 
 ghost use Rattle.std.specs.Prelude.{◌≡◌, ◌<◌, ◌++◌, ◌∷◌, [], ℕ, Bool, List, length, Option, IfOk, OnOk, MatchResult, Some, None, Contains, slice_get};
 ghost use Rattle.std.specs.List.{remove};
@@ -30,8 +30,8 @@ pub trait Executor<P, O, F, E> {
     ghost story: { Self → P → O → Self → P → O → List (Event F) → ℕ → Type 0 };
 
     /// What has happened between two moments by these events, if a fault then ended the flight. The
-    /// number is that of the unit whose answer was taken at the fault, or `None` if no answer was
-    /// taken.
+    /// number is the index of the unit whose answer was taken at the fault, or `None` if no answer
+    /// was taken.
     ghost stops: { E → Option ℕ → Self → P → O → Self → P → O → List (Event F) → Type 0 };
 
     /// Returns the units in flight, in order of beginning.
@@ -66,8 +66,8 @@ pub trait Executor<P, O, F, E> {
             × stops e None first first_place first_out self.new place.new out.new
             (Began unit spawned ∷ es)) };
 
-    /// Takes the answer of the unit at an index of the units in flight. Afterwards this unit is no
-    /// longer in flight, even after a fault.
+    /// Takes the answer of a unit in flight. The unit is given by its index among the units in
+    /// flight. Afterwards this unit is no longer in flight, even after a fault.
     fn answer(
         &mut self,
         alloc: Global,

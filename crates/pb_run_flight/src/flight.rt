@@ -1,4 +1,4 @@
-//! The flight table.
+//! The flight table: the state of each unit, and which lines are due.
 
 ghost use Rattle.std.specs.Prelude.{◌≡◌, ◌<◌, ◌≤◌, ℕ, List, IfOk, OnOk, OnErr, Some, Contains, slice_get, length, map, drop, IsTrue, ◌↔◌};
 ghost use Rattle.pb_run_flight.specs.declared.flight.State.TheVariants.{Begun, Untouched};
@@ -136,8 +136,8 @@ fn may_begin<F>(
     Some(is_open(states, met, unit, state, wanted.as_slice()))
 }
 
-/// Returns the units that may begin. The lines of the first `given` units are known to be due. No
-/// unit from index `reach` on has all needs met.
+/// Returns the units that may begin. The lines of the first `given` units are known to be due. At
+/// index `reach` and after it, no unit has all its needs met.
 fn ready_of<F>(
     alloc: Global,
     needs: &[Items<usize>],
@@ -392,12 +392,12 @@ impl<F: Drop> Flight<F> {
         self.reach = reach;
     }
 
-    /// Returns the lines that are due now and have not been handed out. From the start of plan
-    /// order, the lines of the units that have answered are due, up to and including the first bad
-    /// unit.
+    /// Returns the lines that are due now and have not been handed out. The lines of a unit are due
+    /// if this unit and all units before it in plan order have answered, and no unit before it is
+    /// bad.
     ///
-    /// Errors: out of memory; then nothing has been handed out, and
-    /// the next call returns these lines too.
+    /// Errors: out of memory. Then nothing has been handed out, and the next call returns these
+    /// lines too.
     pub fn emit(&mut self, alloc: Global) -> Result<Vec<u8>, AllocError>
         ensures lines { IfOk result
             (λ lines. lines.items ≡ due_after self.old.given self.old.states) }

@@ -4,7 +4,7 @@ ghost use Rattle.pb_run_flight.specs.Laws.{ReadyIsExact, ReachedIsGood, HandsOut
 
 use crate::turn::{Pick, Turn};
 
-/// The ready units are exactly the units that may begin. Each occurs once, in plan order.
+/// The ready units are exactly the units that may begin. Each unit occurs once, in plan order.
 pub fn ready_is_exact<F>()
     ensures { ReadyIsExact F }
 {}
@@ -15,13 +15,14 @@ pub fn reached_is_good<F>()
     ensures { ReachedIsGood F }
 {}
 
-/// After each call that hands out lines, these lines have been handed out: from the start of plan
-/// order, the lines of the units that have answered, up to and including the first bad unit.
+/// After each call that hands out lines, all due lines have been handed out. The lines of a unit
+/// are due if this unit and all units before it in plan order have answered, and no unit before it
+/// is bad.
 pub fn hands_out_all_due<F>()
     ensures { HandsOutAllDue F }
 {}
 
-/// The lines that are due now are the beginning of the lines that are due at the end.
+/// The lines that are due now are a prefix of the lines that are due at the end.
 pub fn due_is_start<F>()
     ensures { DueIsStart F }
 {}

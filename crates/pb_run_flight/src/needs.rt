@@ -97,8 +97,8 @@ pub fn reach_of(needs: &[Items<usize>]) -> usize
     reach
 }
 
-/// Counts the needs of a unit that are met, starting from the known count.
-/// Returns the index up to which units may have all that they need.
+/// Counts how many needs of a unit are met, starting from the known count. Returns the index up to
+/// which units may have all that they need.
 fn move_one<F>(
     needs: &[Items<usize>],
     states: &[State<F>],
@@ -124,8 +124,8 @@ fn move_one<F>(
     reach
 }
 
-/// Counts the needs of these units that are met, starting from the known
-/// counts. Returns the index up to which units may have all that they need.
+/// Counts how many needs of each of these units are met, starting from the known counts. Returns
+/// the index up to which units may have all that they need.
 pub fn move_on<F>(
     needs: &[Items<usize>],
     states: &[State<F>],

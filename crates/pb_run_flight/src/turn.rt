@@ -1,4 +1,4 @@
-//! Who decides the next step.
+//! Turns, which decide the next step, and picks, which decide which unit begins.
 
 ghost use Rattle.std.specs.Prelude.{◌≡◌, ◌<◌, ◌+◌, ℕ, List, length};
 ghost use Rattle.pb_run_flight.specs.declared.turn.Step.{Step};
@@ -42,7 +42,7 @@ pub trait Pick {
         ensures within { result < length ready.now };
 }
 
-/// A borrowed pick chooses as the pick itself does, and stays the same reference.
+/// A borrowed pick chooses as the pick itself does. The reference stays the same.
 impl<P: Pick> Pick for &mut P {
     ghost picks = { PicksLent P.picks };
 
@@ -75,9 +75,9 @@ impl Pick for Last {
     }
 }
 
-/// A turn by a number of jobs. If a unit may begin and the number of units in flight is less than
-/// the number of jobs, the picked unit begins. Otherwise the unit in flight that began first
-/// answers. Zero jobs count as one job (our own choice).
+/// A turn that a number of jobs and a pick determine. If a unit may begin and the number of units
+/// in flight is less than the number of jobs, the picked unit begins. Otherwise the unit in flight
+/// that began first answers. Zero jobs count as one job (our own choice).
 #[derive(Drop)]
 pub struct Jobs<P> {
     /// Which unit begins.

@@ -63,8 +63,8 @@ fn outcome(matching: &Matching<'_>) -> bool
     matching.same && matching.left.is_empty()
 }
 
-/// Returns whether the files at these paths, with their paths inside a folder, are the recorded
-/// files. Only one file is in memory at a time. The files after the first that differs are read,
+/// Returns whether the files at these paths are the recorded files. Their paths are relative to a
+/// folder. Only one file is in memory at a time. The files after the first different file are read,
 /// too.
 fn are_files_at<P: Place>(
     alloc: Global,
@@ -93,8 +93,8 @@ fn are_files_at<P: Place>(
     Ok(outcome(&matching))
 }
 
-/// Returns whether the sources below a folder, with their paths inside it and in byte order, are
-/// the recorded files.
+/// Returns whether the sources below a folder, in byte order, are the recorded files. Their paths
+/// are relative to the folder.
 #[tactic(auto, using(crate::proofs::Present::sources_in, crate::proofs::Firsts::files_same))]
 fn are_sources<P: Place>(
     alloc: Global,
@@ -119,8 +119,8 @@ fn are_sources<P: Place>(
     }
 }
 
-/// Returns whether the files below a folder, with their paths inside it and in byte order, are the
-/// recorded files.
+/// Returns whether the files below a folder, in byte order, are the recorded files. Their paths are
+/// relative to the folder.
 #[tactic(auto, using(crate::proofs::Present::files_in_it, crate::proofs::Firsts::files_same))]
 pub(crate) fn are_files<P: Place>(
     alloc: Global,

@@ -1,4 +1,4 @@
-//! The differences between a unit and its record.
+//! Finds the first difference between a unit and its record.
 
 ghost use Rattle.std.specs.Prelude.{◌≡◌, ◌∷◌, [], true, false, IsTrue, IfOk, MatchOption, Decides};
 ghost use Rattle.pb_place_types.specs.declared.call.Call.TheVariants as call;
@@ -77,7 +77,7 @@ fn out_path(alloc: Global, folder: &PathText, key: &Text) -> Result<Option<PathT
     }
 }
 
-/// Returns whether the folder of a needed unit contains the named files.
+/// Returns whether the folder of a needed unit contains exactly the recorded files.
 fn has_files<P: Place>(
     alloc: Global,
     place: &mut P,
@@ -100,7 +100,8 @@ fn has_files<P: Place>(
     are_files(alloc, place, &out, need.1.as_slice())
 }
 
-/// Returns the key of the first needed unit whose folder does not contain the named files.
+/// Returns the key of the first needed unit whose folder does not contain exactly the recorded
+/// files.
 fn first_copy<P: Place>(
     alloc: Global,
     place: &mut P,
@@ -216,14 +217,16 @@ fn first_from<P: Place>(
 }
 
 impl Store {
-    /// Returns the first difference between a unit and its record, for a command that would build
-    /// it again. If nothing differs, the recorded answer is returned. Each input is read and
-    /// compared in turn, up to the first that differs. The records of needed units are not read,
-    /// because the store has their run numbers. The rule for when a unit is built again is our own
-    /// choice.
+    /// Returns the first difference between a unit and its record. `command` is the command with
+    /// which the unit would be built now. If nothing differs, the recorded answer is returned. Each
+    /// input is read and compared in turn, up to the first that differs. The records of needed
+    /// units are not read, because the store has their run numbers. The rule for when a unit is
+    /// built again is our own choice.
     ///
-    /// Errors: `Place` if a file or a variable cannot be read, or a folder cannot be listed;
-    /// `OutOfMemory`.
+    /// Errors:
+    ///
+    /// - `Place` if a file or a variable cannot be read, or a folder cannot be listed.
+    /// - `OutOfMemory`.
     pub fn compare<P: Place>(
         &self,
         alloc: Global,
@@ -297,8 +300,10 @@ impl Store {
 
     /// Returns the recorded answer of a unit, if `differs` returned none.
     ///
-    /// Errors: `Place` if the record cannot be read, or if it has been removed since;
-    /// `OutOfMemory`.
+    /// Errors:
+    ///
+    /// - `Place` if the record cannot be read, or if it has been removed since.
+    /// - `OutOfMemory`.
     pub fn replay<P: Place>(
         &self,
         alloc: Global,

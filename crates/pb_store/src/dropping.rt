@@ -76,8 +76,11 @@ impl Store {
     /// left, it removes nothing. After an error no number is taken, and the record may still exist.
     /// The contract then promises nothing about the run numbers in the store.
     ///
-    /// Errors: `NumbersSpent` if and only if no number is left; `Place` if the record cannot be
-    /// removed; `OutOfMemory`.
+    /// Errors:
+    ///
+    /// - `NumbersSpent` if and only if no number is left.
+    /// - `Place` if the record cannot be removed.
+    /// - `OutOfMemory`.
     pub fn drop_record<P: Place>(
         &mut self,
         alloc: Global,
@@ -87,7 +90,8 @@ impl Store {
         requires numbers { IsTrue P.is_modelled →
             HasNumbers (records self.old.folder (P.at place.old).world) self.old.numbers }
 
-        // The call returns the number that was next. After an error that number is still the next.
+        // The returned number is the one that was next before the call. After an error that number
+        // is still the next.
         ensures number { MatchResult result (λ number. IsGiven number self.old.next self.new.next)
             (λ e. self.new.next ≡ self.old.next) }
         ensures folder { self.new.folder ≡ self.old.folder }

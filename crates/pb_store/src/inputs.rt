@@ -45,8 +45,8 @@ pub(crate) fn source_at<P: Place>(
     }
 }
 
-/// Returns the file at a path, with its path inside a folder. The result is none if the path is not
-/// below the folder, or if there is no file.
+/// Returns the file at a path. The returned path is relative to a folder. The result is none if the
+/// path is not below the folder, or if there is no file.
 pub(crate) fn file_at<P: Place>(
     alloc: Global,
     place: &mut P,
@@ -98,7 +98,7 @@ fn files_at<P: Place>(
     Ok(made)
 }
 
-/// Returns the paths of the files below a folder that are not at or below the target folder.
+/// Returns the paths of the files below a folder, except files at or below the target folder.
 #[tactic(auto, using(crate::proofs::Looking::stops_once))]
 pub(crate) fn paths_outside<P: Place>(
     alloc: Global,

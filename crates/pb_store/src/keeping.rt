@@ -1,4 +1,4 @@
-//! The record of a unit that was built is kept, with the run number that was taken for the record.
+//! Keeps the record of a unit that was built, with the run number that was taken for this record.
 
 ghost use Rattle.std.specs.Prelude.{◌≡◌, true, IsTrue, IfOk, OnOk, OnErr, Some, map};
 ghost use Rattle.std.specs.List.{concat};
@@ -57,7 +57,7 @@ fn write<P: Place>(
     }
 }
 
-/// Writes the record of its unit, without a second copy of its large values.
+/// Writes a record, without a second copy of the record's large values.
 pub(crate) fn put_record<P: Place>(
     alloc: Global,
     place: &mut P,
@@ -216,8 +216,9 @@ fn watch<P: Place>(
     }
 }
 
-/// Returns whether nothing that the child of a command read has moved since the child was spawned.
-/// The child read these inputs, and what units wrote into the folders that the command reads.
+/// Returns whether everything that the child of a command read has stayed unchanged since the child
+/// was spawned. The child read these inputs, and what units wrote into the folders that the command
+/// reads.
 fn stood_still<P: Place>(
     alloc: Global,
     place: &mut P,
@@ -233,8 +234,8 @@ fn stood_still<P: Place>(
     Ok(place.stood_still(command))
 }
 
-/// Writes a record, unless something that the child of its command read has moved. The check comes
-/// after the record is made. If something changes later, it differs from the recorded value.
+/// Writes a record, unless the child of this command read something that has moved. The check comes
+/// after the record is made. Whatever changes later then differs from the recorded value.
 fn put_still<P: Place>(
     alloc: Global,
     place: &mut P,
@@ -276,9 +277,8 @@ impl Store {
     /// Requires: the command writes into the unit's folder, and its variables are sorted by name,
     /// each name once.
     ///
-    /// If something that the child read has moved since the child was spawned (`Place::watch`), no
-    /// record is written. In this case the child may not have read the present values. At a
-    /// modelled place nothing moves.
+    /// If the child read something that has moved (`Place::watch`), no record is written, because
+    /// the child may not have read the present values. At a modelled place nothing moves.
     pub fn keep<P: Place>(
         &mut self,
         alloc: Global,

@@ -18,10 +18,12 @@ pub fn first_name_is_first()
     ensures { FirstNameIsFirst }
 {}
 
-/// `differs` uses tests to determine how far it looks. This law states that the tests decide the
-/// facts that make a difference. These facts are the present value of an input, and each part and
-/// variable of a command. The files of a needed unit are such a fact, too, if the record names the
-/// unit by its files.
+/// The tests by which `differs` decides how far it looks agree with the definitions. There are
+/// three tests:
+///
+/// - whether the present value of an input is the recorded value;
+/// - whether a command is the recorded command;
+/// - whether a needed unit has the files that a record of format 1 contains.
 pub fn tests_decide()
     ensures { TestsDecide }
 {}

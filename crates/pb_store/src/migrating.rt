@@ -94,15 +94,19 @@ impl Store {
         }
     }
 
-    /// Gives a unit's record of format 1 the next run number, names the needed units by their
-    /// numbers, and rewrites the record in format 2. If the record is of format 2, or no record
-    /// counts, the function changes nothing. `needs` are the keys of the units that the unit needs,
-    /// in plan order. After an error the unit has its old record, no record, or the new record. If
-    /// the write failed, the number is taken; after any other error it may be taken. The contract
-    /// then promises nothing about the run numbers in the store.
+    /// Rewrites a unit's record of format 1 in format 2. The record gets the next run number, and
+    /// names the needed units by their numbers. If the record is of format 2, or no record counts,
+    /// the function changes nothing. `needs` are the keys of the units that the unit needs, in plan
+    /// order. After an error the unit has its old record, no record, or the new record. If the
+    /// write failed, the number is taken; after any other error it may be taken. The contract then
+    /// promises nothing about the run numbers in the store.
     ///
-    /// Errors: `NumbersSpent` only if the record is of format 1 and no number is left, and then
-    /// nothing changes; `Place` if the record cannot be read or written; `OutOfMemory`.
+    /// Errors:
+    ///
+    /// - `NumbersSpent` only if the record is of format 1 and no number is left, and then nothing
+    ///   changes.
+    /// - `Place` if the record cannot be read or written.
+    /// - `OutOfMemory`.
     pub fn migrate<P: Place>(
         &mut self,
         alloc: Global,

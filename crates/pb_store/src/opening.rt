@@ -65,7 +65,7 @@ fn greatest_told(found: &Option<Numbers>) -> u64
     }
 }
 
-/// Returns the numbers of the record that a text contains, or none if the text is no record.
+/// Returns the numbers of the record that a text contains, or none if the text is not a record.
 fn numbers_in(alloc: Global, text: &Option<Bytes>) -> Result<Option<Numbers>, AllocError>
     ensures { IfOk result (λ found. found ≡ option_map numbers_of (read_text reading text.now)) }
 {
@@ -177,12 +177,14 @@ fn greatest_of<P: Place>(
 
 impl Store {
     /// Returns the store of a profile folder. Each record directly in the folder is read once. A
-    /// text that is no record does not count. The next run number is one above the greatest number
-    /// that a record contains, even a record at the path of another key. If no record contains a
-    /// number, the next is 1.
+    /// text that is not a record does not count. The next run number is one above the greatest
+    /// number that a record contains, even a record at the path of another key. If no record
+    /// contains a number, the next is 1.
     ///
-    /// Errors: `Place` with the path, if the folder cannot be listed or a record cannot be read;
-    /// `OutOfMemory`.
+    /// Errors:
+    ///
+    /// - `Place` with the path, if the folder cannot be listed or a record cannot be read.
+    /// - `OutOfMemory`.
     pub fn open<P: Place>(
         alloc: Global,
         place: &mut P,

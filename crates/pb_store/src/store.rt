@@ -84,7 +84,7 @@ fn text_at<P: Place>(
     text_of(alloc, place, &path)
 }
 
-/// Returns the record that a text contains, or none if the text is no record.
+/// Returns the record that a text contains, or none if the text is not a record.
 fn read_text(alloc: Global, text: &Option<Bytes>) -> Result<Option<Record>, AllocError>
     ensures { IfOk result (λ found. found ≡ read_text reading text.now) }
 {
@@ -114,7 +114,8 @@ fn if_of_key(found: Option<Record>, key: &Key) -> Option<Record>
     }
 }
 
-/// Returns the record that counts for a unit.
+/// Returns the record that counts for a unit: the record at the unit's path, if it has the unit's
+/// key.
 #[tactic(auto, unfolding(pb_store_soundness::specs::Records::record_at))]
 pub(crate) fn record_at<P: Place>(
     alloc: Global,

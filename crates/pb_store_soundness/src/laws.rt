@@ -7,10 +7,15 @@ ghost use Rattle.pb_store_soundness.specs.Laws.{StaysSound, OutsideLaw, InOutput
 ghost use Rattle.pb_store_soundness.specs.Numbers.{NumberWaitsLaw, StaysAheadLaw, GivenAheadLaw, NextIsNewLaw};
 ghost use Rattle.pb_store_soundness.specs.Reuse.{GroundsLaw, ReuseLaw, RenewLaw, SparesLaw, PutGroundsLaw};
 
-/// A profile folder stays sound if each record is gone, is unchanged, or is a true record whose
-/// number no record named for its unit before. A change outside the folder keeps the folder sound.
-/// A change in the output folder of a unit for which no record counts keeps the folder sound, too.
-/// A record may be removed or may no longer count, and a true record may be written.
+/// A profile folder stays sound in each of these cases:
+///
+/// - For each unit, no record counts, or the record and the unit's files are unchanged, or the unit
+///   has a new record. A new record is true, and no old record names the unit together with the
+///   number of the new record.
+/// - Only files outside the folder change.
+/// - Only the output folder of a unit changes, and no record counts for this unit.
+/// - A record is removed, or no longer counts.
+/// - A true record is written, and no record names its unit together with its number.
 pub fn soundness_stays()
     ensures stays { StaysSound }
     ensures outside { OutsideLaw }
@@ -38,8 +43,8 @@ pub fn others_stay_apart()
     ensures waits { NumberWaitsLaw }
 {}
 
-/// The next run number is above all numbers that records have or name, and later changes keep it
-/// so.
+/// The next run number is above all numbers that records have or name, and stays above them after
+/// later changes.
 pub fn numbers_stay_ahead()
     ensures stays { StaysAheadLaw }
     ensures given { GivenAheadLaw }

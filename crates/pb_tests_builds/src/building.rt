@@ -11,7 +11,7 @@ use pb_workspace_types::Options;
 use std::alloc::{AllocError, Global};
 use std::test::Fail;
 
-/// The small compiler, as a runner.
+/// Returns the small compiler, as a runner.
 fn runner(alloc: Global) -> Result<Items<Text>, AllocError> {
     let mut runner = Items::new(alloc);
     runner.push(Text::from_str(alloc, "mini")?)?;
@@ -19,7 +19,7 @@ fn runner(alloc: Global) -> Result<Items<Text>, AllocError> {
     Ok(runner)
 }
 
-/// A build of the workspace at `/w` with this number of jobs.
+/// Returns a build of the workspace at `/w` with this number of jobs.
 pub fn options(alloc: Global, jobs: u64) -> Result<Options, Fail> {
     let runner = runner(alloc)?;
     let options = no_options(alloc)?;
@@ -30,7 +30,7 @@ pub fn options(alloc: Global, jobs: u64) -> Result<Options, Fail> {
     })
 }
 
-/// The result line of a build that writes to `out`.
+/// Returns the result line of a build that writes to `out`.
 fn result_of<P: Place>(
     alloc: Global,
     place: &mut P,
@@ -44,14 +44,14 @@ fn result_of<P: Place>(
     result_line(alloc, &build(alloc, place, &mut sink, options))
 }
 
-/// Lines, and a last one.
+/// Returns lines, and after them one last line.
 pub fn join_lines(alloc: Global, lines: &[u8], last: &str) -> Result<String, AllocError> {
     let mut said = Shown::new(alloc);
     said.put(&[str::from_utf8(lines).unwrap_or(""), last]);
     said.whole()
 }
 
-/// What a build writes, and then its result line.
+/// Returns what a build writes, and then its result line.
 fn said_by<P: Place>(alloc: Global, place: &mut P, options: &Options) -> Result<String, AllocError>
     requires none { (P.at place.old).counts.starts.flying ≡ [] }
     ensures landed { (P.at place.new).counts.starts.flying ≡ [] }
@@ -61,7 +61,7 @@ fn said_by<P: Place>(alloc: Global, place: &mut P, options: &Options) -> Result<
     join_lines(alloc, out.as_slice(), line.as_str())
 }
 
-/// What a build with this number of jobs writes, and then its result line.
+/// Returns what a build with this number of jobs writes, and then its result line.
 pub fn build_text<P: Place>(alloc: Global, place: &mut P, jobs: u64) -> Result<String, Fail>
     requires none { (P.at place.old).counts.starts.flying ≡ [] }
     ensures landed { (P.at place.new).counts.starts.flying ≡ [] }
@@ -72,7 +72,7 @@ pub fn build_text<P: Place>(alloc: Global, place: &mut P, jobs: u64) -> Result<S
     Ok(said?)
 }
 
-/// The last line of a text.
+/// Returns the last line of a text.
 pub fn last_line(said: &str) -> &str {
     match said.rsplit_once('\n') {
         Some((_, last)) => last,
@@ -80,7 +80,7 @@ pub fn last_line(said: &str) -> &str {
     }
 }
 
-/// The lines of a text but the last.
+/// Returns the lines of a text but the last.
 pub fn lines_but_last(said: &str) -> &str {
     match said.rsplit_once('\n') {
         Some((lines, _)) => lines,
@@ -88,7 +88,7 @@ pub fn lines_but_last(said: &str) -> &str {
     }
 }
 
-/// The lines of a build, as if no unit had been fresh.
+/// Returns the lines of a build, as if no unit had been fresh.
 pub fn afresh(alloc: Global, said: &str) -> Result<String, AllocError> {
     said.replace(alloc, r#""fresh":true"#, r#""fresh":false"#)
 }

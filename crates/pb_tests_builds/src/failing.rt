@@ -15,7 +15,8 @@ use std::test::Fail;
 /// A library.
 const LIBRARY: &str = "@ /w/Cargo.toml\npackage.name = 'a'\n@ /w/src/lib.rs\nwarn w\n";
 
-/// A library with a script, and a package with a script that both need.
+/// A package `r` with a library and a script. Both need the package `x`, which has a library and a
+/// script, too.
 const SIDES: &str =
     "@ /w/Cargo.toml\npackage.name = 'r'\ndependencies.x.path = 'x'\nbuild-dependencies.x.path = 'x'\n@ /w/src/lib.rs\nuse x\n@ /w/build.rs\nput a b\n@ /w/x/Cargo.toml\npackage.name = 'x'\n@ /w/x/src/lib.rs\ninclude $OUT_DIR/f\n@ /w/x/build.rs\nput f g\nput h i\n";
 
@@ -26,10 +27,10 @@ const PAIR: &str =
 /// An edit of the library of `/w`.
 const EDIT: &str = "@ /w/src/lib.rs\nprint edited\n";
 
-/// Edits of the first of two libraries, a: one changes what is made from it, one changes only its
-/// source.
+/// An edit of `a`, the first of two libraries, that changes what is made from `a`.
 const EDIT_OF_A: &str = "@ /w/a/src/lib.rs\nprint edited\n";
 
+/// An edit of `a` that changes only its source.
 const REMARK_IN_A: &str = "@ /w/a/src/lib.rs\n# c\n";
 
 /// A build in which each call fails in turn.
@@ -62,7 +63,8 @@ fn prepare(alloc: Global, place: &mut Memory<Mini>, trial: &Trial) -> Result<(),
     Ok(())
 }
 
-/// The text before the line that first contains this part, or an empty text if no line contains it.
+/// Returns the text before the line that first contains this part, or an empty text if no line
+/// contains it.
 fn lines_before<'a>(lines: &'a str, part: &str) -> &'a str {
     match lines.split_once(part) {
         Some((front, _)) => match front.rsplit_once('\n') {
@@ -76,16 +78,17 @@ fn lines_before<'a>(lines: &'a str, part: &str) -> &'a str {
 /// The failing finish line.
 const FINISH: &str = r#"{"reason":"build-finished","success":false}"#;
 
-/// The folder of the unit that a fault names, as lines name it.
+/// Returns the folder of the unit that a fault names, as lines name it.
 fn folder_named(alloc: Global, fault: &str) -> Result<String, AllocError> {
     let mut folder = String::from_str(alloc, "/debug/")?;
     folder.push_str(fault.split(' ').nth(1).unwrap_or(""))?;
     Ok(folder)
 }
 
-/// Whether these are the lines of a build that a fault ends: the lines of units, as a whole build
-/// has them, and the failing finish line. If units begin one after another, they are the lines of
-/// all units before the unit that the fault names; else the lines of the first n units, for some n.
+/// Returns whether these are the lines of a build that a fault ends. Such a build has lines of
+/// units, as a whole build has them, and then the failing finish line. With one job, the lines are
+/// those of all units before the unit that the fault names. With more jobs, they are the lines of
+/// the first n units, for some n.
 fn is_stopped(lines: &str, before: &str, jobs: u64) -> bool {
     if lines == FINISH {
         return before.is_empty() || jobs > 1;
@@ -99,7 +102,7 @@ fn is_stopped(lines: &str, before: &str, jobs: u64) -> bool {
     }
 }
 
-/// Whether lines are the first of others.
+/// Returns whether lines are the first of others.
 fn is_front(front: &str, lines: &str) -> bool {
     match lines.strip_prefix(front) {
         Some(rest) => rest.starts_with("\n"),
@@ -107,8 +110,8 @@ fn is_front(front: &str, lines: &str) -> bool {
     }
 }
 
-/// Whether a build in which a call failed reports what it must report, and makes no call after the
-/// failed call.
+/// Returns whether a build in which a call failed reports what it must report, and makes no call
+/// after the failed call.
 fn is_said(
     alloc: Global,
     place: &Memory<Mini>,
@@ -122,7 +125,8 @@ fn is_said(
     Ok(is_stopped(lines.as_str(), before, jobs) && place.failures() == 1 && place.late() == 0)
 }
 
-/// Adds the fault of a build in which a call failed to `told`, and what was wrong, if something was.
+/// Adds the fault of a build in which a call failed to `told`. If something was wrong, adds what
+/// was wrong.
 fn tell(
     alloc: Global,
     place: &Memory<Mini>,
@@ -161,7 +165,7 @@ fn fail_at(
     Ok(is_failed)
 }
 
-/// Whether a build went well and had the lines of a clean build, except for `fresh`.
+/// Returns whether a build went well and had the lines of a clean build, except for `fresh`.
 fn is_whole(alloc: Global, whole: &str, said: &str) -> Result<bool, AllocError> {
     let lines = afresh(alloc, lines_but_last(said))?;
     Ok(lines.as_str() == lines_but_last(whole) && last_line(said).starts_with("ok started="))
@@ -209,7 +213,7 @@ fn try_at(
     Ok(is_failed)
 }
 
-/// What a clean build reports about the edited files of a trial, in a place without files.
+/// Returns what a clean build reports about the edited files of a trial, in a place without files.
 fn whole_in(alloc: Global, place: &mut Memory<Mini>, trial: &Trial) -> Result<String, Fail>
     requires none { (counts_in place.old).starts.flying ≡ [] }
 {
@@ -218,7 +222,7 @@ fn whole_in(alloc: Global, place: &mut Memory<Mini>, trial: &Trial) -> Result<St
     build_text(alloc, place, 1)
 }
 
-/// The same report, in a fresh place.
+/// Returns what a clean build reports about the edited files of a trial, in a fresh place.
 fn whole_of(alloc: Global, trial: &Trial) -> Result<String, Fail> {
     whole_in(alloc, &mut Memory::new(alloc, Mini), trial)
 }
@@ -242,9 +246,12 @@ fn try_afresh(
     )
 }
 
-/// Lets each call fail in turn, until none does. Returns the faults, and what was wrong. The build
-/// must report what it must report, and make no call after the failed call. The same build after it
-/// must produce what a clean build produces, and the next build must start nothing.
+/// Lets each call fail in turn, until none does. Returns the faults, and what was wrong. Three
+/// things must be right:
+///
+/// - The build reports the failure, and makes no call after the failed call.
+/// - The same build, made again, produces what a clean build produces.
+/// - The build after that starts nothing.
 fn each_fails(alloc: Global, trial: &Trial) -> Result<String, Fail> {
     let mut told = Shown::new(alloc);
     let whole = whole_of(alloc, trial)?;
@@ -266,12 +273,13 @@ const FIRST: &str =
 const LAST_OF_LIBRARY: &str =
     "fault a.target.lib CannotStart, fault a.target.lib Died, fault a.target.lib Device, fault a.target.lib Device, fault a.target.lib Device, ";
 
-/// The last faults of a package on both sides: the dep-info, what it names, and the record.
+/// The last faults of a package on both sides: the dep-info, what the dep-info names, and the
+/// record.
 const LAST_OF_SIDES: &str =
     "fault r.target.lib CannotStart, fault r.target.lib Died, fault r.target.lib Device, fault r.target.lib Device, fault r.target.lib Device, ";
 
-/// The last faults of two libraries, if the second is made: its dep-info, what it names, and the
-/// record.
+/// The last faults of two libraries, if the second is made: its dep-info, what the dep-info names,
+/// and its record.
 const LAST_OF_PAIR: &str =
     "fault b.target.lib CannotStart, fault b.target.lib Died, fault b.target.lib Device, fault b.target.lib Device, fault b.target.lib Device, ";
 
@@ -356,7 +364,8 @@ static TRIALS: &[Trial] = &[
     },
 ];
 
-/// Whether nothing was wrong, from the first faults to these last.
+/// Returns whether nothing was wrong, and the faults begin with those of all trials and end with
+/// these.
 fn is_right(told: &str, last: &str) -> bool {
     !told.contains("wrong") && told.starts_with(FIRST) && told.ends_with(last)
 }

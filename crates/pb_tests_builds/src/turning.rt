@@ -1,5 +1,5 @@
-//! Builds by turns that the tests define. No number of jobs leads to their steps: the unit that
-//! began last answers first.
+//! Builds by turns that the tests define. In these turns the unit that began last answers first,
+//! which is not so with any number of jobs.
 
 ghost use Rattle.std.specs.Prelude.{◌≡◌, []};
 ghost use Rattle.pb_place.specs.Memory.{counts_in};
@@ -39,7 +39,7 @@ impl Turn for LastBegins {
     }
 }
 
-/// The result line of a build by such turns that writes to `out`.
+/// Returns the result line of a build by turns of this kind. The build writes its lines to `out`.
 fn result_in_turn(
     alloc: Global,
     place: &mut Memory<Mini>,
@@ -54,7 +54,7 @@ fn result_in_turn(
     result_line(alloc, &build_turns(alloc, place, &mut sink, options, turn))
 }
 
-/// What such a build writes, and then its result line.
+/// Returns what a build by turns of this kind writes, and then its result line.
 fn said_in_turn(
     alloc: Global,
     place: &mut Memory<Mini>,
@@ -69,7 +69,7 @@ fn said_in_turn(
     join_lines(alloc, out.as_slice(), line.as_str())
 }
 
-/// The same, for the workspace at `/w`.
+/// Returns what such a build of the workspace at `/w` writes, and then its result line.
 fn built_in_turn(
     alloc: Global,
     place: &mut Memory<Mini>,
@@ -89,14 +89,15 @@ fn built_in_turn(
 const GOOD: &str =
     "@ /w/Cargo.toml\nworkspace.members = ['a', 'b']\n@ /w/a/Cargo.toml\npackage.name = 'a'\n@ /w/a/src/lib.rs\nwarn one\n@ /w/b/Cargo.toml\npackage.name = 'b'\n@ /w/b/src/lib.rs\nwarn two\n";
 
-/// The same, both of which are bad.
+/// Two libraries, both of which are bad. Neither needs the other.
 const BAD: &str =
     "@ /w/Cargo.toml\nworkspace.members = ['a', 'b']\n@ /w/a/Cargo.toml\npackage.name = 'a'\n@ /w/a/src/lib.rs\nfail one\n@ /w/b/Cargo.toml\npackage.name = 'b'\n@ /w/b/src/lib.rs\nfail two\n";
 
 /// The files of a build that succeeds, and of a build that fails.
 static BOTH: &[&str] = &[GOOD, BAD];
 
-/// What a build of these files, one unit after another, says in a place without files.
+/// Returns what a build of these files writes if it runs one unit after another, in a place without
+/// files.
 fn whole_in(alloc: Global, place: &mut Memory<Mini>, files: &str) -> Result<String, Fail>
     requires none { (counts_in place.old).starts.flying ≡ [] }
 {
@@ -104,13 +105,13 @@ fn whole_in(alloc: Global, place: &mut Memory<Mini>, files: &str) -> Result<Stri
     build_text(alloc, place, 1)
 }
 
-/// The same in a fresh place.
+/// Returns what `whole_in` returns, for a fresh place.
 fn whole_of(alloc: Global, files: &str) -> Result<String, Fail> {
     whole_in(alloc, &mut Memory::new(alloc, Mini), files)
 }
 
-/// Whether a build of these files by turns, in a place without files, writes the lines that a build of one unit after
-/// another writes, with both children in flight at one moment.
+/// Returns whether a build of these files by turns, in a place without files, writes the lines that
+/// a build of one unit after another writes, with both children in flight at one moment.
 fn is_same(
     alloc: Global,
     place: &mut Memory<Mini>,
@@ -125,7 +126,7 @@ fn is_same(
     Ok(lines_but_last(said.as_str()) == lines_but_last(whole) && place.most() == 2)
 }
 
-/// The same in a fresh place.
+/// Returns what `is_same` returns, for a fresh place.
 fn is_right(alloc: Global, files: &str, is_last_answered: bool) -> Result<bool, Fail> {
     let whole = whole_of(alloc, files)?;
     let mut place = Memory::new(alloc, Mini);
@@ -181,7 +182,7 @@ fn fail_at(
     Ok(Some(""))
 }
 
-/// The same in a fresh place.
+/// Does what `fail_at` does, in a fresh place.
 fn try_at(alloc: Global, number: u64, whole: &str) -> Result<Option<&'static str>, Fail> {
     fail_at(alloc, &mut Memory::new(alloc, Mini), number, whole)
 }

@@ -4,12 +4,12 @@ use crate::shown::Shown;
 use std::alloc::Global;
 use std::test::Fail;
 
-/// A case of a table: a line `=== NAME`, what it is given, a line `---`, and what is wanted.
+/// A case of a table: a line `=== NAME`, what is given, a line `---`, and what is wanted.
 #[derive(Clone, Copy)]
 pub struct Case<'a> {
     /// Its name, with its rules in brackets.
     pub name: &'a str,
-    /// What it is given.
+    /// What is given.
     pub given: &'a str,
     /// What is wanted.
     pub wanted: &'a str,
@@ -27,7 +27,7 @@ pub trait Answers {
     fn put_answer(&self, alloc: Global, question: &str, out: &mut Shown) -> Result<(), Fail>;
 }
 
-/// Returns the case of a text, if it has the three parts of one.
+/// Returns the case of a text, if the text has the three parts of a case.
 fn case_of(text: &str) -> Option<Case<'_>> {
     let (name, rest) = text.split_once('\n')?;
     let (given, wanted) = rest.split_once("---\n")?;
@@ -43,7 +43,7 @@ fn case_of(text: &str) -> Option<Case<'_>> {
 pub struct Tried {
     /// How many cases the table has.
     pub count: usize,
-    /// What is wrong: for each such case its name, what is wanted and what came.
+    /// What is wrong. For each case that is wrong: its name, what is wanted and what came.
     pub wrong: Shown,
 }
 
@@ -65,7 +65,7 @@ fn try_case<T: Trial>(
 
 /// Tries each case of a table. A text without the three parts of a case is wrong, too.
 ///
-/// Errors: what a trial fails with.
+/// Errors: the errors of the trial.
 pub fn try_cases<T: Trial>(alloc: Global, table: &str, trial: &T) -> Result<Tried, Fail> {
     let mut tried = Tried {
         count: 0,
@@ -85,7 +85,8 @@ pub fn try_cases<T: Trial>(alloc: Global, table: &str, trial: &T) -> Result<Trie
     Ok(tried)
 }
 
-/// Writes a line `QUESTION = ANSWER` for each question of what is wanted, a line each, with the answer that comes.
+/// Writes a line `QUESTION = ANSWER` for each line of the wanted text, with the line's question and
+/// the actual answer.
 pub fn put_answers<A: Answers>(
     alloc: Global,
     answers: &A,

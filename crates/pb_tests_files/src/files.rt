@@ -25,7 +25,7 @@ pub fn put_files<C: Child>(
     Ok(())
 }
 
-/// The workspace in `/w`, whose target folder is `/w/target`.
+/// Returns the workspace in `/w`, whose target folder is `/w/target`.
 pub fn workspace_in<C: Child>(
     alloc: Global,
     memory: &mut Memory<C>,

@@ -5,7 +5,7 @@ use pb_place_types::{PathFault, PathText};
 use pb_workspace_types::Options;
 use std::alloc::Global;
 
-/// The options of a build of the workspace in `/w` that requests nothing.
+/// Returns the options of a build of the workspace in `/w` that requests nothing.
 pub fn no_options(alloc: Global) -> Result<Options, PathFault> {
     let manifest = PathText::parse(alloc, "/w/Cargo.toml")?;
     let profile = Text::from_str(alloc, "dev")?;

@@ -5,17 +5,17 @@ use pb_profile_keys::{ProfileKey, Setting, Word};
 use std::alloc::{AllocError, Global};
 use std::fmt::{Debug, Display, Write};
 
-/// A text that is made from parts. If memory was refused, its end says so.
+/// A text that is made from parts. If memory was refused, the end of the text says so.
 #[derive(Drop)]
 pub struct Shown {
-    /// What stands there.
+    /// The text so far.
     text: String,
     /// Whether memory was refused to a part.
     lacks: bool,
 }
 
 impl Shown {
-    /// An empty one.
+    /// Returns an empty text.
     pub fn new(alloc: Global) -> Shown {
         Shown {
             text: String::new(alloc),
@@ -23,17 +23,17 @@ impl Shown {
         }
     }
 
-    /// Whether the text is empty.
+    /// Returns whether the text is empty.
     pub fn is_empty(&self) -> bool {
         self.text.is_empty()
     }
 
-    /// What stands there.
+    /// Returns the text so far.
     pub fn as_str(&self) -> &str {
         self.text.as_str()
     }
 
-    /// Whether this is the whole text.
+    /// Returns whether this is the whole text.
     pub fn says(&self, wanted: &str) -> bool {
         !self.lacks && self.text.as_str() == wanted
     }
@@ -91,7 +91,7 @@ impl Shown {
         }
     }
 
-    /// The whole text.
+    /// Returns the whole text.
     pub fn whole(self) -> Result<String, AllocError> {
         if self.lacks {
             return Err(AllocError);

@@ -1,12 +1,12 @@
-//! A place in memory; contracts say nothing about its files.
+//! A place in memory of whose files contracts know nothing.
 
 use pb_data::{Bytes, Items, Text};
 use pb_place::Memory;
 use pb_place_types::{Child, Command, Ended, Moved, PathText, Place, PlaceFault, StartFault};
 use std::alloc::Global;
 
-/// A place in memory that is not modelled: clauses about files and answers do not apply to it. A test can
-/// edit the files between two calls of a store, and proves nothing about them.
+/// A place in memory that is not modelled: clauses about files and answers do not apply to it. A
+/// test can edit the files between two calls of a store, and proves nothing about them.
 #[derive(Drop)]
 pub struct Untold<C> {
     /// The place in memory, to which each call goes.

@@ -17,7 +17,7 @@ pub const CHANGES: &str = "write /a one -> done\n\
      read /ab -> three\n\
      read /c -> five";
 
-/// Names and values, a space after each pair.
+/// Returns names and values, with a space after each pair.
 fn pairs_text(alloc: Global, pairs: &[(Text, Text)]) -> Result<String, AllocError> {
     let mut text = String::new(alloc);
     for (name, value) in pairs {
@@ -29,7 +29,7 @@ fn pairs_text(alloc: Global, pairs: &[(Text, Text)]) -> Result<String, AllocErro
     Ok(text)
 }
 
-/// Names, and the value that each is given.
+/// Names of variables, and the values that are set in turn.
 static VARIABLES_IN_ORDER: &[(&str, &str)] = &[
     ("b", "1"),
     ("B", "2"),
@@ -39,7 +39,7 @@ static VARIABLES_IN_ORDER: &[(&str, &str)] = &[
     ("c", "6"),
 ];
 
-/// Gives variables these values in turn, and takes `c` away.
+/// Sets variables to these values in turn, and removes `c`.
 fn give(alloc: Global, variables: &mut TextMap) -> Result<(), AllocError> {
     for case in VARIABLES_IN_ORDER {
         let (name, value) = *case;
@@ -48,14 +48,14 @@ fn give(alloc: Global, variables: &mut TextMap) -> Result<(), AllocError> {
     variables.remove(alloc, "c")
 }
 
-/// The variables that were given these values, in their order.
+/// Returns the variables that were set to these values, in their order.
 fn pairs(alloc: Global) -> Result<Items<(Text, Text)>, AllocError> {
     let mut variables = TextMap::new(alloc);
     give(alloc, &mut variables)?;
     variables.into_pairs(alloc)
 }
 
-/// Whether these are all variables, in their order.
+/// Returns whether these are all variables, in their order.
 fn are(alloc: Global, wanted: &str) -> Result<bool, Fail> {
     let pairs = pairs(alloc)?;
     let told = pairs_text(alloc, pairs.as_slice())?;

@@ -17,7 +17,7 @@ struct Counters {
     last: Option<Failure>,
 }
 
-/// The counters after a call that did not fail.
+/// Returns the counters after a call that did not fail.
 fn past_call(before: Counters) -> Counters
     ensures calls { result.calls ≡ up before.calls }
     ensures failures { result.failures ≡ before.failures }
@@ -37,7 +37,7 @@ fn past_call(before: Counters) -> Counters
     }
 }
 
-/// The counters after a call that failed.
+/// Returns the counters after a call that failed.
 fn past_fault(failure: Failure, before: Counters) -> Counters
     ensures calls { result.calls ≡ up before.calls }
     ensures failures { result.failures ≡ up before.failures }
@@ -54,7 +54,7 @@ fn past_fault(failure: Failure, before: Counters) -> Counters
     }
 }
 
-/// The counters after a call on files or variables.
+/// Returns the counters after a call on files or variables.
 fn after_call(answer: Result<(), PlaceFault>, before: Counters) -> Counters
     ensures calls { result.calls ≡ (counted (call.Read []) answer
         (counts_of before.calls before.failures before.starts before.late before.last)).calls }
@@ -74,7 +74,7 @@ fn after_call(answer: Result<(), PlaceFault>, before: Counters) -> Counters
     }
 }
 
-/// The counters after a start.
+/// Returns the counters after a start.
 fn after_start(answer: Result<(), StartFault>, before: Counters) -> Counters
     ensures calls { result.calls ≡ (counted_start answer
         (counts_of before.calls before.failures before.starts before.late before.last)).calls }
@@ -98,7 +98,7 @@ fn after_start(answer: Result<(), StartFault>, before: Counters) -> Counters
     }
 }
 
-/// The counters with these numbers.
+/// Returns the counters with these numbers.
 fn of_numbers(calls: u64, failures: u64, starts: u64, late: u64) -> Counters {
     Counters {
         calls,
@@ -109,7 +109,7 @@ fn of_numbers(calls: u64, failures: u64, starts: u64, late: u64) -> Counters {
     }
 }
 
-/// The same, where this fault came last.
+/// Returns these counters with this fault as the last one.
 fn after_fault(failure: Failure, counters: Counters) -> Counters {
     Counters {
         last: Some(failure),
@@ -120,7 +120,8 @@ fn after_fault(failure: Failure, counters: Counters) -> Counters {
 /// The late calls and the failures before a call, and the late calls after it.
 static LATE: &[(u64, u64, u64)] = &[(0, 0, 0), (0, 1, 1), (4, 2, 5), (u64::MAX, 1, u64::MAX)];
 
-/// Whether calls and starts that do not fail, or want memory, give these counters.
+/// Returns whether calls and starts that do not fail, or that run out of memory, lead to these
+/// counters.
 fn pass(late: u64, failures: u64, want: u64) -> bool {
     let before = of_numbers(7, failures, 3, late);
     let after = of_numbers(8, failures, 3, want);
@@ -140,7 +141,7 @@ static CALLED: &[PlaceFault] = &[
     PlaceFault::Variable,
 ];
 
-/// Whether a call that fails so is counted.
+/// Returns whether a call that fails with this fault is counted.
 fn is_counted(fault: PlaceFault) -> bool {
     after_call(Err(fault), of_numbers(7, 1, 3, 9))
         == after_fault(Failure::Called(fault), of_numbers(8, 2, 3, 0))
@@ -153,13 +154,13 @@ static STARTED: &[StartFault] = &[
     StartFault::Capture,
 ];
 
-/// Whether a start that fails so is counted.
+/// Returns whether a start that fails with this fault is counted.
 fn start_is_counted(fault: StartFault) -> bool {
     after_start(Err(fault), of_numbers(0, 0, 3, 0))
         == after_fault(Failure::Started(fault), of_numbers(1, 1, 4, 0))
 }
 
-/// Whether full counters stay so after a call and a start that fail.
+/// Returns whether counters at their maximum stay there after a call and a start that fail.
 fn full_stay() -> bool {
     let full = of_numbers(u64::MAX, u64::MAX, u64::MAX, 9);
     let failed = of_numbers(u64::MAX, u64::MAX, u64::MAX, 0);
@@ -169,7 +170,8 @@ fn full_stay() -> bool {
         && after_start(Err(StartFault::Died), full) == after_fault(died, failed)
 }
 
-/// Whether a call that passes, and want of memory, leave the last fault.
+/// Returns whether the last fault stays after a call that passes, and after a call that runs out of
+/// memory.
 fn last_stays() -> bool {
     let read = Failure::Called(PlaceFault::Read);
     let before = after_fault(read, of_numbers(4, 1, 0, 0));

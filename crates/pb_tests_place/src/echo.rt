@@ -1,4 +1,4 @@
-//! A child that says what it sees.
+//! A child that prints what it sees.
 
 ghost use Rattle.std.specs.Prelude.{◌≡◌, ◌++◌, ◌∷◌, [], true, codes, Option, IfOk, OnOk};
 ghost use Rattle.std.specs.Option.{unwrap_or};
@@ -8,13 +8,13 @@ use pb_data::{Bytes, Items, Text, TryCopy};
 use pb_place_types::{Child, Command, PathFault, PathText, RelativePath, Reply, View, ViewFault};
 use std::alloc::{AllocError, Global};
 
-/// A child that writes the file that it sees at the command's folder to standard output, and the variable that
-/// the program names to standard error. It leaves the two at `a` and `d/b`, and then the first at `d/b` again.
-/// Its status is 7.
+/// A child that writes the file that it sees at the command's folder to standard output, and the
+/// variable that the program names to standard error. It leaves the two at `a` and `d/b`, and then
+/// the first at `d/b` again. Its status is 7.
 #[derive(Clone, Copy, Debug)]
 pub struct Echo;
 
-/// The bytes that were found, or none.
+/// Returns the bytes that were found, or none.
 fn bytes_of(alloc: Global, found: Option<Bytes>) -> Result<Bytes, AllocError>
     ensures { IfOk result (λ bytes. bytes ≡ unwrap_or found []) }
 {
@@ -24,7 +24,7 @@ fn bytes_of(alloc: Global, found: Option<Bytes>) -> Result<Bytes, AllocError>
     }
 }
 
-/// The bytes of the text that was found, or none.
+/// Returns the bytes of the text that was found, or none.
 fn text_of(alloc: Global, found: Option<Text>) -> Result<Bytes, AllocError>
     ensures { IfOk result (λ bytes. bytes ≡ unwrap_or found []) }
 {
@@ -49,7 +49,7 @@ fn leave(
     files.push((name, bytes))
 }
 
-/// What the child leaves, which sees this file and this variable.
+/// Returns what the child leaves if it sees this file and this variable.
 fn files_left(
     alloc: Global,
     file: &Bytes,
@@ -93,7 +93,7 @@ impl Child for Echo {
     }
 }
 
-/// A command without words and pairs, that may read nothing in its target folder.
+/// Returns a command without words and pairs, that may read nothing in its target folder.
 fn command_of(
     alloc: Global,
     program: Text,
@@ -113,7 +113,7 @@ fn command_of(
     }
 }
 
-/// A command with the variable NAME in the target folder `/w/target`.
+/// Returns a command with the variable NAME in the target folder `/w/target`.
 fn in_target(alloc: Global, folder: &str, out: &str) -> Result<Command, PathFault> {
     let program = Text::from_str(alloc, "NAME")?;
     let folder = PathText::parse(alloc, folder)?;
@@ -128,8 +128,9 @@ fn add_path(alloc: Global, paths: &mut Items<PathText>, path: &str) -> Result<()
     Ok(paths.push(path)?)
 }
 
-/// A command for the child: it says the file at `folder` and the variable NAME, and writes into `out`. Of the target
-/// folder `/w/target` it sees what lies below `/w/target/dep`.
+/// Returns a command for the child: it prints the file at `folder` and the variable NAME, and
+/// writes into `out`. In the target folder `/w/target`, the child sees only what is below
+/// `/w/target/dep`.
 pub fn say(alloc: Global, folder: &str, out: &str) -> Result<Command, PathFault> {
     let mut command = in_target(alloc, folder, out)?;
     match add_path(alloc, &mut command.reads, "/w/target/dep") {

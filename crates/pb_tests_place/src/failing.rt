@@ -1,4 +1,4 @@
-//! What a failing call of a place may leave: its definition lets through no less than this.
+//! Laws about what a failing call of a place may leave. The definition allows at least these cases.
 
 ghost use Rattle.std.specs.Prelude.{ℕ, List, take};
 ghost use Rattle.std.specs.FinMap as map;
@@ -6,7 +6,7 @@ ghost use Rattle.pb_place_types.specs.World.{World, Torn, PartlyRemoved, written
 
 use std::test::Fail;
 
-/// A write that failed may leave the old file, the first of the new bytes, or no file.
+/// A law: a write that failed may leave the old file, a prefix of the new bytes, or no file.
 fn torn_writes()
     ensures old { (path bytes : List ℕ) (w : World) → Torn path bytes w w }
     ensures first { (path bytes : List ℕ) (n : ℕ) (w : World)
@@ -15,7 +15,7 @@ fn torn_writes()
         → Torn path bytes w record w { files = map.remove w.files path } }
 {}
 
-/// A removal that failed may leave every file, or none.
+/// A law: a removal that failed may leave every file, or none.
 fn partial_removals()
     ensures all { (path : List ℕ) (w : World) → PartlyRemoved path w w }
     ensures none { (path : List ℕ) (w : World) → PartlyRemoved path w (removed path w) }

@@ -1,24 +1,25 @@
-//! Steps of children in flight at a place in memory, and of calls of it that fail as it is told. `memory.rt` carries them
-//! out: an empty line stands between two scripts, each of which is carried out at a place of its own.
+//! Steps of children in flight at a place in memory, and of calls that fail as a fuse or a death
+//! decides. `memory.rt` carries the steps out. An empty line separates two scripts. Each script is
+//! carried out at a fresh place.
 
 /// Three children that are spawned.
 const SPAWNED: &str = "spawn /w/a /w/target/a -> 0\n\
      spawn /w/a /w/target/b -> 1\n\
      spawn /w/a /w/target/c -> 2";
 
-/// The end of the first, before which half of its files stand, and after which all do.
+/// The end of the first child. Before it, half of the child's files exist; after it, all exist.
 const FIRST_LANDS: &str = "list /w/target/a -> /w/target/a/a \n\
      finish 0 -> 7()()\n\
      list /w/target/a -> /w/target/a/a /w/target/a/d/b \n\
      finish 0 -> no child";
 
-/// The end of the second, before which half of its files stand, and after which all do.
+/// The end of the second child. Before it, half of the child's files exist; after it, all exist.
 const SECOND_LANDS: &str = "list /w/target/b -> /w/target/b/a \n\
      finish 1 -> 7()()\n\
      list /w/target/b -> /w/target/b/a /w/target/b/d/b \n\
      finish 1 -> no child";
 
-/// The end of the third, before which half of its files stand, and after which all do.
+/// The end of the third child. Before it, half of the child's files exist; after it, all exist.
 const THIRD_LANDS: &str = "list /w/target/c -> /w/target/c/a \n\
      finish 2 -> 7()()\n\
      list /w/target/c -> /w/target/c/a /w/target/c/d/b \n\
@@ -38,7 +39,8 @@ pub static ORDERS: &[&[&str]] = &[
     &[SPAWNED, THIRD_LANDS, SECOND_LANDS, FIRST_LANDS, COUNTED],
 ];
 
-/// Deaths of each kind, with a start into another folder before them and one into the same after them.
+/// Deaths of each kind, with a start into another folder before them and one into the same after
+/// them.
 pub const DEATHS: &str = "die a.lib CannotStart -> done\n\
      start /w/a /w/target/b.lib -> 7()() 1 0\n\
      start /w/a /w/target/a.lib -> CannotStart 2 1\n\
@@ -62,8 +64,8 @@ pub const THREE_FILES: &str = "put /w/a old -> done\n\
      put /w/b x -> done\n\
      put /w/c x -> done";
 
-/// Behind three files a call of each kind, of which the fuse lets that of its number fail. No more fail, and `/w/a` is gone but where the
-/// removal leaves it.
+/// A call of each kind over three files. The fuse makes the call with its number fail. No other
+/// call fails. Afterwards `/w/a` is gone, unless the removal left it.
 pub const FUSES: &str = "fuse 0 -> done\n\
      read /w/a -> old\n\
      list /w -> /w/a /w/b /w/c \n\
@@ -163,7 +165,8 @@ pub const FUSES: &str = "fuse 0 -> done\n\
      seen -> 0 0\n\
      file /w/a -> none";
 
-/// Behind three files a write and a removal that fail leave half, rounded down.
+/// After three files were put, a write and a removal that fail leave half of their change, rounded
+/// down.
 pub const HALVES: &str = "fuse 1 -> done\n\
      write /w/a 12345 -> Write\n\
      file /w/a -> 12\n\
@@ -201,8 +204,8 @@ pub const STARTS_OF_TWO_CALLS: &str = "fuse 1 -> done\n\
      fuse 0 -> done\n\
      list /w/target/a -> /w/target/a/a /w/target/a/d/b ";
 
-/// Two children in flight under each fuse, of which the second is asked for its end first, with a read between: five
-/// calls, two that spawn, one that reads, two that ask for ends.
+/// Two children in flight under each fuse. The end of the second child is awaited first, with a
+/// read in between. These are five calls: two that spawn, one that reads, and two that wait.
 pub const FLIGHTS: &str = "fuse 0 -> done\n\
      spawn /w/a /w/target/a -> 0\n\
      spawn /w/a /w/target/b -> 1\n\

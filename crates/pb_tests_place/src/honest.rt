@@ -1,4 +1,4 @@
-//! What the clauses of a place alone say of calls in turn, for any modelled place.
+//! What the clauses of a place promise about calls in turn, for any modelled place.
 
 ghost use Rattle.std.specs.Prelude.{◌≡◌, ◌/◌, true, false, not, length, take, None, Some, if◌then◌else◌, IsTrue, IfOk, IfErr, OnOk};
 ghost use Rattle.std.specs.List.{concat, list_any};
@@ -15,7 +15,7 @@ use pb_place_types::{Child, Command, Ended, PathText, Place, PlaceFault, StartFa
 use std::alloc::Global;
 use std::test::Fail;
 
-/// What is read where these bytes were just written: these bytes.
+/// Returns what is read after these bytes were written: these bytes.
 fn written_then_read<P: Place>(
     alloc: Global,
     place: &mut P,
@@ -34,7 +34,7 @@ fn written_then_read<P: Place>(
     Ok(found)
 }
 
-/// What is read where these pieces were just written: their bytes, joined in order.
+/// Returns what is read after these pieces were written: their bytes, joined in order.
 fn pieces_then_read<P: Place>(
     alloc: Global,
     place: &mut P,
@@ -50,7 +50,8 @@ fn pieces_then_read<P: Place>(
     Ok(found)
 }
 
-/// What is read after a removal: nothing at the path or below it, and elsewhere what was there.
+/// Returns what is read after a removal: nothing at the path or below it, and elsewhere what was
+/// there.
 fn removed_then_read<P: Place>(
     alloc: Global,
     place: &mut P,
@@ -71,7 +72,8 @@ fn removed_then_read<P: Place>(
     Ok(found)
 }
 
-/// What is listed after a write: among it the path that was written, if it is below the folder.
+/// Returns what is listed after a write. If the written path is below the folder, it is in the
+/// list.
 fn written_then_listed<P: Place>(
     alloc: Global,
     place: &mut P,
@@ -88,7 +90,8 @@ fn written_then_listed<P: Place>(
     Ok(paths)
 }
 
-/// How a child ended, and what is read after it: what its reply put there, or what was there.
+/// Returns how a child ended, and what is read after it: what its reply put there, or what was
+/// there.
 fn started_then_read<P: Place>(
     alloc: Global,
     place: &mut P,
@@ -114,8 +117,8 @@ fn started_then_read<P: Place>(
     Ok((ended, found))
 }
 
-/// Writes a file, starts a child, and takes the file away again. The child saw the file, what it left stands, and
-/// the file is gone.
+/// Writes a file, starts a child, and removes the file. The child saw the file, what the child left
+/// still exists, and the file is gone.
 fn written_started_removed<P: Place>(
     alloc: Global,
     place: &mut P,
@@ -140,7 +143,8 @@ fn written_started_removed<P: Place>(
     Ok(ended)
 }
 
-/// What is read at a place in memory, which fails for want of memory alone where no fuse is set and no death waits.
+/// Returns what is read at a place in memory. If no fuse is set and no death waits, the read fails
+/// only if memory runs out.
 fn read_in_memory<C: Child>(
     alloc: Global,
     memory: &mut Memory<C>,
@@ -151,7 +155,8 @@ fn read_in_memory<C: Child>(
     memory.read(alloc, path)
 }
 
-/// How a child ended at a place in memory, where a start fails for want of memory alone, as a read does.
+/// Returns how a child ended at a place in memory. If no fuse is set and no death waits, the start
+/// fails only if memory runs out.
 fn start_in_memory<C: Child>(
     alloc: Global,
     memory: &mut Memory<C>,
@@ -162,7 +167,8 @@ fn start_in_memory<C: Child>(
     memory.start(alloc, command)
 }
 
-/// A write at a place in memory whose next call is to fail: it leaves the first half of the bytes.
+/// Writes a file at a place in memory whose next call is to fail. The write leaves the first half
+/// of the bytes.
 fn torn_in_memory<C: Child>(
     alloc: Global,
     memory: &mut Memory<C>,
@@ -180,7 +186,7 @@ fn torn_in_memory<C: Child>(
     memory.write(alloc, path, bytes)
 }
 
-/// Whether what is written in pieces is read whole.
+/// Returns whether what is written in pieces is read whole.
 fn pieces_hold<P: Place>(
     alloc: Global,
     place: &mut P,
@@ -195,7 +201,7 @@ fn pieces_hold<P: Place>(
     }
 }
 
-/// Whether files are read and listed that were written, and are not read where they were removed.
+/// Returns whether files that were written are read and listed, and removed files are not read.
 fn files_hold<P: Place>(
     alloc: Global,
     place: &mut P,
@@ -209,7 +215,7 @@ fn files_hold<P: Place>(
     Ok(is_read && listed == 1 && is_gone && are_joined)
 }
 
-/// Whether a child says what was just written, and ends.
+/// Returns whether a child prints what was just written, and ends.
 fn starts_hold(
     alloc: Global,
     memory: &mut Memory<Echo>,
@@ -223,7 +229,8 @@ fn starts_hold(
     Ok(says_two && status == 7)
 }
 
-/// Whether each of these holds, one after another, where a child says the file at a path and leaves another.
+/// Returns whether each of these promises is kept, one after another. The child prints the file at
+/// a path and leaves another file.
 fn hold_in_turn(
     alloc: Global,
     memory: &mut Memory<Echo>,
@@ -237,14 +244,15 @@ fn hold_in_turn(
     Ok(files_hold && is_torn && starts_hold)
 }
 
-/// Whether all hold at a place in memory, for a child that is started by this command.
+/// Returns whether all promises are kept at a place in memory, for a child that is started by this
+/// command.
 fn hold_with(alloc: Global, memory: &mut Memory<Echo>, command: &Command) -> Result<bool, Fail> {
     let folder = PathText::parse(alloc, "/w")?;
     let path = PathText::parse(alloc, "/w/a")?;
     hold_in_turn(alloc, memory, &path, &folder, command)
 }
 
-/// Whether all hold at a place in memory.
+/// Returns whether all promises are kept at a place in memory.
 fn hold(alloc: Global, memory: &mut Memory<Echo>) -> Result<bool, Fail> {
     let command = say(alloc, "/w/a", "/w/target/out")?;
     let hold = hold_with(alloc, memory, &command);
@@ -252,14 +260,15 @@ fn hold(alloc: Global, memory: &mut Memory<Echo>) -> Result<bool, Fail> {
     hold
 }
 
-/// Whether the file is there that the child leaves.
+/// Returns whether the file that the child leaves exists.
 fn is_left(alloc: Global, memory: &mut Memory<Echo>) -> Result<bool, Fail> {
     let path = PathText::parse(alloc, "/w/target/out/a")?;
     let found = read_in_memory(alloc, memory, &path)?;
     Ok(found.is_some())
 }
 
-/// Whether all hold at a place, two children were started there, and the file is there that they leave.
+/// Returns whether all promises are kept at a place, two children were started there, and the file
+/// that they leave exists.
 fn hold_and_leave(alloc: Global, memory: &mut Memory<Echo>) -> Result<bool, Fail> {
     let hold = hold(alloc, memory)?;
     let is_left = is_left(alloc, memory)?;

@@ -1,18 +1,18 @@
-//! A view of real files and variables: what exists, what does not exist, and what is no file.
+//! A view of real files and variables: what exists, what does not exist, and what is not a file.
 
 use pb_place_host::HostView;
 use pb_place_types::{PathText, View};
 use std::alloc::Global;
 use std::test::Fail;
 
-/// Whether a view shows a file at a path.
+/// Returns whether a view shows a file at a path.
 fn shows_file<V: View>(alloc: Global, view: &V, path: &str) -> Result<bool, Fail> {
     let path = PathText::parse(alloc, path)?;
     let found = view.file(alloc, &path)?;
     Ok(found.is_some())
 }
 
-/// Whether a view shows a variable.
+/// Returns whether a view shows a variable.
 fn shows_variable<V: View>(alloc: Global, view: &V, name: &str) -> Result<bool, Fail> {
     let found = view.variable(alloc, name)?;
     Ok(found.is_some())

@@ -1,6 +1,12 @@
-//! Tests of paths, of sinks and of places, against worked examples: the place in memory by each of its calls, the machine's
-//! over real folders and children, any place by the clauses of the trait alone, and what the calls of a place count and
-//! leave. The crate holds nothing else: a crate with tests is proved twice, so none that others stand on has any.
+//! Tests of paths, of sinks and of places, against worked examples:
+//!
+//! - the place in memory, by each of its calls;
+//! - the machine's place, over real folders and children;
+//! - any place, by the clauses of the trait only;
+//! - what the calls of a place count and leave.
+//!
+//! The crate contains nothing else. A crate with tests is proved twice, so no crate that others
+//! need has tests.
 #![tactic(auto)]
 
 #[cfg(test)]

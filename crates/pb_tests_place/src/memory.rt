@@ -17,7 +17,7 @@ use std::test::Fail;
 /// A place in memory whose calls are seen.
 type Tried = Seen<Memory<Echo>>;
 
-/// The fault of this name.
+/// Returns the fault of this name.
 fn death_of(name: &str) -> Result<StartFault, Fail>
     ensures { IfOk result (λ death. death ≢ StartFault.OutOfMemory) }
 {
@@ -58,7 +58,7 @@ fn edit(
     }
 }
 
-/// The ticket of a child, or the fault.
+/// Returns the ticket of a child, or the fault.
 fn ticket_text(alloc: Global, answer: Result<u64, StartFault>) -> Result<String, Fail> {
     let text = match answer {
         Ok(ticket) => format!(in alloc; "{ticket}"),
@@ -90,13 +90,13 @@ fn edit_place(
     Ok(done_or_fault(alloc, Ok(()))?)
 }
 
-/// The text of the file at a path, as no call of the place tells it.
+/// Returns the text of the file at a path, without a call of the place.
 fn file_at(alloc: Global, memory: &Memory<Echo>, path: &PathText) -> Result<String, Fail> {
     let file = memory.file(alloc, path)?;
     Ok(file_text(alloc, Ok(file))?)
 }
 
-/// How the child of a ticket ended.
+/// Returns how the child of a ticket ended.
 fn finish(alloc: Global, memory: &mut Memory<Echo>, ticket: &str) -> Result<String, Fail> {
     let ticket = ticket.parse::<u64>().unwrap_or(9);
     let text = if memory.flies(ticket) {
@@ -107,7 +107,7 @@ fn finish(alloc: Global, memory: &mut Memory<Echo>, ticket: &str) -> Result<Stri
     Ok(text?)
 }
 
-/// What a step answers. `seen` tells how many calls came after the first that failed.
+/// Returns what a step answers. `seen` is the number of calls after the first failing call.
 fn answer(
     alloc: Global,
     place: &mut Tried,
@@ -163,7 +163,8 @@ fn try_script(alloc: Global, parts: &[&str]) -> Result<(), Fail> {
     went
 }
 
-/// Carries scripts out that have an empty line between them, each at a place of its own behind these steps.
+/// Carries out scripts that are separated by an empty line. Each script is carried out at a fresh
+/// place, after these steps.
 fn try_scripts(alloc: Global, first: &str, scripts: &str) -> Result<(), Fail> {
     for steps in scripts.split("\n\n") {
         try_script(alloc, &[first, steps])?;
@@ -297,7 +298,7 @@ const STARTS: &str = "start /w/a /w/target/out -> 7(beside)(value) 1 0\n\
      counts -> 0 0\n\
      starts -> 7 1";
 
-/// The calls, each kind at a place of its own.
+/// The calls, each kind at a fresh place.
 static CALLS: &[&str] = &[
     LISTS_AND_READS,
     LISTS_OUTSIDE,

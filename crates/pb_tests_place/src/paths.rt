@@ -7,7 +7,7 @@ use pb_place_types::{
 use std::alloc::{AllocError, Global};
 use std::test::Fail;
 
-/// Whether an answer has this text, or a fault of this name.
+/// Returns whether an answer has this text, or a fault of this name.
 fn says(answer: &Result<PathText, PathFault>, wanted: &str) -> bool {
     match answer {
         Ok(path) => path.as_str() == wanted,
@@ -17,7 +17,7 @@ fn says(answer: &Result<PathText, PathFault>, wanted: &str) -> bool {
     }
 }
 
-/// Whether a path was made, and is this.
+/// Returns whether a path was made, and is this.
 fn is_made<E: Drop>(made: Result<PathText, E>, wanted: &str) -> bool {
     match made {
         Ok(path) => path.as_str() == wanted,
@@ -25,7 +25,7 @@ fn is_made<E: Drop>(made: Result<PathText, E>, wanted: &str) -> bool {
     }
 }
 
-/// Whether a text is parsed to this.
+/// Returns whether a text is parsed to this.
 fn parses_to(alloc: Global, text: &str, wanted: &str) -> Result<bool, PathFault> {
     let answer = PathText::parse(alloc, text);
     Ok(says(&answer, wanted))
@@ -52,7 +52,7 @@ const PARSES: &str = "/ -> /\n\
      /\0 -> BadByte\n\
      /w\0/.. -> BadByte";
 
-/// Whether a text in a folder means this.
+/// Returns whether a text in a folder means this.
 fn joins_to(alloc: Global, folder: &str, text: &str, wanted: &str) -> Result<bool, PathFault> {
     let folder = PathText::parse(alloc, folder)?;
     let answer = folder.join(alloc, text);
@@ -74,15 +74,15 @@ const JOINS: &str = "/w|a/b -> /w/a/b\n\
      /w|a\0 -> BadByte\n\
      /w|/\0 -> BadByte";
 
-/// The paths of two texts.
+/// Returns the paths of two texts.
 fn paths_of(alloc: Global, first: &str, second: &str) -> Result<(PathText, PathText), PathFault> {
     let first = PathText::parse(alloc, first)?;
     let second = PathText::parse(alloc, second)?;
     Ok((first, second))
 }
 
-/// Where a path lies: `below` a folder, or the folder `itself`, or `outside`; `wrong` where it is below it but does not
-/// start with it.
+/// Returns how a path is related to a folder: `below` it, the folder `itself`, or `outside`.
+/// Returns `wrong` if the path is below the folder but does not start with it.
 fn place_of(path: &PathText, folder: &PathText) -> &'static str {
     match (path.is_below(folder), path.starts_with(folder)) {
         (true, true) => "below",
@@ -92,7 +92,7 @@ fn place_of(path: &PathText, folder: &PathText) -> &'static str {
     }
 }
 
-/// Whether a path lies so to a folder.
+/// Returns whether a path is related to a folder in this way.
 fn lies(alloc: Global, path: &str, folder: &str, wanted: &str) -> Result<bool, PathFault> {
     let paths = paths_of(alloc, path, folder)?;
     let is_so = place_of(&paths.0, &paths.1) == wanted;
@@ -100,7 +100,7 @@ fn lies(alloc: Global, path: &str, folder: &str, wanted: &str) -> Result<bool, P
     Ok(is_so)
 }
 
-/// Paths and folders, and where the path lies.
+/// Paths and folders, and how the path is related to the folder.
 const BEGINNINGS: &str = "/w/a|/w/a -> itself\n\
      /w/a/b|/w/a -> below\n\
      /w/a/b/c|/w/a -> below\n\
@@ -113,7 +113,7 @@ const BEGINNINGS: &str = "/w/a|/w/a -> itself\n\
      /w/a|/ -> below\n\
      /|/w -> outside";
 
-/// Whether the folder of a path is this, taken of a copy of it.
+/// Returns whether this is the folder of a copy of a path.
 fn is_in(alloc: Global, path: &str, wanted: &str) -> Result<bool, PathFault> {
     let path = PathText::parse(alloc, path)?;
     let again = path.copy(alloc)?;
@@ -125,7 +125,7 @@ const FOLDERS: &str = "/w/a/b -> /w/a\n\
      /w -> /\n\
      / -> /";
 
-/// Whether a relative path in a folder is this one, of a copy of it.
+/// Returns whether this is the path of a copied relative path in a folder.
 fn is_below(
     alloc: Global,
     folder: &str,
@@ -137,7 +137,8 @@ fn is_below(
     Ok(is_made(folder.below(alloc, &again), wanted))
 }
 
-/// Whether the relative path in a folder is this one; `none` where the text is no relative path.
+/// Returns whether the relative path in a folder is this one; `none` if the text is not a relative
+/// path.
 fn has_inside(alloc: Global, folder: &str, text: &str, wanted: &str) -> Result<bool, PathFault> {
     match RelativePath::of(Text::from_str(alloc, text)?) {
         Some(relative) => is_below(alloc, folder, &relative, wanted),
@@ -160,7 +161,8 @@ const RELATIVE_PATHS: &str = "/w|a -> /w/a\n\
      /w|a//b -> none\n\
      /w|a\0 -> none";
 
-/// Whether this is the path relative to a folder; `none` if the path is not below the folder.
+/// Returns whether this is the path relative to a folder; `none` if the path is not below the
+/// folder.
 fn has_part(alloc: Global, folder: &PathText, path: &PathText, wanted: &str) -> bool {
     match path.inside(alloc, folder) {
         Ok(Some(relative)) => relative.as_str() == wanted,
@@ -169,7 +171,7 @@ fn has_part(alloc: Global, folder: &PathText, path: &PathText, wanted: &str) -> 
     }
 }
 
-/// The same of texts.
+/// Returns what `has_part` returns, for texts.
 fn is_taken_apart(
     alloc: Global,
     folder: &str,
@@ -189,7 +191,7 @@ const PATHS_TAKEN_APART: &str = "/w|/w/a/b -> a/b\n\
      /w|/wa -> none\n\
      /w/a|/w -> none";
 
-/// Whether the last part of a path is this.
+/// Returns whether the last part of a path is this.
 fn ends_in(alloc: Global, path: &str, wanted: &str) -> Result<bool, PathFault> {
     let path = PathText::parse(alloc, path)?;
     Ok(path.last_part() == wanted)
@@ -200,7 +202,7 @@ const LAST_PARTS: &str = "/ -> \n\
      /w -> w\n\
      /w/a.b -> a.b";
 
-/// Whether a text is a `path`, and keeps its bytes as one, or is `none`.
+/// Returns whether a text is a `path` with the same bytes, or `none`, as wanted.
 fn is_path(alloc: Global, text: &str, wanted: &str) -> Result<bool, PathFault> {
     match PathText::of(Text::from_str(alloc, text)?) {
         Some(path) => Ok(path.as_str() == text && wanted == "path"),
@@ -243,8 +245,8 @@ static ALL_ASKED: &[Asked] = &[
     Asked::IsPath,
 ];
 
-/// The table of a question: in each line two texts with a bar between them, of which the second may be missing, and what
-/// comes of them.
+/// Returns the table of a question. Each line has two texts with a bar between them, and what comes
+/// of the texts. The second text may be missing.
 fn table_of(asked: Asked) -> &'static str {
     match asked {
         Asked::Parse => PARSES,
@@ -258,7 +260,7 @@ fn table_of(asked: Asked) -> &'static str {
     }
 }
 
-/// Whether a question about two texts has this answer.
+/// Returns whether a question about two texts has this answer.
 fn is_right(
     alloc: Global,
     asked: Asked,
@@ -278,7 +280,8 @@ fn is_right(
     }
 }
 
-/// Whether the line of a table is right; no for a line without an answer, and where memory is refused.
+/// Returns whether the line of a table is right. Returns false for a line without an answer, and if
+/// memory is refused.
 fn line_is_right(alloc: Global, asked: Asked, line: &str) -> bool {
     let Some((texts, wanted)) = line.split_once(" -> ") else {
         return false;
@@ -287,13 +290,13 @@ fn line_is_right(alloc: Global, asked: Asked, line: &str) -> bool {
     matches!(is_right(alloc, asked, first, second, wanted), Ok(true))
 }
 
-/// Whether a relative path that is known to be one has its name's text.
+/// Returns whether a relative path that is made from a name has the text of the name.
 fn is_known(alloc: Global) -> Result<bool, AllocError> {
     let path = RelativePath::name(alloc, "a.rlib")?;
     Ok(path.as_str() == "a.rlib")
 }
 
-/// Whether a path comes before another.
+/// Returns whether a path comes before another.
 fn stands_before(alloc: Global, low: &str, high: &str) -> Result<bool, PathFault> {
     let paths = paths_of(alloc, low, high)?;
     let stands_before = paths.0 < paths.1;

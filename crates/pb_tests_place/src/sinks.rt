@@ -3,7 +3,8 @@
 use pb_place_types::{Out, Over};
 use std::io::{self, Write};
 
-/// A writer that takes at most three bytes of each write, then none of one, and then fails.
+/// A writer that takes at most three bytes of the first write and no byte of the second. All later
+/// writes fail.
 #[derive(Drop)]
 struct Tiring {
     writes: u8,
@@ -24,19 +25,21 @@ impl Write for Tiring {
     }
 }
 
-/// Whether a write takes so many bytes, if it takes some, and so many writes have failed then.
+/// Returns whether a write takes this number of bytes, and whether this number of writes has failed
+/// afterwards. `taken` is `None` if the write must fail.
 fn takes<O: Out>(sink: &mut O, bytes: &str, taken: Option<usize>, failures: u64) -> bool {
     sink.write(bytes.as_bytes()) == taken && sink.failures() == failures
 }
 
-/// What is written to bytes, how many are taken, and the failures after it.
+/// Writes to a list of bytes. For each write: its text, how many bytes are taken, and the number of
+/// failures afterwards.
 static OVER_BYTES: &[(&str, Option<usize>, u64)] = &[
     ("ab", Some(2), 0),
     ("", Some(0), 0),
     ("c", Some(1), 0),
 ];
 
-/// The same of a tiring writer.
+/// The same, for a writer that tires.
 static OVER_A_TIRING_WRITER: &[(&str, Option<usize>, u64)] = &[
     ("abcd", Some(3), 0),
     ("d", Some(0), 1),
@@ -44,7 +47,7 @@ static OVER_A_TIRING_WRITER: &[(&str, Option<usize>, u64)] = &[
     ("", None, 3),
 ];
 
-/// Whether each write takes what it is to take.
+/// Returns whether each write takes what it is to take.
 fn takes_all<O: Out>(sink: &mut O, cases: &[(&str, Option<usize>, u64)]) -> bool {
     for case in cases {
         let (bytes, taken, failures) = *case;

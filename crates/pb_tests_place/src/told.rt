@@ -5,7 +5,8 @@ use pb_place_types::{Command, Ended, PathText, Place, PlaceFault, StartFault};
 use std::alloc::{AllocError, Global};
 use std::test::Fail;
 
-/// A call, the name of a path or of a variable, a text that is written or names a second path, and the wanted answer.
+/// A call, the name of a path or of a variable, a text that is written or names a second path, and
+/// the wanted answer.
 #[derive(Clone, Copy)]
 pub struct Step<'a> {
     pub call: &'a str,
@@ -14,7 +15,8 @@ pub struct Step<'a> {
     pub wanted: &'a str,
 }
 
-/// The step of a line `CALL NAME TEXT -> ANSWER`, in which the name and the text may be missing.
+/// Returns the step of a line `CALL NAME TEXT -> ANSWER`, in which the name and the text may be
+/// missing.
 pub fn step_of(line: &str) -> Step {
     let (asked, wanted) = line.split_once(" -> ").unwrap_or((line, "no answer"));
     let (call, names) = asked.split_once(' ').unwrap_or((asked, ""));
@@ -27,18 +29,18 @@ pub fn step_of(line: &str) -> Step {
     }
 }
 
-/// The path of a name in a folder.
+/// Returns the path of a name in a folder.
 pub fn path_in(alloc: Global, folder: &PathText, name: &str) -> Result<PathText, Fail> {
     let path = folder.join(alloc, name)?;
     Ok(path)
 }
 
-/// The name of a fault.
+/// Returns the name of a fault.
 fn fault_text(alloc: Global, fault: PlaceFault) -> Result<String, AllocError> {
     format!(in alloc; "{fault:?}")
 }
 
-/// The text of a file, `none`, `wrong` if it is no text, or the fault.
+/// Returns the text of a file, `none`, `wrong` if it is not UTF-8, or the fault.
 pub fn file_text(
     alloc: Global,
     answer: Result<Option<Bytes>, PlaceFault>,
@@ -55,7 +57,7 @@ pub fn file_text(
     text
 }
 
-/// The value of a variable, `none`, or the fault.
+/// Returns the value of a variable, `none`, or the fault.
 fn value_text(
     alloc: Global,
     answer: Result<Option<Text>, PlaceFault>,
@@ -69,7 +71,7 @@ fn value_text(
     text
 }
 
-/// The names of paths below a root, each with a space after it.
+/// Returns the names of paths below a root, each with a space after it.
 fn names(alloc: Global, root: &str, paths: &[PathText]) -> Result<String, AllocError> {
     let mut text = String::new(alloc);
     for path in paths {
@@ -79,7 +81,7 @@ fn names(alloc: Global, root: &str, paths: &[PathText]) -> Result<String, AllocE
     Ok(text)
 }
 
-/// The names that are listed, or the fault.
+/// Returns the names that are listed, or the fault.
 fn names_or_fault(
     alloc: Global,
     root: &str,
@@ -93,7 +95,7 @@ fn names_or_fault(
     text
 }
 
-/// `true`, `false`, or the fault.
+/// Returns `true`, `false`, or the fault.
 fn truth(alloc: Global, answer: Result<bool, PlaceFault>) -> Result<String, AllocError> {
     match answer {
         Ok(answer) => format!(in alloc; "{answer}"),
@@ -101,7 +103,7 @@ fn truth(alloc: Global, answer: Result<bool, PlaceFault>) -> Result<String, Allo
     }
 }
 
-/// `done`, or the fault.
+/// Returns `done`, or the fault.
 pub fn done_or_fault(alloc: Global, answer: Result<(), PlaceFault>) -> Result<String, AllocError> {
     match answer {
         Ok(()) => String::from_str(alloc, "done"),
@@ -109,12 +111,12 @@ pub fn done_or_fault(alloc: Global, answer: Result<(), PlaceFault>) -> Result<St
     }
 }
 
-/// Two numbers.
+/// Returns two numbers.
 pub fn numbers(alloc: Global, first: u64, second: u64) -> Result<String, AllocError> {
     format!(in alloc; "{first} {second}")
 }
 
-/// The first bytes of a file, as many as the text of the step says.
+/// Returns the first bytes of a file. The text of the step says how many.
 fn first_text<P: Place>(
     alloc: Global,
     place: &mut P,
@@ -127,7 +129,7 @@ fn first_text<P: Place>(
     }
 }
 
-/// The pieces of a text, with `|` between two; none of an empty text.
+/// Returns the pieces of a text, with `|` between two; none for an empty text.
 fn pieces_of(alloc: Global, text: &str) -> Result<Items<Bytes>, AllocError> {
     let mut pieces = Items::new(alloc);
     if text.is_empty() {
@@ -150,8 +152,9 @@ fn write_pieces<P: Place>(
     done_or_fault(alloc, place.write_pieces(alloc, path, pieces.as_slice()))
 }
 
-/// What a step answers, of which these are the two paths. `counts` tells how many calls failed, and how many came since
-/// the last of them; `starts` how many children were started, and how many flew at most at one moment.
+/// Returns what a step with these two paths answers. `counts` answers how many calls failed, and
+/// how many calls came since the last failure. `starts` answers how many children were started, and
+/// the greatest number in flight at a time.
 pub fn answer<P: Place>(
     alloc: Global,
     place: &mut P,
@@ -199,7 +202,8 @@ pub fn try_said(said: Result<String, Fail>, wanted: &str) -> Result<(), Fail> {
     Ok(())
 }
 
-/// How a child ended: its status, and its two streams, each in brackets, `wrong` where one is no text; or the fault.
+/// Returns how a child ended, as a text: its status, and its two streams, each in brackets. A
+/// stream that is not UTF-8 is `wrong`. If the child did not answer, returns the fault.
 pub fn end_text(alloc: Global, answer: Result<Ended, StartFault>) -> Result<String, AllocError> {
     let text = match &answer {
         Ok(ended) => {
@@ -214,7 +218,7 @@ pub fn end_text(alloc: Global, answer: Result<Ended, StartFault>) -> Result<Stri
     text
 }
 
-/// How the child of a command ended, and the numbers of starts and failures.
+/// Returns how the child of a command ended, and the numbers of starts and failures.
 pub fn answer_of<P: Place>(
     alloc: Global,
     place: &mut P,

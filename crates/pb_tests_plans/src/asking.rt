@@ -8,7 +8,7 @@ use std::alloc::{AllocError, Global};
 use std::process::Abort;
 use std::test::Fail;
 
-/// The workspace of files that are put at a place, after the files of a first text.
+/// Returns the workspace of files that are put at a place, after the files of a first text.
 fn workspace_at(
     alloc: Global,
     memory: &mut Memory<Silent>,
@@ -21,7 +21,7 @@ fn workspace_at(
     Ok(workspace)
 }
 
-/// The workspace of these files, after the files of a first text.
+/// Returns the workspace of these files, after the files of a first text.
 pub fn workspace_of(alloc: Global, first: &str, files: &str) -> Result<SettledWorkspace, Fail> {
     let mut memory = Memory::new(alloc, Silent);
     let workspace = workspace_at(alloc, &mut memory, first, files);
@@ -29,9 +29,9 @@ pub fn workspace_of(alloc: Global, first: &str, files: &str) -> Result<SettledWo
     workspace
 }
 
-/// Adds what a word asks for: `lib`, `bins`, `bin:NAME`, `workspace` or `*`, `all`, `no-default`, `f:TEXT` for the
-/// text of `--features`, and else a package by its name, also behind `p:`. Words that begin with `@`, `!` or `-` ask for
-/// nothing here.
+/// Adds what a word requests: `lib`, `bins`, `bin:NAME`, `workspace` or `*`, `all`, `no-default`,
+/// or `f:TEXT` for the text of `--features`. Any other word is the name of a package, also after
+/// `p:`. Words that begin with `@`, `!` or `-` request nothing here.
 fn add_word(alloc: Global, options: &mut Options, word: &str) -> Result<(), AllocError> {
     match word {
         "lib" => options.lib = true,
@@ -44,7 +44,7 @@ fn add_word(alloc: Global, options: &mut Options, word: &str) -> Result<(), Allo
     Ok(())
 }
 
-/// Adds what a word asks for that has a name in it.
+/// Adds what a word requests, if the word contains a name.
 fn add_name(alloc: Global, options: &mut Options, word: &str) -> Result<(), AllocError> {
     if let Some(name) = word.strip_prefix("bin:") {
         return options.bin.push(Text::from_str(alloc, name)?);
@@ -59,7 +59,7 @@ fn add_name(alloc: Global, options: &mut Options, word: &str) -> Result<(), Allo
     options.packages.push(Text::from_str(alloc, name)?)
 }
 
-/// Adds what words ask for, with this between them.
+/// Adds what words request. The words are separated by this text.
 fn add_words(
     alloc: Global,
     options: &mut Options,
@@ -72,7 +72,7 @@ fn add_words(
     Ok(())
 }
 
-/// What words ask for, with this between them.
+/// Returns what words request. The words are separated by this text.
 pub fn options_of(alloc: Global, words: &str, between: &str) -> Result<Options, Fail> {
     let mut options = no_options(alloc)?;
     match add_words(alloc, &mut options, words, between) {

@@ -1,8 +1,13 @@
-//! Plans of packages without scripts: the manifests and the other files of the folders in `/w`, each behind a line `@ PATH`, and after a line
-//! `---` what is asked for and the plan or the refusal, written by hand from the rules: the units in order, each with its
-//! key and its level, and where `!whole` is asked for with the places of what it needs and reaches. A name stands for
-//! `-p`, `f:TEXT` for `--features`, `lib`, `bins` and `bin:NAME` for `--lib`, `--bins` and `--bin`, `@NAME` for a
-//! profile; `!missing` asks for the dependencies without a library.
+//! Plans of packages without scripts, written by hand from the rules.
+//!
+//! A case has the files of the folders in `/w`, each after a line `@ PATH`, and a line `---`. After
+//! this line come requests, each with the plan or the refusal. A plan has the units in order, each
+//! with its key and its level. With `!whole`, each unit also has the indices of the units that it
+//! needs and reaches.
+//!
+//! In a request, a name means `-p`, `f:TEXT` means `--features`, and `lib`, `bins` and `bin:NAME`
+//! mean `--lib`, `--bins` and `--bin`. `@NAME` is a profile. `!missing` requests the dependencies
+//! without a library.
 
 /// The cases.
 pub const CASES: &str = r#"=== [units.library] a library

@@ -1,4 +1,4 @@
-//! Tests of commands and of what their answers give, against texts written by hand from the rules.
+//! Tests of commands and of what replies result in, against texts written by hand from the rules.
 
 mod asking;
 mod cases;

@@ -4,7 +4,8 @@ use pb_feature::Features;
 use pb_tests_files::Shown;
 use pb_workspace_types::{DependencyKind, Entry, Package, Side};
 
-/// Puts the entries that are enabled, each by its key: `>KEY` of `[dependencies]`, `>>KEY` of `[build-dependencies]`.
+/// Puts the entries that are enabled, each by its key: `>KEY` of `[dependencies]`, `>>KEY` of
+/// `[build-dependencies]`.
 fn put_entries(out: &mut Shown, features: &Features, place: usize, side: Side, entries: &[Entry]) {
     for (number, entry) in entries.iter().enumerate() {
         if features.enabled(place, side, number) {
@@ -17,7 +18,7 @@ fn put_entries(out: &mut Shown, features: &Features, place: usize, side: Side, e
     }
 }
 
-/// Puts what is on of a package on one side, where it is on or something of it is.
+/// Puts what is on in a package on one side, if the package or something in it is on.
 fn put_part(out: &mut Shown, features: &Features, place: usize, side: Side, found: &Package) {
     let names = features.features_of(place, side);
     if features.active(place, side) || !names.is_empty() {
@@ -34,8 +35,8 @@ fn put_part(out: &mut Shown, features: &Features, place: usize, side: Side, foun
     }
 }
 
-/// Puts what is on: packages in byte order of their folders, each with its features and its enabled entries, for the
-/// target and for the host.
+/// Puts what is on: packages in byte order of their folders, each with its features and its enabled
+/// entries, for the target and for the host.
 pub fn put_enabled(out: &mut Shown, features: &Features, packages: &[Package]) {
     for (place, found) in packages.iter().enumerate() {
         put_part(out, features, place, Side::Target, found);

@@ -11,7 +11,7 @@ use pb_workspace_types::{Options, SelectedWorkspace, SettledWorkspace, Workspace
 use std::alloc::Global;
 use std::test::Fail;
 
-/// Writes what is on of what is selected, or the refusal.
+/// Writes what is on if these packages are selected, or the refusal.
 fn put_resolved(
     alloc: Global,
     workspace: &Workspace,

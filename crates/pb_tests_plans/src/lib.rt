@@ -1,6 +1,7 @@
-//! Tests of what lies between manifests and children: which packages are loaded and selected, or which refusal comes; the
-//! settings of packages; which packages, features and entries are on; plans; commands, and what their answers give. All
-//! are tables of cases, written by hand from the rules.
+//! Tests of what is between manifests and children: which packages are loaded and selected, or
+//! which refusal comes; the settings of packages; which packages, features and entries are on;
+//! plans; commands, and what their replies result in. All tests are tables of cases, written by
+//! hand from the rules.
 #![tactic(auto)]
 
 #[cfg(test)]

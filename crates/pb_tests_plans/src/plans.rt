@@ -13,7 +13,7 @@ use pb_workspace_types::{Options, SelectedWorkspace, SettledWorkspace, Side, Wor
 use std::alloc::{AllocError, Global};
 use std::test::Fail;
 
-/// The profile that the words ask for, at their end.
+/// Returns the profile that the words request, at their end.
 fn profile_in(words: &str) -> &str {
     match words.split_once("@") {
         Some((_, profile)) => profile,
@@ -21,10 +21,10 @@ fn profile_in(words: &str) -> &str {
     }
 }
 
-/// A root manifest in `/w`, all of whose folders with a manifest are members.
+/// A root manifest in `/w`. Each folder in `/w` that has a manifest is a member.
 const ROOT: &str = "@ /w/Cargo.toml\n[workspace]\nmembers = [\"*\"]\n";
 
-/// The plan of a selection.
+/// Returns the plan of a selection.
 fn selection_plan(
     alloc: Global,
     chosen: &SelectedWorkspace<'_>,
@@ -36,7 +36,7 @@ fn selection_plan(
     Ok(plan)
 }
 
-/// The plan of what options select of a workspace.
+/// Returns the plan of what options select of a workspace.
 fn plan_with(
     alloc: Global,
     workspace: &SettledWorkspace,
@@ -49,7 +49,7 @@ fn plan_with(
     plan
 }
 
-/// The plan of a workspace.
+/// Returns the plan of a workspace.
 fn plan_of(
     alloc: Global,
     workspace: &SettledWorkspace,
@@ -105,7 +105,7 @@ impl Trial for PlanCases {
     }
 }
 
-/// The files of the package `a` with so many binaries, behind these files.
+/// Returns these files, and after them the files of the package `a` with this number of binaries.
 fn many_binaries(alloc: Global, first: &str, count: u64) -> Result<String, AllocError> {
     let mut files = Shown::new(alloc);
     files.put(&[first]);
@@ -117,7 +117,7 @@ fn many_binaries(alloc: Global, first: &str, count: u64) -> Result<String, Alloc
     files.whole()
 }
 
-/// Whether a plan has so many units; none for too many.
+/// Returns whether a plan has this number of units; none for too many.
 fn has_units(answer: &Result<Plan, PlanFault>, wanted: Option<usize>) -> bool {
     match answer {
         Ok(plan) => wanted == Some(plan.units().len()),
@@ -126,7 +126,7 @@ fn has_units(answer: &Result<Plan, PlanFault>, wanted: Option<usize>) -> bool {
     }
 }
 
-/// Whether the plan of the package of a workspace has so many units.
+/// Returns whether the plan of the package of a workspace has this number of units.
 fn plans_units(
     alloc: Global,
     workspace: &SettledWorkspace,
@@ -138,10 +138,10 @@ fn plans_units(
     Ok(has_units)
 }
 
-/// A package alone.
+/// One package.
 const ALONE: &str = "@ /w/a/Cargo.toml\npackage.name = \"a\"\n";
 
-/// Whether the plan of a package with so many binaries has so many units.
+/// Returns whether the plan of a package with this number of binaries has this number of units.
 fn binaries_give(alloc: Global, count: u64, wanted: Option<usize>) -> Result<bool, Fail> {
     let files = many_binaries(alloc, ALONE, count)?;
     let workspace = workspace_of(alloc, ROOT, files.as_str())?;
@@ -150,7 +150,7 @@ fn binaries_give(alloc: Global, count: u64, wanted: Option<usize>) -> Result<boo
     plans_units
 }
 
-/// The same with a library, and another package: a feature makes a circle of the two.
+/// The same package with a library, and another package. A feature makes a cycle of the two.
 const CIRCLE: &str = r#"@ /w/a/Cargo.toml
 package.name = "a"
 [dependencies]
@@ -165,12 +165,13 @@ a = { path = "../a", optional = true }
 @ /w/b/src/lib.rs
 "#;
 
-/// What is asked of them where there are too many units, with the circle and without: the circle comes first.
+/// Requests of these packages if there are too many units, without the cycle and with it. The cycle
+/// is reported first.
 const CIRCLE_QUESTIONS: &str = r#"a = TooManyUnits
 a f:circle = Cycle a b
 "#;
 
-/// Whether the plans of the circle, with so many binaries, are these.
+/// Returns whether the plans of the cycle, with this number of binaries, are these.
 fn are_circles_found(alloc: Global, count: u64) -> Result<bool, Fail> {
     let files = many_binaries(alloc, CIRCLE, count)?;
     let workspace = workspace_of(alloc, ROOT, files.as_str())?;
@@ -206,7 +207,8 @@ const FOLDERS_AND_LEVELS: &str = r#"/w/target/release/b.host.lib Zero
 /w/target/release/a.target.lib Three
 "#;
 
-/// Whether these are the folders and levels of a plan, and a place behind its five units has nothing.
+/// Returns whether these are the folders and levels of a plan, and whether an index past its five
+/// units has no unit.
 fn has_folders(alloc: Global, plan: &Plan) -> bool {
     let mut shown = Shown::new(alloc);
     for planned in plan.units() {
@@ -220,7 +222,7 @@ fn has_folders(alloc: Global, plan: &Plan) -> bool {
         && plan.reaches(5).is_empty()
 }
 
-/// Whether a plan was made that has these folders and levels.
+/// Returns whether a plan was made that has these folders and levels.
 fn are_folders(alloc: Global, answer: &Result<Plan, PlanFault>) -> bool {
     match answer {
         Ok(plan) => has_folders(alloc, plan),
@@ -228,7 +230,7 @@ fn are_folders(alloc: Global, answer: &Result<Plan, PlanFault>) -> bool {
     }
 }
 
-/// Whether the plan of a workspace under the profile `bench` has these folders and levels.
+/// Returns whether the plan of a workspace under the profile `bench` has these folders and levels.
 fn bench_has_folders(alloc: Global, workspace: &SettledWorkspace) -> Result<bool, Fail> {
     let answer = plan_of(alloc, workspace, "a @bench")?;
     let are_folders = are_folders(alloc, &answer);
@@ -236,7 +238,7 @@ fn bench_has_folders(alloc: Global, workspace: &SettledWorkspace) -> Result<bool
     Ok(are_folders)
 }
 
-/// Whether this is the key of a unit.
+/// Returns whether this is the key of a unit.
 fn has_key(
     alloc: Global,
     workspace: &Workspace,
@@ -247,7 +249,7 @@ fn has_key(
     Ok(key.as_str() == wanted)
 }
 
-/// A binary of the package `b` on the host.
+/// Returns a binary of the package `b` on the host.
 fn binary(alloc: Global) -> Result<Unit, AllocError> {
     let name = Text::from_str(alloc, "x_1")?;
     Ok(Unit {
@@ -257,7 +259,7 @@ fn binary(alloc: Global) -> Result<Unit, AllocError> {
     })
 }
 
-/// Whether the keys of a unit, and of one of no package, are right.
+/// Returns whether the keys of two units are right. The package of the first unit does not exist.
 fn has_keys(alloc: Global, workspace: &Workspace) -> Result<bool, AllocError> {
     let run = Unit {
         owner: 2,
@@ -272,7 +274,7 @@ fn has_keys(alloc: Global, workspace: &Workspace) -> Result<bool, AllocError> {
     Ok(is_run? && is_binary?)
 }
 
-/// Whether the folders, levels and keys of `BOTH_SIDES` are right.
+/// Returns whether the folders, levels and keys of `BOTH_SIDES` are right.
 fn are_both_right(alloc: Global) -> Result<bool, Fail> {
     let workspace = workspace_of(alloc, ROOT, BOTH_SIDES)?;
     let has_keys = has_keys(alloc, workspace.get());

@@ -1,7 +1,8 @@
-//! Features: manifests, each behind a line `@ PATH`, and after a line `---` what is asked for and what is on, written by
-//! hand from the rules. `p:NAME` stands for `-p`, `f:TEXT` for `--features`, `-` for nothing. The answer names each
-//! package that is on, for the target or for the host, with its features and `>KEY` or `>>KEY` for its enabled entries of
-//! the two tables.
+//! Features, written by hand from the rules. A case has manifests, each after a line `@ PATH`, and
+//! a line `---`. After this line come requests, each with what is on. In a request, `p:NAME` means
+//! `-p`, `f:TEXT` means `--features`, and `-` means nothing. The answer names each package that is
+//! on, for the target or for the host. A package has its features, and `>KEY` or `>>KEY` for its
+//! enabled entries of the two tables.
 
 /// The cases.
 pub const RESOLUTIONS: &str =

@@ -1,8 +1,5 @@
-//! Plans of packages with scripts: the manifests and the other files of the folders in `/w`, each behind a line `@ PATH`, and after a line
-//! `---` what is asked for and the plan or the refusal, written by hand from the rules: the units in order, each with its
-//! key and its level, and where `!whole` is asked for with the places of what it needs and reaches. A name stands for
-//! `-p`, `f:TEXT` for `--features`, `lib`, `bins` and `bin:NAME` for `--lib`, `--bins` and `--bin`, `@NAME` for a
-//! profile; `!missing` asks for the dependencies without a library.
+//! Plans of packages with scripts, written by hand from the rules. The form of the cases is that of
+//! `cases.rt`.
 
 /// The cases.
 pub const SCRIPT_CASES: &str = r#"=== [units.script] a script alone

@@ -23,7 +23,8 @@ pub fn put_texts(out: &mut Shown, texts: &[Text]) {
     }
 }
 
-/// Puts a unit with its key and level, and in whole with the places of what it needs and reaches.
+/// Puts a unit with its key and level. If `whole` is true, also puts the indices of the units that
+/// it needs and reaches.
 fn put_unit(out: &mut Shown, plan: &Plan, place: usize, planned: &Planned, whole: bool) {
     out.put(&[planned.key.as_str(), " "]);
     out.put_number(plan.level(place) as u64);

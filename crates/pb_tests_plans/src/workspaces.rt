@@ -1,6 +1,6 @@
-//! Tests of workspaces and of profiles: which packages are loaded, each with what is settled of it, or which refusal
-//! comes; which packages are selected; and the settings of packages, against what The Cargo Book, Profiles, and our own
-//! choices say.
+//! Tests of workspaces and of profiles. They test which packages are loaded, each with its settled
+//! contents, or which refusal comes. They also test which packages are selected, and the settings
+//! of packages, by The Cargo Book, Profiles, and our own choices.
 
 mod cases;
 mod loaded;

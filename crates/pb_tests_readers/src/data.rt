@@ -5,7 +5,7 @@ use pb_tests_files::holds;
 use std::alloc::{AllocError, Global};
 use std::cmp::Ordering;
 
-/// Whether items are the texts that stand in another one, with spaces between them.
+/// Returns whether items are the texts in another text, which are separated by spaces.
 fn are(items: &Items<Text>, wanted: &str) -> bool {
     let mut rest = wanted.split_whitespace();
     for item in items.as_slice() {
@@ -16,14 +16,14 @@ fn are(items: &Items<Text>, wanted: &str) -> bool {
     rest.next().is_none()
 }
 
-/// Whether one text stands to another in this way, as each comparison of the two tells.
+/// Returns whether one text compares to another in this way, by each comparison of the two.
 fn compares(first: &Text, second: &Text, wanted: Ordering) -> bool {
     first.cmp(second) == wanted
         && (first == second) == (wanted == Ordering::Equal)
         && (first < second) == (wanted == Ordering::Less)
 }
 
-/// The same of what is written here.
+/// Returns what `compares` returns, for texts that are written here.
 fn is_ordered(
     alloc: Global,
     first: &str,
@@ -35,7 +35,7 @@ fn is_ordered(
     Ok(compares(&first, &second, wanted))
 }
 
-/// Two texts, and how the first stands to the second.
+/// Two texts, and how the first compares to the second.
 static ORDERS: &[(&str, &str, Ordering)] = &[
     ("", "", Ordering::Equal),
     ("", "a", Ordering::Less),
@@ -63,13 +63,13 @@ fn mention_all(alloc: Global, mentions: &mut OrderedSet, words: &str) -> Result<
     Ok(())
 }
 
-/// Whether a text is mentioned.
+/// Returns whether a text is mentioned.
 fn mentions_text(alloc: Global, mentions: &OrderedSet, text: &str) -> Result<bool, AllocError> {
     let text = Text::from_str(alloc, text)?;
     Ok(mentions.contains(&text))
 }
 
-/// Whether a text is mentioned, and another is not.
+/// Returns whether a text is mentioned, and another is not.
 fn mentions_one(
     alloc: Global,
     mentions: &OrderedSet,
@@ -79,13 +79,13 @@ fn mentions_one(
     Ok(mentions_text(alloc, mentions, one)? && !mentions_text(alloc, mentions, other)?)
 }
 
-/// Whether mentions become these items.
+/// Returns whether mentions become these items.
 fn become_items(alloc: Global, mentions: OrderedSet, wanted: &str) -> Result<bool, AllocError> {
     let items = mentions.into_items(alloc)?;
     Ok(are(&items, wanted))
 }
 
-/// Whether words that are mentioned stand once.
+/// Returns whether each mentioned word occurs once.
 fn words_stand_once(alloc: Global) -> Result<bool, AllocError> {
     let mut mentions = OrderedSet::new(alloc);
     let mentioned = mention_all(alloc, &mut mentions, "b a b c a");
@@ -114,17 +114,18 @@ fn insert_all(alloc: Global, table: &mut Table<u8>) -> Result<(), AllocError> {
     Ok(())
 }
 
-/// Whether a name has this value in a table, and is there unless the value is 0.
+/// Returns whether a name has this value in a table. The value 0 means that the name is not in the
+/// table.
 fn has_value(alloc: Global, table: &Table<u8>, name: &str, wanted: u8) -> Result<bool, AllocError> {
     let name = Text::from_str(alloc, name)?;
     let value = *table.get(&name).unwrap_or(&0);
     Ok(value == wanted && table.contains(&name) == (wanted != 0))
 }
 
-/// Names, and the value of each in the table; 0 where it has none.
+/// Names, and the value of each in the table; 0 if it has none.
 static VALUES: &[(&str, u8)] = &[("a", 2), ("b", 3), ("c", 4), ("d", 0)];
 
-/// Whether each name has its value in a table.
+/// Returns whether each name has its value in a table.
 fn has_values(alloc: Global, table: &Table<u8>) -> Result<bool, AllocError> {
     for case in VALUES {
         let (name, value) = *case;
@@ -135,7 +136,7 @@ fn has_values(alloc: Global, table: &Table<u8>) -> Result<bool, AllocError> {
     Ok(true)
 }
 
-/// Whether entries have these names, in this order.
+/// Returns whether entries have these names, in this order.
 fn are_named(entries: &[(Text, u8)], wanted: &str) -> bool {
     let mut rest = wanted.split_whitespace();
     for (name, _) in entries {
@@ -146,7 +147,7 @@ fn are_named(entries: &[(Text, u8)], wanted: &str) -> bool {
     rest.next().is_none()
 }
 
-/// Whether a table has so many names, and these, in its order.
+/// Returns whether a table has this number of names, and whether they are these, in its order.
 fn has_names(
     alloc: Global,
     table: Table<u8>,
@@ -158,7 +159,7 @@ fn has_names(
     Ok(is_counted && are_named(entries.as_slice(), wanted))
 }
 
-/// Whether a table keeps the first place and the last value of each name.
+/// Returns whether a table keeps the first place and the last value of each name.
 fn table_keeps(alloc: Global) -> Result<bool, AllocError> {
     let mut table = Table::new(alloc);
     let inserted = insert_all(alloc, &mut table);
@@ -168,20 +169,20 @@ fn table_keeps(alloc: Global) -> Result<bool, AllocError> {
     Ok(has_values? && has_names?)
 }
 
-/// Whether a copy of bytes equals them, and fewer bytes do not.
+/// Returns whether a copy of bytes equals them, and fewer bytes do not.
 fn equals_its_copy(alloc: Global, bytes: &Bytes, fewer: &Bytes) -> Result<bool, AllocError> {
     let copy = bytes.copy(alloc)?;
     Ok(copy == *bytes && fewer != bytes)
 }
 
-/// The same of what is written here.
+/// Returns the same for bytes that are written here.
 fn bytes_are_copied(alloc: Global) -> Result<bool, AllocError> {
     let bytes = Bytes::from_slice(alloc, &[0, 255, 7])?;
     let fewer = Bytes::from_slice(alloc, &[0, 255])?;
     equals_its_copy(alloc, &bytes, &fewer)
 }
 
-/// A text, and bytes where there are some.
+/// A text, and bytes if there are some.
 type Entry = (Text, Option<Bytes>);
 
 /// Adds an entry.
@@ -195,14 +196,15 @@ fn add_entry(
     items.push((text, bytes))
 }
 
-/// Adds two entries, of which the first has bytes.
+/// Adds two entries. Only the first has bytes.
 fn add_entries(alloc: Global, items: &mut Items<Entry>) -> Result<(), AllocError> {
     let bytes = Bytes::from_slice(alloc, &[0, 255, 7])?;
     add_entry(alloc, items, "a", Some(bytes))?;
     add_entry(alloc, items, "b", None)
 }
 
-/// Whether two lists have two entries each, with the same texts and with bytes in the same places.
+/// Returns whether two lists have two entries each, with the same texts and with bytes in the same
+/// places.
 fn are_alike(first: &[Entry], second: &[Entry]) -> bool {
     for (one, other) in first.iter().zip(second) {
         if one.0 != other.0 || one.1.is_some() != other.1.is_some() {
@@ -212,19 +214,19 @@ fn are_alike(first: &[Entry], second: &[Entry]) -> bool {
     first.len() == 2 && second.len() == 2
 }
 
-/// Whether a copy of entries is not empty, and is like them.
+/// Returns whether a copy of entries is not empty, and is like them.
 fn are_copied(alloc: Global, items: &Items<Entry>) -> Result<bool, AllocError> {
     let copy = items.copy(alloc)?;
     Ok(!copy.is_empty() && are_alike(items.as_slice(), copy.as_slice()))
 }
 
-/// Whether no entries are empty.
+/// Returns whether no entries are empty.
 fn none_are_empty(alloc: Global) -> bool {
     let none: Items<Entry> = Items::new(alloc);
     none.is_empty()
 }
 
-/// Whether entries are copied.
+/// Returns whether entries are copied.
 fn items_are_copied(alloc: Global) -> Result<bool, AllocError> {
     let mut items = Items::new(alloc);
     let added = add_entries(alloc, &mut items);

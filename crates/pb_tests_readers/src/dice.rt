@@ -8,7 +8,7 @@ pub struct Dice {
 }
 
 impl Dice {
-    /// A number below another one; 0 where that is 0.
+    /// Returns a number below another one; 0 if that is 0.
     pub fn below(&mut self, limit: usize) -> usize {
         self.state = self
             .state
@@ -18,7 +18,7 @@ impl Dice {
         if limit == 0 { 0 } else { rolled % limit }
     }
 
-    /// One of some texts.
+    /// Returns one of some texts.
     pub fn pick<'a>(&mut self, from: &[&'a str]) -> &'a str {
         let at = self.below(from.len());
         match from.get(at) {

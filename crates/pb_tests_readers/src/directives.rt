@@ -69,7 +69,8 @@ fn put_names(out: &mut Shown, info: &DepInfo) {
     out.put_each("", info.variables.as_slice(), ";");
 }
 
-/// Whether a copy of the directives in a script's output, or why there are none, is shown as this.
+/// Returns whether this text shows a copy of the directives in a script's output, or the fault if
+/// there are no directives.
 fn says(alloc: Global, output: &[u8], wanted: &str) -> bool {
     let mut shown = Shown::new(alloc);
     match read_directives(alloc, output) {
@@ -82,7 +83,7 @@ fn says(alloc: Global, output: &[u8], wanted: &str) -> bool {
     shown.says(wanted)
 }
 
-/// Asserts what each of these outputs says.
+/// Asserts what each of these outputs means.
 fn assert_outputs(rt: &impl Abort, alloc: Global, cases: &[(&[u8], &str)]) {
     for (place, case) in cases.iter().enumerate() {
         let (output, wanted) = *case;
@@ -90,7 +91,7 @@ fn assert_outputs(rt: &impl Abort, alloc: Global, cases: &[(&[u8], &str)]) {
     }
 }
 
-/// Asserts what each of these lines, which are outputs, says.
+/// Asserts what each of these lines means as an output.
 fn assert_lines(rt: &impl Abort, alloc: Global, cases: &str) {
     for line in cases.lines() {
         let (output, wanted) = line.split_once(" -> ").unwrap_or((line, ""));
@@ -98,7 +99,7 @@ fn assert_lines(rt: &impl Abort, alloc: Global, cases: &str) {
     }
 }
 
-/// Outputs of scripts, and what they say: lines and prefixes.
+/// Outputs of scripts, and what they mean: lines and prefixes.
 static LINES: &[(&[u8], &str)] = &[
     (b"cargo:root=/x", "metadata<root></x>;"),
     (b"cargo::root=/x", "UnknownKey 1"),
@@ -129,7 +130,7 @@ static LINES: &[(&[u8], &str)] = &[
     ),
 ];
 
-/// Outputs of scripts, and what they say: keys and values.
+/// Outputs of scripts, and what they mean: keys and values.
 const KEYS: &str = "cargo::rerun-if-changed=build.rs -> changed<build.rs><>;\n\
      cargo::rerun-if-changed= -> BadValue 1\n\
      cargo::rerun-if-changed=a\0 -> BadValue 1\n\
@@ -165,7 +166,7 @@ const KEYS: &str = "cargo::rerun-if-changed=build.rs -> changed<build.rs><>;\n\
      cargo:a=b\0 -> BadValue 1\n\
      cargo::warning= -> warning<><>;";
 
-/// Lines with a value that their key may not have, and lines that are near to those.
+/// Lines with a value that their key may not have, and lines that differ little from these.
 const VALUES: &str = "cargo:rerun-if-changed= -> BadValue 1\n\
      cargo::rerun-if-env-changed=A\0 -> BadValue 1\n\
      cargo::rerun-if-env-changed== -> BadValue 1\n\
@@ -201,7 +202,8 @@ const VALUES: &str = "cargo:rerun-if-changed= -> BadValue 1\n\
      cargo::warning=\0 -> warning<\0><>;\n\
      cargo:warning=w -> warning<w><>;";
 
-/// What the first so many bytes of the line `cargo::rustc-cfg=ab` say, but for all of them.
+/// Returns what the first `end` bytes of the line `cargo::rustc-cfg=ab` mean. The whole line is not
+/// among these prefixes.
 fn said_by_prefix(end: usize) -> &'static str {
     if end < 7 {
         ""
@@ -254,7 +256,7 @@ static RULES: &[(&[u8], &str)] = &[
     (b" # env-dep:A", "BadValue 1"),
 ];
 
-/// Whether dep-info names this.
+/// Returns whether dep-info names this.
 pub fn is_modelled(alloc: Global, dep_info: &[u8], wanted: &str) -> bool {
     let mut shown = Shown::new(alloc);
     match read_dep_info(alloc, dep_info) {
@@ -287,13 +289,14 @@ fn outputs_and_dep_info(rt: HostRuntime) {
     }
 }
 
-/// Whether a line of so many bytes that is no directive says nothing as output, and is refused as dep-info.
+/// Returns whether a line of this number of bytes, which is not a directive, means nothing as
+/// output and is refused as dep-info.
 fn plain_line_is_read(alloc: Global, length: usize) -> Result<bool, AllocError> {
     let plain = of_bytes(alloc, b"", b'a', length)?;
     Ok(says(alloc, plain.as_slice(), "") && is_modelled(alloc, plain.as_slice(), "BadValue 1"))
 }
 
-/// Whether directives are one warning, of this length.
+/// Returns whether directives are one warning, of this length.
 fn are_warning(directives: &[Directive], length: usize) -> bool {
     match directives {
         [Directive::Warning(text)] => text.as_str().len() == length,
@@ -301,7 +304,7 @@ fn are_warning(directives: &[Directive], length: usize) -> bool {
     }
 }
 
-/// Whether a warning of this length is read.
+/// Returns whether a warning of this length is read.
 fn warns_at_length(alloc: Global, length: usize) -> Result<bool, Fail> {
     let output = of_bytes(alloc, b"cargo::warning=", b'w', length)?;
     let read = read_directives(alloc, output.as_slice());
@@ -312,7 +315,7 @@ fn warns_at_length(alloc: Global, length: usize) -> Result<bool, Fail> {
     Ok(is_warning)
 }
 
-/// Whether texts are one, of this length.
+/// Returns whether texts are one, of this length.
 fn are_one_text(texts: &[Text], length: usize) -> bool {
     match texts {
         [text] => text.as_str().len() == length,
@@ -320,7 +323,7 @@ fn are_one_text(texts: &[Text], length: usize) -> bool {
     }
 }
 
-/// Whether dep-info that names one path of this length is read.
+/// Returns whether dep-info that names one path of this length is read.
 fn names_at_length(alloc: Global, length: usize) -> Result<bool, Fail> {
     let dep_info = of_bytes(alloc, b"o: ", b'w', length)?;
     let read = read_dep_info(alloc, dep_info.as_slice());
@@ -331,24 +334,24 @@ fn names_at_length(alloc: Global, length: usize) -> Result<bool, Fail> {
     Ok(is_one)
 }
 
-/// Whether a name is among the words of dep-info, and not among its variables.
+/// Returns whether a name is among the words of dep-info, and not among its variables.
 fn is_word_alone(info: &DepInfo, name: &Text) -> bool {
     info.words.contains(name) && !info.variables.contains(name)
 }
 
-/// The same of what is written here.
+/// Returns the same for a name that is written here.
 fn has_word_alone(alloc: Global, info: &DepInfo, name: &str) -> Result<bool, AllocError> {
     let name = Text::from_str(alloc, name)?;
     Ok(is_word_alone(info, &name))
 }
 
-/// How many words dep-info has.
+/// Returns how many words dep-info has.
 fn count_words(alloc: Global, info: DepInfo) -> Result<usize, AllocError> {
     let words = info.words.into_items(alloc)?;
     Ok(words.len())
 }
 
-/// Whether dep-info has so many words, of which this is one.
+/// Returns whether dep-info has this number of words, and whether this word is one of them.
 fn names_word(alloc: Global, dep_info: &[u8], name: &str, count: usize) -> Result<bool, Fail> {
     let info = read_dep_info(alloc, dep_info)?;
     let is_word = has_word_alone(alloc, &info, name);
@@ -365,7 +368,7 @@ static FAULTS_IN_WORDS: &[(LineFault, &str)] = &[
     (LineFault::OutOfMemory, "out of memory"),
 ];
 
-/// Each law, called once.
+/// Calls each law once.
 fn laws_are_named() {
     laws::directives_concatenate();
     laws::names_concatenate();

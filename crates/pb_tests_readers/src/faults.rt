@@ -1,4 +1,4 @@
-//! Faults for tests, as a table can say them: a fault itself may hold owned values.
+//! Faults for tests, in the form in which a table can contain them. A fault itself may own values.
 
 use crate::texts::texts_of;
 use pb_build_result::{BuildFault, DeviceFault, Refusal};
@@ -29,21 +29,22 @@ pub enum Bad {
 pub enum Ending {
     /// The fault of the manifest `/w/m/Cargo.toml`.
     Manifest(ManifestFault),
-    /// The fault of a workspace that has this name; the path that it may tell is `/w/Cargo.toml`.
+    /// The fault of a workspace that has this name. If the fault contains a path, the path is
+    /// `/w/Cargo.toml`.
     Load(&'static str),
     /// A fault of features.
     Feature(FeatureFault),
     /// A fault of a profile.
     Profile(ProfileFault),
-    /// The fault of a plan that has this name; the circle is of `a` and `b`.
+    /// The fault of a plan that has this name. A cycle is of `a` and `b`.
     Plan(&'static str),
-    /// Why the child of this key gave no answer.
+    /// Why the child of this key did not answer.
     Child(&'static str, StartFault),
     /// The call for this path or key that failed.
     Device(&'static str, PlaceFault),
     /// No run number is left for the record of this key.
     NumbersSpent(&'static str),
-    /// No host is said.
+    /// The compiler does not report its host.
     Toolchain,
     /// No line can be written.
     Sink,
@@ -51,10 +52,10 @@ pub enum Ending {
     OutOfMemory,
 }
 
-/// The error for a name that no fault has. It fails the case that says the name.
+/// The error for a name that no fault has. A case with such a name fails.
 const NO_FAULT: PathFault = PathFault::NotAbsolute;
 
-/// The fault of a unit that has this name.
+/// Returns the fault of a unit that has this name.
 fn named_fault(alloc: Global, name: &str) -> Result<UnitFault, PathFault> {
     Ok(match name {
         "ScriptError" => UnitFault::ScriptError,
@@ -66,7 +67,7 @@ fn named_fault(alloc: Global, name: &str) -> Result<UnitFault, PathFault> {
     })
 }
 
-/// A fault of a unit.
+/// Returns a fault of a unit.
 pub fn unit_fault(alloc: Global, bad: Bad) -> Result<UnitFault, PathFault> {
     match bad {
         Bad::Status(status) => Ok(UnitFault::Status(status)),
@@ -75,7 +76,7 @@ pub fn unit_fault(alloc: Global, bad: Bad) -> Result<UnitFault, PathFault> {
     }
 }
 
-/// The fault of a workspace that has this name and no path.
+/// Returns the fault of a workspace that has this name and contains no path.
 fn pathless_fault(name: &str) -> Result<LoadFault, PathFault> {
     match name {
         "SameName" => Ok(LoadFault::SameName),
@@ -92,7 +93,7 @@ fn pathless_fault(name: &str) -> Result<LoadFault, PathFault> {
     }
 }
 
-/// The refusal of a workspace for the fault of this name.
+/// Returns the refusal of a workspace for the fault of this name.
 fn refused_workspace(alloc: Global, name: &str) -> Result<Refusal, PathFault> {
     let path = PathText::parse(alloc, "/w/Cargo.toml")?;
     let fault = match name {
@@ -103,13 +104,13 @@ fn refused_workspace(alloc: Global, name: &str) -> Result<Refusal, PathFault> {
     Ok(Refusal::Load(fault?))
 }
 
-/// The refusal of a manifest for this fault.
+/// Returns the refusal of a manifest for this fault.
 fn refused_manifest(alloc: Global, fault: ManifestFault) -> Result<Refusal, PathFault> {
     let path = PathText::parse(alloc, "/w/m/Cargo.toml")?;
     Ok(Refusal::Load(LoadFault::Manifest(path, fault)))
 }
 
-/// The refusal of a plan for the fault of this name.
+/// Returns the refusal of a plan for the fault of this name.
 fn refused_plan(alloc: Global, name: &str) -> Result<Refusal, PathFault> {
     Ok(Refusal::Plan(match name {
         "Cycle" => PlanFault::Cycle(texts_of(alloc, "a b")?),
@@ -120,13 +121,13 @@ fn refused_plan(alloc: Global, name: &str) -> Result<Refusal, PathFault> {
     }))
 }
 
-/// The fault of a build whose child of this key gave no answer.
+/// Returns the fault of a build in which the child of this key did not answer.
 fn child_fault(alloc: Global, key: &str, fault: StartFault) -> Result<BuildFault, PathFault> {
     let unit = Text::from_str(alloc, key)?;
     Ok(BuildFault::Child { unit, fault })
 }
 
-/// The fault of a build whose call for this path or key failed.
+/// Returns the fault of a build whose call for this path or key failed.
 fn device_fault(alloc: Global, at: &str, fault: PlaceFault) -> Result<BuildFault, PathFault> {
     let unit = Text::from_str(alloc, at)?;
     Ok(BuildFault::Device {
@@ -135,7 +136,7 @@ fn device_fault(alloc: Global, at: &str, fault: PlaceFault) -> Result<BuildFault
     })
 }
 
-/// The fault of a build that has no run number left for the record of this key.
+/// Returns the fault of a build that has no run number left for the record of this key.
 fn numbers_fault(alloc: Global, key: &str) -> Result<BuildFault, PathFault> {
     let unit = Text::from_str(alloc, key)?;
     Ok(BuildFault::Device {
@@ -144,7 +145,7 @@ fn numbers_fault(alloc: Global, key: &str) -> Result<BuildFault, PathFault> {
     })
 }
 
-/// A fault of a build.
+/// Returns a fault of a build.
 pub fn build_fault(alloc: Global, ending: Ending) -> Result<BuildFault, PathFault> {
     match ending {
         Ending::Manifest(fault) => Ok(BuildFault::Plan(refused_manifest(alloc, fault)?)),

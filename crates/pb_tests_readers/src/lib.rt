@@ -1,7 +1,12 @@
-//! Tests of the base types, of the readers (manifests, the output of scripts, dep-info, session files, records), of what
-//! is written (JSON strings, message lines, result lines, faults in words), of the small compiler, of the flight table and
-//! of the store, against worked examples. The crate holds nothing else: a crate with tests is proved twice, so none that
-//! others stand on has any.
+//! Tests against worked examples:
+//!
+//! - of the base types;
+//! - of the readers: manifests, the output of scripts, dep-info, session files and records;
+//! - of what is written: JSON strings, message lines, result lines, and faults in words;
+//! - of the small compiler, the flight table and the store.
+//!
+//! The crate contains nothing else. A crate with tests is proved twice, so no crate that others
+//! need has tests.
 #![tactic(auto)]
 
 #[cfg(test)]

@@ -1,5 +1,5 @@
-//! The reader on tables of manifests and at the size limit, the letters of names, versions, and
-//! faults in words.
+//! Tests of the reader of manifests, on tables of cases and at the size limit. Other tests are
+//! about the letters of names, about versions, and about faults in words.
 
 mod cases;
 mod show;
@@ -20,7 +20,7 @@ use std::alloc::{AllocError, Global};
 use std::process::Abort;
 use std::test::Fail;
 
-/// The answer to a manifest, in one line.
+/// Returns the answer to a manifest, in one line.
 fn answer_to(alloc: Global, manifest: &[u8]) -> Shown {
     let answer = read_manifest(alloc, manifest);
     let mut shown = Shown::new(alloc);
@@ -32,7 +32,7 @@ fn answer_to(alloc: Global, manifest: &[u8]) -> Shown {
     shown
 }
 
-/// Whether the answer to a manifest, in one line, is this.
+/// Returns whether the answer to a manifest, in one line, is this.
 fn says(alloc: Global, manifest: &[u8], wanted: &str) -> bool {
     answer_to(alloc, manifest).says(wanted)
 }
@@ -49,13 +49,13 @@ impl Trial for ManifestCases {
     }
 }
 
-/// Whether the answer to as many line feeds is this.
+/// Returns whether the answer to a manifest of this number of line feeds is this.
 fn blank_says(alloc: Global, length: usize, wanted: &str) -> Result<bool, AllocError> {
     let bytes = of_bytes(alloc, b"", b'\n', length)?;
     Ok(says(alloc, bytes.as_slice(), wanted))
 }
 
-/// Bytes that are no TOML.
+/// Bytes that are not TOML.
 static NO_TOML: &[&[u8]] = &[b"name = \"\xff\"", b"\x00", b"\xef\xbb"];
 
 /// Asserts each case of a table, and how many there are.
@@ -88,8 +88,8 @@ fn manifests(rt: HostRuntime) -> Result<(), Fail> {
     Ok(())
 }
 
-/// Whether it is told of a text as wanted whether it has the letters of a package's, of a crate's and of a feature's name,
-/// and whether it has a byte zero.
+/// Returns whether four questions about a text have the wanted answers: whether it has the letters
+/// of a package's name, of a crate's name and of a feature's name, and whether it contains byte 0.
 fn has_letters(case: &(&str, bool, bool, bool, bool)) -> bool {
     let (text, package, library, feature, zero) = *case;
     is_name(text) == package
@@ -98,7 +98,8 @@ fn has_letters(case: &(&str, bool, bool, bool, bool)) -> bool {
         && has_zero(text) == zero
 }
 
-/// Texts, whether each has the letters of a package's, a crate's and a feature's name, and whether it has a byte zero.
+/// Texts, whether each has the letters of a package's, a crate's and a feature's name, and whether
+/// it has byte 0.
 static LETTERS: &[(&str, bool, bool, bool, bool)] = &[
     ("a", true, true, true, false),
     ("z", true, true, true, false),
@@ -140,13 +141,13 @@ static LETTERS: &[(&str, bool, bool, bool, bool)] = &[
     ("a\u{1}", false, false, false, false),
 ];
 
-/// The version that a text says.
+/// Returns the version in a text.
 fn version_of(alloc: Global, text: &str) -> Result<Version, ManifestFault> {
     let text = Text::from_str(alloc, text)?;
     Version::read(alloc, text)
 }
 
-/// The middle number of the version that a text says.
+/// Returns the middle number of the version in a text.
 fn minor_of(alloc: Global, text: &str) -> Result<u64, ManifestFault> {
     let version = version_of(alloc, text)?;
     let minor = version.number().minor;
@@ -154,13 +155,13 @@ fn minor_of(alloc: Global, text: &str) -> Result<u64, ManifestFault> {
     Ok(minor)
 }
 
-/// The requirement that a text says.
+/// Returns the requirement in a text.
 fn requirement_of(alloc: Global, text: &str) -> Result<Requirement, ManifestFault> {
     let text = Text::from_str(alloc, text)?;
     Requirement::read(alloc, text)
 }
 
-/// How many comparisons the requirement that a text says has.
+/// Returns how many comparisons the requirement in a text has.
 fn count_comparisons(alloc: Global, text: &str) -> Result<usize, ManifestFault> {
     let requirement = requirement_of(alloc, text)?;
     let count = requirement.as_semver().comparators.len();
@@ -219,7 +220,7 @@ static MATCHES: &[(&str, &str, bool)] = &[
     ("*", "7.0.0", true),
 ];
 
-/// A copy of the version that a text says.
+/// Returns a copy of the version in a text.
 fn version_copied(alloc: Global, text: &str) -> Result<Version, ManifestFault> {
     let version = version_of(alloc, text)?;
     let copy = version.copy(alloc);
@@ -227,7 +228,7 @@ fn version_copied(alloc: Global, text: &str) -> Result<Version, ManifestFault> {
     Ok(copy?)
 }
 
-/// A copy of the requirement that a text says.
+/// Returns a copy of the requirement in a text.
 fn requirement_copied(alloc: Global, text: &str) -> Result<Requirement, ManifestFault> {
     let requirement = requirement_of(alloc, text)?;
     let copy = requirement.copy(alloc);
@@ -235,7 +236,7 @@ fn requirement_copied(alloc: Global, text: &str) -> Result<Requirement, Manifest
     Ok(copy?)
 }
 
-/// Whether a copy of the requirement that a text says matches a version.
+/// Returns whether a copy of the requirement in a text matches a version.
 fn text_matches(alloc: Global, text: &str, version: &Version) -> Result<bool, ManifestFault> {
     let requirement = requirement_copied(alloc, text)?;
     let matches = requirement.matches(version);
@@ -243,7 +244,8 @@ fn text_matches(alloc: Global, text: &str, version: &Version) -> Result<bool, Ma
     Ok(matches)
 }
 
-/// Whether a copy of the requirement that a text says matches a copy of the version that another one says.
+/// Returns whether a copy of the requirement in a text matches a copy of the version in another
+/// text.
 fn texts_match(alloc: Global, requirement: &str, version: &str) -> Result<bool, ManifestFault> {
     let version = version_copied(alloc, version)?;
     let matches = text_matches(alloc, requirement, &version);
@@ -251,7 +253,7 @@ fn texts_match(alloc: Global, requirement: &str, version: &str) -> Result<bool, 
     matches
 }
 
-/// A library that says its name and nothing more.
+/// Returns a library that has only a name.
 fn library_named(alloc: Global, name: &str) -> Result<Library, AllocError> {
     let name = Text::from_str(alloc, name)?;
     Ok(Library {
@@ -261,7 +263,7 @@ fn library_named(alloc: Global, name: &str) -> Result<Library, AllocError> {
     })
 }
 
-/// Whether the library of a package of the name `a-b` that says this name has it.
+/// Returns whether the library of the package `a-b` has this name, if its table has the name.
 fn library_has(alloc: Global, name: &str) -> Result<bool, AllocError> {
     let library = Some(library_named(alloc, name)?);
     let own_name = library_name(alloc, "a-b", &library);
@@ -269,13 +271,13 @@ fn library_has(alloc: Global, name: &str) -> Result<bool, AllocError> {
     Ok(is_text(own_name, name))
 }
 
-/// Whether crate types have these texts; `lib` where there is none.
+/// Returns whether crate types have these texts; `lib` if there is none.
 fn have_texts(alloc: Global, types: &[CrateType], wanted: &[&str]) -> Result<bool, AllocError> {
     let texts = crate_type_texts(alloc, types)?;
     Ok(texts.as_slice() == wanted)
 }
 
-/// Whether editions and crate types have their spellings.
+/// Returns whether editions and crate types have their spellings.
 fn are_spelled(alloc: Global) -> Result<bool, AllocError> {
     let types: &[CrateType] = &[CrateType::Rlib, CrateType::Lib];
     Ok(
@@ -287,13 +289,13 @@ fn are_spelled(alloc: Global) -> Result<bool, AllocError> {
     )
 }
 
-/// Whether a text can be written as a path.
+/// Returns whether a text can be written as a path.
 fn is_path(alloc: Global, text: &str) -> Result<bool, AllocError> {
     let text = Text::from_str(alloc, text)?;
     Ok(WrittenPath::new(text).is_some())
 }
 
-/// The source of an entry with this path and nothing more; none where the text is no path.
+/// Returns the source of an entry with this path and nothing more; none if the text is not a path.
 fn source_at(alloc: Global, path: &str) -> Result<Option<PathSource>, AllocError> {
     let path = Text::from_str(alloc, path)?;
     match WrittenPath::new(path) {
@@ -307,7 +309,7 @@ fn source_at(alloc: Global, path: &str) -> Result<Option<PathSource>, AllocError
     }
 }
 
-/// Whether the copy of a source has this path.
+/// Returns whether the copy of a source has this path.
 fn copy_is_at(alloc: Global, source: &PathSource, path: &str) -> Result<bool, AllocError> {
     let copy = source.copy(alloc)?;
     let is_at = copy.path.as_str() == path;
@@ -315,7 +317,7 @@ fn copy_is_at(alloc: Global, source: &PathSource, path: &str) -> Result<bool, Al
     Ok(is_at)
 }
 
-/// Whether the copy of such a source has its path.
+/// Returns whether the copy of a source with this path has the path.
 fn source_is_copied(alloc: Global, path: &str) -> Result<bool, AllocError> {
     match source_at(alloc, path)? {
         Some(source) => {
@@ -327,7 +329,7 @@ fn source_is_copied(alloc: Global, path: &str) -> Result<bool, AllocError> {
     }
 }
 
-/// Whether the copy of a readme at a path is one at a path.
+/// Returns whether the copy of a README setting with a path has a path, too.
 fn readme_is_copied(alloc: Global, path: &str) -> Result<bool, AllocError> {
     let readme = Readme::At(Text::from_str(alloc, path)?);
     let copied = readme.copy(alloc);

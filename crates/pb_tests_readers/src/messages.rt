@@ -1,4 +1,4 @@
-//! Tests of message lines against what The Cargo Book, External Tools, and our own choices say.
+//! Tests of message lines, by The Cargo Book, External Tools, and our own choices.
 
 mod diagnostics;
 mod lines;

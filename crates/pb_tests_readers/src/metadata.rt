@@ -12,7 +12,7 @@ fn put_pairs(out: &mut Shown, pairs: &Items<(Text, Text)>) {
     }
 }
 
-/// What a script of `z-libß` passes on.
+/// Returns what a script of `z-libß` passes on.
 fn passed_on(alloc: Global) -> Result<Table<Text>, Fail> {
     let text = b"cargo::metadata=root-dir=/r\ncargo:b=1\ncargo::warning=w\ncargo:Root_Dir=/s\n";
     let directives = read_directives(alloc, text)?;
@@ -21,7 +21,7 @@ fn passed_on(alloc: Global) -> Result<Table<Text>, Fail> {
     Ok(pairs?)
 }
 
-/// Whether a table has this value under a name.
+/// Returns whether a table has this value under a name.
 fn has(table: &Table<Text>, name: &Text, wanted: &str) -> bool {
     match table.get(name) {
         Some(value) => table.contains(name) && value.as_str() == wanted,
@@ -29,7 +29,7 @@ fn has(table: &Table<Text>, name: &Text, wanted: &str) -> bool {
     }
 }
 
-/// Whether a table begins with this name.
+/// Returns whether a table begins with this name.
 fn begins(table: &Table<Text>, wanted: &str) -> bool {
     let mut entries = table.iter();
     match entries.next() {
@@ -38,20 +38,21 @@ fn begins(table: &Table<Text>, wanted: &str) -> bool {
     }
 }
 
-/// Whether a table has two pairs, of which the one of `B` is looked up and the other stands first.
+/// Returns whether a table has two pairs. The pair of `B` is looked up, and the other pair is the
+/// first.
 fn is_right(alloc: Global, pairs: &Table<Text>) -> Result<bool, AllocError> {
     let name = Text::from_str(alloc, "DEP_Z_LIBSS_B")?;
     Ok(pairs.len() == 2 && has(pairs, &name, "1") && begins(pairs, "DEP_Z_LIBSS_ROOT_DIR"))
 }
 
-/// Whether these are all pairs of a table, in its order.
+/// Returns whether these are all pairs of a table, in its order.
 fn are_all(alloc: Global, pairs: Table<Text>, wanted: &str) -> Result<bool, AllocError> {
     let mut shown = Shown::new(alloc);
     put_pairs(&mut shown, &pairs.into_items(alloc)?);
     Ok(shown.says(wanted))
 }
 
-/// Whether what a script of `z-libß` passes on is right.
+/// Returns whether what a script of `z-libß` passes on is right.
 fn is_passed_on(alloc: Global) -> Result<bool, Fail> {
     let pairs = passed_on(alloc)?;
     let is_right = is_right(alloc, &pairs);

@@ -1,5 +1,5 @@
-//! Tests of the small compiler: worked compiles with their bytes; its verbs, by sources and images in one world of files
-//! and variables, with what they answer; and its dep-info as it is read.
+//! Tests of the small compiler: worked compiles with their bytes; tables of sources and images for
+//! its verbs, in one world of files and variables; and its dep-info as the builder reads it.
 
 mod command_lines;
 mod compiles;

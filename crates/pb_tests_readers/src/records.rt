@@ -1,4 +1,4 @@
-//! Records as text: worked examples, texts that are none, and texts made at random.
+//! Records as text: worked examples, texts that are not records, and texts made at random.
 
 use crate::dice::Dice;
 use pb_place_types::join_pieces;
@@ -6,7 +6,7 @@ use pb_record::{Needed, Record, read_record, write_record, write_record_pieces};
 use pb_tests_files::{Shown, holds};
 use std::alloc::{AllocError, Global};
 
-/// Whether a record is written as this text, whole and in pieces.
+/// Returns whether a record is written as this text, whole and in pieces.
 fn is_written(alloc: Global, kept: Record, text: &[u8]) -> Result<Option<bool>, AllocError> {
     let again = write_record(alloc, &kept)?;
     let pieces = write_record_pieces(alloc, kept)?;
@@ -14,7 +14,8 @@ fn is_written(alloc: Global, kept: Record, text: &[u8]) -> Result<Option<bool>, 
     Ok(Some(again.as_slice() == text && joined.as_slice() == text))
 }
 
-/// Whether the record that a text is, is written so again; none where it is no record.
+/// Returns whether the record in a text is written as the same text, or none if the text is not a
+/// record.
 fn again(alloc: Global, text: &[u8]) -> Result<Option<bool>, AllocError> {
     match read_record(alloc, text)? {
         Some(kept) => is_written(alloc, kept, text),
@@ -22,17 +23,17 @@ fn again(alloc: Global, text: &[u8]) -> Result<Option<bool>, AllocError> {
     }
 }
 
-/// Whether a text is that of a record, which is written so again.
+/// Returns whether a text is a record that is written as the same text.
 fn is_record(alloc: Global, text: &[u8]) -> bool {
     matches!(again(alloc, text), Ok(Some(true)))
 }
 
-/// Whether a text is that of no record.
+/// Returns whether a text is not a record.
 fn is_none(alloc: Global, text: &[u8]) -> bool {
     matches!(again(alloc, text), Ok(None))
 }
 
-/// Whether a text is that of no record, or of one that is written so again.
+/// Returns whether a text is not a record, or is a record that is written as the same text.
 fn is_none_or_record(alloc: Global, text: &[u8]) -> bool {
     matches!(again(alloc, text), Ok(None) | Ok(Some(true)))
 }
@@ -51,7 +52,7 @@ static RECORDS: &[&str] = &[
     "record 1\n1\na\n1\nm\n0\n1\n/\n1\n1\nN\n1\nv\n2\n/z\n2\n/t\n0\n\n1\n2\n/t\n1\nv\n1\nX\n0\n1\n1\nb\n1\n1\nf\n3\n1\n2\n0\n\n0\n\nend\n",
 ];
 
-/// Whether a record has the run number of the largest one, and no needed units.
+/// Returns whether a record has the run number of the largest one, and no needed units.
 fn is_largest(kept: &Record) -> bool {
     match &kept.needed {
         Needed::Numbers(own, needs) => *own == u64::MAX && needs.is_empty(),
@@ -59,7 +60,7 @@ fn is_largest(kept: &Record) -> bool {
     }
 }
 
-/// Whether a record has the parts that the largest one says.
+/// Returns whether a record has the parts that are written in the largest record.
 fn has_its_parts(kept: &Record) -> bool {
     kept.key.as_str() == "z.target.lib"
         && kept.asked.program.as_str() == "m"
@@ -67,7 +68,7 @@ fn has_its_parts(kept: &Record) -> bool {
         && is_largest(kept)
 }
 
-/// Whether the largest record says its parts.
+/// Returns whether the largest record is read with its parts.
 fn says_its_parts(alloc: Global) -> Result<bool, AllocError> {
     match read_record(alloc, LARGEST.as_bytes())? {
         Some(kept) => {
@@ -79,7 +80,7 @@ fn says_its_parts(alloc: Global) -> Result<bool, AllocError> {
     }
 }
 
-/// Whether each first part of a text is that of no record.
+/// Returns whether no proper prefix of a text is a record.
 fn is_torn_anywhere(alloc: Global, text: &[u8]) -> bool {
     for end in 0..text.len() {
         if !is_none(alloc, &text[..end]) {
@@ -89,14 +90,15 @@ fn is_torn_anywhere(alloc: Global, text: &[u8]) -> bool {
     true
 }
 
-/// Whether a text with one byte more is that of no record.
+/// Returns whether a text with one more byte is not a record.
 fn is_none_longer(alloc: Global, text: &[u8]) -> Result<bool, AllocError> {
     let mut longer = text.to_vec(alloc)?;
     longer.push(b'\n')?;
     Ok(is_none(alloc, longer.as_slice()))
 }
 
-/// Whether a text with this byte at a place is that of no record, or of one that is written so again.
+/// Returns whether a text with this byte at an index is not a record, or is a record that is
+/// written as the same text.
 fn stands_with(alloc: Global, text: &[u8], at: usize, byte: u8) -> Result<bool, AllocError> {
     let mut changed = text.to_vec(alloc)?;
     if at < changed.len() {
@@ -105,7 +107,7 @@ fn stands_with(alloc: Global, text: &[u8], at: usize, byte: u8) -> Result<bool, 
     Ok(is_none_or_record(alloc, changed.as_slice()))
 }
 
-/// The same of each of some bytes at each place of a text.
+/// Returns the same for each of some bytes at each index of a text.
 fn stands_changed(alloc: Global, text: &[u8]) -> Result<bool, AllocError> {
     for at in 0..text.len() {
         for byte in b"\0\n019af/\xff" {
@@ -117,8 +119,8 @@ fn stands_changed(alloc: Global, text: &[u8]) -> Result<bool, AllocError> {
     Ok(true)
 }
 
-/// What is wrong with the text of a record as it is, torn, with a byte more, or with a byte changed; nothing where it
-/// stands.
+/// Returns what is wrong with the text of a record as it is, torn, with one more byte, or with a
+/// changed byte. Returns an empty text if nothing is wrong.
 fn wrong_with(alloc: Global, text: &[u8]) -> &'static str {
     if !is_record(alloc, text) {
         return "as it is";
@@ -135,7 +137,8 @@ fn wrong_with(alloc: Global, text: &[u8]) -> &'static str {
     ""
 }
 
-/// What is put in a record that has nothing in its lists, in place of which of its lines, so that it is none.
+/// Two texts each. If the second text replaces the first in a record with nothing in its lists, the
+/// result is not a record.
 static WRONG: &[(&str, &str)] = &[
     ("18446744073709551615", "18446744073709551616"),
     ("18446744073709551615", "018446744073709551615"),
@@ -159,7 +162,7 @@ static WRONG: &[(&str, &str)] = &[
     ("end\n", "end"),
 ];
 
-/// The text of a record with something put in place of something in it, once.
+/// Returns the text of a record in which one text is replaced by another, once.
 fn replace_part(alloc: Global, old: &str, new: &str) -> Result<String, AllocError> {
     let (before, behind) = LARGEST.split_once(old).unwrap_or((LARGEST, ""));
     let mut made = Shown::new(alloc);
@@ -167,17 +170,17 @@ fn replace_part(alloc: Global, old: &str, new: &str) -> Result<String, AllocErro
     made.whole()
 }
 
-/// Whether the largest record with something put in place of something in it is none.
+/// Replaces one text in the largest record by another. Returns whether the result is not a record.
 fn is_none_with(alloc: Global, old: &str, new: &str) -> Result<bool, AllocError> {
     let made = replace_part(alloc, old, new)?;
     Ok(is_none(alloc, made.as_bytes()))
 }
 
-/// A record whose key is no UTF-8.
+/// A record whose key is not UTF-8.
 const NO_TEXT: &[u8] =
     b"record 2\n1\n1\n\xff\n1\nm\n0\n1\n/\n0\n2\n/z\n2\n/t\n0\n\n0\n0\n0\n0\n\n0\n\nend\n";
 
-/// Texts that may stand anywhere.
+/// Texts that may be anywhere in a record.
 static TEXTS: &[&str] = &[
     "",
     "a",
@@ -214,7 +217,7 @@ fn put_block(out: &mut Shown, text: &str) {
     out.put(&["\n", text, "\n"]);
 }
 
-/// Adds how many there are, and tells it.
+/// Adds a random number of parts, and returns this number.
 fn put_count(out: &mut Shown, dice: &mut Dice) -> usize {
     let count = dice.below(4);
     out.put_number(count as u64);
@@ -285,7 +288,7 @@ fn put_inputs(out: &mut Shown, dice: &mut Dice) {
     }
 }
 
-/// Adds the key and what was asked.
+/// Adds the key and what was requested.
 fn put_asked(out: &mut Shown, dice: &mut Dice) {
     put_block(out, dice.pick(TEXTS));
     put_block(out, dice.pick(TEXTS));
@@ -310,7 +313,7 @@ fn put_needed(out: &mut Shown, dice: &mut Dice, numbered: bool) {
     }
 }
 
-/// The text of a record made at random.
+/// Returns the text of a record made at random.
 fn random_record(alloc: Global, dice: &mut Dice) -> Result<String, AllocError> {
     let mut out = Shown::new(alloc);
     let numbered = dice.below(2) == 0;
@@ -328,13 +331,13 @@ fn random_record(alloc: Global, dice: &mut Dice) -> Result<String, AllocError> {
     out.whole()
 }
 
-/// Whether such a text is that of a record.
+/// Returns whether such a text is a record.
 fn random_is_record(alloc: Global, dice: &mut Dice) -> Result<bool, AllocError> {
     let text = random_record(alloc, dice)?;
     Ok(is_record(alloc, text.as_bytes()))
 }
 
-/// Whether so many such texts are.
+/// Returns whether this number of such texts are records.
 fn random_are_records(alloc: Global, count: u64) -> Result<bool, AllocError> {
     let mut dice = Dice { state: 1 };
     for _ in 0..count {
@@ -345,7 +348,7 @@ fn random_are_records(alloc: Global, count: u64) -> Result<bool, AllocError> {
     Ok(true)
 }
 
-/// The text of a record with one file of so many bytes.
+/// Returns the text of a record with one file of this number of bytes.
 fn large_record(alloc: Global, size: usize) -> Result<Vec<u8>, AllocError> {
     let bytes = vec![in alloc; b'x'; size]?;
     let front = format!(in alloc;
@@ -357,7 +360,7 @@ fn large_record(alloc: Global, size: usize) -> Result<Vec<u8>, AllocError> {
     Ok(made)
 }
 
-/// Whether the text of a record with one file of so many bytes is that of a record.
+/// Returns whether the text of a record with one file of this number of bytes is that of a record.
 fn large_is_record(alloc: Global, size: usize) -> Result<bool, AllocError> {
     let text = large_record(alloc, size)?;
     Ok(is_record(alloc, text.as_slice()))

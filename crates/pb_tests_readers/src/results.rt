@@ -16,12 +16,12 @@ use pb_profile::ProfileFault;
 use pb_tests_files::{holds, is_said};
 use std::alloc::Global;
 
-/// Whether the line of a build is this.
+/// Returns whether the line of a build is this.
 fn says(alloc: Global, answer: Result<Summary, BuildFault>, wanted: &str) -> bool {
     is_said(result_line(alloc, &answer), wanted)
 }
 
-/// The key of the first bad unit, `a.target.lib`, and its fault.
+/// Returns the key of the first bad unit, `a.target.lib`, and its fault.
 fn bad_unit(alloc: Global, bad: Option<Bad>) -> Result<Option<(Text, UnitFault)>, PathFault> {
     let Some(bad) = bad else {
         return Ok(None);
@@ -31,7 +31,7 @@ fn bad_unit(alloc: Global, bad: Option<Bad>) -> Result<Option<(Text, UnitFault)>
     Ok(Some((unit, fault)))
 }
 
-/// What a build that came to its end says.
+/// Returns the summary of a build that came to its end.
 fn summary(alloc: Global, bad: Option<(Text, UnitFault)>, started: Items<Text>) -> Summary {
     Summary {
         success: bad.is_none(),
@@ -44,7 +44,7 @@ fn summary(alloc: Global, bad: Option<(Text, UnitFault)>, started: Items<Text>) 
     }
 }
 
-/// Whether the line of a build that came to its end is this.
+/// Returns whether the line of a build that came to its end is this.
 fn ends_with(
     alloc: Global,
     bad: Option<Bad>,
@@ -56,7 +56,7 @@ fn ends_with(
     Ok(says(alloc, Ok(summary(alloc, bad, started)), wanted))
 }
 
-/// The fault of the first bad unit, where there is one, the keys of what was started, and the line.
+/// The fault of the first bad unit, if there is one, the keys of what was started, and the line.
 static ENDS: &[(Option<Bad>, &str, &str)] = &[
     (None, "", "ok started=-"),
     (None, "a.target.lib", "ok started=a.target.lib"),
@@ -142,7 +142,7 @@ static ENDS: &[(Option<Bad>, &str, &str)] = &[
     ),
 ];
 
-/// Whether a fault comes from outside the rules.
+/// Returns whether a fault comes from outside the rules.
 fn is_outside(fault: &BuildFault) -> bool
     ensures { result ≡ is_outside fault.now }
 {
@@ -154,7 +154,8 @@ fn is_outside(fault: &BuildFault) -> bool
     }
 }
 
-/// Whether the line of a build that ended so is this, and its fault comes from outside the rules or does not.
+/// Returns whether the line of a build with this end is the wanted one. The fault must also come,
+/// or not come, from outside the rules, as wanted.
 fn is_told(
     alloc: Global,
     ending: Ending,

@@ -1,4 +1,4 @@
-//! What session files say, against worked examples.
+//! What session files mean, against worked examples.
 
 use crate::wording::reads;
 use pb_build_session::{BadSession, Death, PickBy, SessionStep, read_session};
@@ -9,7 +9,8 @@ use pb_workspace_types::Options;
 use std::alloc::{AllocError, Global};
 use std::process::Abort;
 
-/// Puts the texts of an option in words: its name, and each text with a bar behind it; nothing where there is none.
+/// Puts the texts of an option in words: its name, and each text with a bar after it; nothing if
+/// there is none.
 fn put_texts(out: &mut Shown, name: &str, texts: &[Text]) {
     if !texts.is_empty() {
         out.put(&[" ", name, "="]);
@@ -24,8 +25,8 @@ fn put_switch(out: &mut Shown, name: &str, is_on: bool) {
     }
 }
 
-/// Puts how many units may be in flight at one time, where that is not one, and which of those that may begin does,
-/// where that is not the first.
+/// Puts how many units may be in flight at a time, if this is not one. Puts which unit begins, if
+/// this is not the first unit that may begin.
 fn put_turns(out: &mut Shown, jobs: u64, pick: &PickBy) {
     if jobs != 1 {
         out.put(&[" jobs="]);
@@ -51,7 +52,7 @@ fn put_build(out: &mut Shown, options: &Options, pick: &PickBy) {
     put_turns(out, options.jobs, pick);
 }
 
-/// How a start fails in words, by what it answers.
+/// Returns how a start fails in words, by what it answers.
 fn death_text(death: &Death) -> &'static str {
     match death.fault() {
         StartFault::CannotStart => "cannot start",
@@ -78,7 +79,7 @@ fn put_step(out: &mut Shown, step: &SessionStep) {
     }
 }
 
-/// Puts steps in words, each with `;` behind it.
+/// Puts steps in words, each with `;` after it.
 fn put_steps(out: &mut Shown, steps: &[SessionStep]) {
     for step in steps {
         put_step(out, step);
@@ -86,7 +87,7 @@ fn put_steps(out: &mut Shown, steps: &[SessionStep]) {
     }
 }
 
-/// Whether a session file says this: its steps in words, or `bad`.
+/// Returns whether a session file means this: its steps in words, or `bad`.
 fn says(alloc: Global, session: &[u8], wanted: &str) -> bool {
     let mut shown = Shown::new(alloc);
     match read_session(alloc, session) {
@@ -100,7 +101,7 @@ fn says(alloc: Global, session: &[u8], wanted: &str) -> bool {
     shown.says(wanted)
 }
 
-/// Session files, one a line, and their steps or that they are no session.
+/// Session files, one on each line, and their steps, or that they are not sessions.
 const SESSIONS: &str = r#"[{"write":["/","x"]}] -> write</><x>;
 [{"write":["/w/../x//./y/",""]}] -> write</x/y><>;
 [{"remove":"/w"}] -> remove</w><>;
@@ -192,7 +193,7 @@ null -> bad
 [{"fuse":1,"build":{}}] -> bad
 [{"build":{}},{"write":["a","b"]}] -> bad"#;
 
-/// The same of files that a line cannot say.
+/// Session files that a line of `SESSIONS` cannot contain, and their steps.
 static ODD_SESSIONS: &[(&str, &str)] = &[
     ("[]", ""),
     (" [ ] ", ""),
@@ -202,7 +203,7 @@ static ODD_SESSIONS: &[(&str, &str)] = &[
     ("", "bad"),
 ];
 
-/// The options of a build, and what they say, one a line.
+/// The options of a build, and what they mean, one on each line.
 const OPTIONS: &str = r#"{} -> build</w/Cargo.toml><dev>;
 {"manifest":"/v/Cargo.toml"} -> build</v/Cargo.toml><dev>;
 {"profile":"release"} -> build</w/Cargo.toml><release>;
@@ -272,19 +273,19 @@ const OPTIONS: &str = r#"{} -> build</w/Cargo.toml><dev>;
 {"tool":"cargo"} -> bad
 {"all-features":true} -> bad"#;
 
-/// The two parts of a line.
+/// Returns the two parts of a line.
 fn parts_of(line: &str) -> (&str, &str) {
     line.split_once(" -> ").unwrap_or((line, ""))
 }
 
-/// Whether a session of one build with these options says this.
+/// Returns whether a session of one build with these options means this.
 fn build_says(alloc: Global, options: &str, wanted: &str) -> Result<bool, AllocError> {
     let session = format!(in alloc; "[{{\"build\":{options}}}]")?;
     Ok(says(alloc, session.as_bytes(), wanted))
 }
 
-/// Puts what no key of a session changes: the words before a build script, the builder's name, and that no target folder
-/// is asked for.
+/// Puts what no key of a session changes: the words before a build script, the builder's name, and
+/// that no target folder is requested.
 fn put_fixed(out: &mut Shown, options: &Options) {
     out.put(&[options.tool.as_str()]);
     put_texts(out, "runner", options.runner.as_slice());
@@ -294,7 +295,7 @@ fn put_fixed(out: &mut Shown, options: &Options) {
 /// A session of one build.
 const FIXED: &[u8] = br#"[{"build":{"profile":"release"}}]"#;
 
-/// Whether a session has one step, a build of which no key changes this.
+/// Returns whether a session has one step, and this step is a build with these unchanged options.
 fn has_fixed(alloc: Global, session: &[u8], wanted: &str) -> Result<bool, BadSession> {
     let steps = read_session(alloc, session)?;
     let mut shown = Shown::new(alloc);
@@ -305,7 +306,7 @@ fn has_fixed(alloc: Global, session: &[u8], wanted: &str) -> Result<bool, BadSes
     Ok(shown.says(wanted))
 }
 
-/// Asserts what each session file says.
+/// Asserts what each session file means.
 fn assert_sessions(rt: &impl Abort, alloc: Global) {
     for line in SESSIONS.lines() {
         let (session, wanted) = parts_of(line);

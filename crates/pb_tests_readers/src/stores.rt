@@ -1,4 +1,5 @@
-//! Tests of the store over files in memory: steps in words, and what they tell. The crate holds nothing else.
+//! Tests of the store over files in memory: steps in words, and what the steps report. The crate
+//! contains nothing else.
 
 mod failing;
 mod steps;

@@ -3,7 +3,7 @@
 use pb_data::{Items, Text};
 use std::alloc::{AllocError, Global};
 
-/// The texts that stand in another one, with spaces between them.
+/// Returns the texts in another text, which are separated by spaces.
 pub fn texts_of(alloc: Global, words: &str) -> Result<Items<Text>, AllocError> {
     let mut texts = Items::new(alloc);
     for word in words.split_whitespace() {
@@ -24,7 +24,7 @@ pub fn add_pair(
     pairs.push((name, value))
 }
 
-/// Some bytes, and one byte so many times behind them.
+/// Returns some bytes, followed by this number of equal bytes.
 pub fn of_bytes(
     alloc: Global,
     start: &[u8],

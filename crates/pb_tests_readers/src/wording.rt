@@ -11,14 +11,14 @@ use pb_tests_files::{Shown, holds};
 use std::alloc::{AllocError, Global};
 use std::fmt::Display;
 
-/// Whether a value is this in words.
+/// Returns whether a value is this in words.
 pub fn reads<T: Display>(alloc: Global, value: &T, wanted: &str) -> bool {
     let mut words = Shown::new(alloc);
     words.put_words(value);
     words.says(wanted)
 }
 
-/// Whether the fault of a build that ended so is this in words.
+/// Returns whether the fault of a build with this end is this text in words.
 fn ending_reads(alloc: Global, ending: Ending, wanted: &str) -> Result<bool, PathFault> {
     let fault = build_fault(alloc, ending)?;
     Ok(reads(alloc, &fault, wanted))
@@ -47,7 +47,7 @@ static BUILD_WORDS: &[(Ending, &str)] = &[
     ),
 ];
 
-/// Whether the fault of a unit is this in words.
+/// Returns whether the fault of a unit is this in words.
 fn bad_reads(alloc: Global, bad: Bad, wanted: &str) -> Result<bool, PathFault> {
     let fault = unit_fault(alloc, bad)?;
     Ok(reads(alloc, &fault, wanted))
@@ -92,7 +92,7 @@ fn words(rt: HostRuntime) {
     }
 }
 
-/// Whether a sentence is what a fault's `Display` writes.
+/// Returns whether a sentence is what a fault's `Display` writes.
 fn is_sentence<T: Display>(alloc: Global, fault: &T, sentence: Result<String, AllocError>) -> bool {
     match sentence {
         Ok(sentence) => reads(alloc, fault, sentence.as_str()),
@@ -100,13 +100,13 @@ fn is_sentence<T: Display>(alloc: Global, fault: &T, sentence: Result<String, Al
     }
 }
 
-/// Whether the sentence of a build's fault is what the fault's `Display` writes.
+/// Returns whether the sentence of a build's fault is what the fault's `Display` writes.
 fn ending_agrees(alloc: Global, ending: Ending) -> Result<bool, PathFault> {
     let fault = build_fault(alloc, ending)?;
     Ok(is_sentence(alloc, &fault, build_sentence(alloc, &fault)))
 }
 
-/// Whether the sentence of a unit's fault is what the fault's `Display` writes.
+/// Returns whether the sentence of a unit's fault is what the fault's `Display` writes.
 fn bad_agrees(alloc: Global, bad: Bad) -> Result<bool, PathFault> {
     let fault = unit_fault(alloc, bad)?;
     Ok(is_sentence(alloc, &fault, unit_sentence(alloc, &fault)))
@@ -128,11 +128,11 @@ static MANIFEST_FAULTS: &[ManifestFault] = &[
     ManifestFault::OutOfMemory,
 ];
 
-/// The names of all faults of a workspace but that of a manifest.
+/// The names of all faults of a workspace, except the fault of a manifest.
 const LOAD_FAULTS: &str =
     "NoManifest SameName NameMismatch VersionMismatch LinksTwice LinksWithoutScript NoInherited TooMany SameBinary Place NoSuchPackage OutOfMemory";
 
-/// The names of all faults of a plan but that of a profile.
+/// The names of all faults of a plan, except the fault of a profile.
 const PLAN_FAULTS: &str = "Cycle TooManyUnits NothingToBuild OutOfMemory";
 
 /// All faults of features.

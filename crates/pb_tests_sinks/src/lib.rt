@@ -1,5 +1,5 @@
-//! Tests of the whole program: sessions over sinks that fail, and what is written after mistakes and
-//! of long records.
+//! Tests of the whole program: sessions over sinks that fail, and what is written after mistakes
+//! and of long records.
 #![tactic(auto)]
 
 #[cfg(test)]

@@ -1,4 +1,4 @@
-//! What is said of the record of a script, if it is long.
+//! The note on the record of a script, if the record is long.
 
 ghost use Rattle.std.specs.Prelude.{◌≡◌, [], IfOk};
 
@@ -9,7 +9,7 @@ use pb_tool_program::Spoken;
 use std::alloc::{AllocError, Global};
 use std::test::Fail;
 
-/// A number of bytes above which something is said.
+/// The greatest number of bytes of a record that gets no note.
 const LONGEST: usize = 16_777_216;
 
 /// Adds a block to a record: its length and itself.
@@ -29,8 +29,8 @@ fn push_blocks(alloc: Global, record: &mut Vec<u8>, blocks: &[&str]) -> Result<(
     Ok(())
 }
 
-/// Returns a record of a unit of package `a` that was made in the folder `/w` and wrote this, whose
-/// one input is that folder, with files of these lengths.
+/// Returns a record with this key. Its child was started in the folder `/w` and printed this text.
+/// The only input is the folder `/w`, with files of these lengths.
 fn record_of(
     alloc: Global,
     key: &str,
@@ -63,7 +63,7 @@ fn record_of(
     Ok(record)
 }
 
-/// Returns what a place says when a file is written.
+/// Returns what a place writes to its sink when a file is written.
 fn said_of(alloc: Global, name: &str, bytes: &[u8]) -> Result<Vec<u8>, Fail> {
     let path = PathText::parse(alloc, name)?;
     let mut said = Vec::new(alloc);
@@ -74,8 +74,8 @@ fn said_of(alloc: Global, name: &str, bytes: &[u8]) -> Result<Vec<u8>, Fail> {
     Ok(said)
 }
 
-/// A record's file name, its key, the lengths of its files, its standard output, and what is said
-/// of it.
+/// A record's file name, its key, the lengths of its files, its standard output, and the note on
+/// the record.
 type Case<'a> = (&'a str, &'a str, &'a [(&'a str, usize)], &'a str, &'a str);
 
 static CASES: &[Case] = &[

@@ -18,7 +18,7 @@ use std::alloc::{AllocError, Global};
 use std::process::Abort;
 use std::test::Fail;
 
-/// A guard that holds no folder.
+/// A guard that locks no folder.
 #[derive(Drop)]
 struct Unguarded {}
 
@@ -36,7 +36,7 @@ impl<P: Place, E: Out> Guard<P, E> for Unguarded {
     fn wait(&mut self, _place: &P, _err: &E) {}
 }
 
-/// The words of a command line.
+/// Returns the words of a command line.
 fn words_of(alloc: Global, words: &str) -> Result<Vec<&str>, AllocError> {
     let mut all = Vec::new(alloc);
     all.push("pb_tool")?;
@@ -101,7 +101,8 @@ fn said_alone(alloc: Global, words: &str, files: &str) -> Result<Vec<u8>, Fail> 
     said_at(alloc, memory, words)
 }
 
-/// Cases of files, with the words of a command line after their names, and what standard error then is.
+/// Cases of files, with the words of a command line after their names, and what standard error then
+/// is.
 struct MistakeCases {}
 
 impl Trial for MistakeCases {
@@ -172,7 +173,8 @@ fn memory_with(alloc: Global, manifest: &[u8]) -> Result<Memory<Mini>, Fail>
     }
 }
 
-/// Returns how many lines a build of one manifest of these bytes writes on standard error, and the bytes of the longest.
+/// Returns how many lines a build of one manifest of these bytes writes on standard error, and the
+/// bytes of the longest.
 fn lines_said(alloc: Global, manifest: &[u8]) -> Result<(usize, usize), Fail> {
     let memory = memory_with(alloc, manifest)?;
     let said = said_at(alloc, memory, "")?;
@@ -181,7 +183,8 @@ fn lines_said(alloc: Global, manifest: &[u8]) -> Result<(usize, usize), Fail> {
     Ok((text.lines().count(), longest))
 }
 
-/// A manifest with so many keys that nothing reads, and a name that may not be.
+/// Returns a manifest with this number of keys that nothing reads, and with a name that is not
+/// allowed.
 fn many_keys(alloc: Global, count: usize) -> Result<String, AllocError> {
     let mut text = String::from_str(alloc, "[package]\nname = \"a b\"\n")?;
     for number in 0..count {
@@ -190,7 +193,7 @@ fn many_keys(alloc: Global, count: usize) -> Result<String, AllocError> {
     Ok(text)
 }
 
-/// A manifest whose name is so many words long.
+/// Returns a manifest whose name has this number of words.
 fn long_name(alloc: Global, count: usize) -> Result<String, AllocError> {
     let mut text = String::from_str(alloc, "[package]\nname = \"")?;
     for _word in 0..count {

@@ -8,8 +8,8 @@ use std::alloc::Global;
 use std::io::{self, Write};
 use std::test::Fail;
 
-/// A writer that takes at most `most` bytes of each write, and `room` bytes in all. Behind these it takes nothing; or,
-/// where it heals, one write fails and the others are taken again.
+/// A writer that takes at most `most` bytes of each write, and `room` bytes in all. Afterwards it
+/// takes nothing. If it heals, one write fails instead, and later writes are taken again.
 #[derive(Drop)]
 struct Narrow {
     taken: Vec<u8>,
@@ -38,7 +38,7 @@ impl Write for Narrow {
     }
 }
 
-/// A writer that has taken nothing yet.
+/// Returns a writer that has taken nothing yet.
 fn writer_of(alloc: Global, most: usize, room: usize, heals: bool) -> Narrow {
     Narrow {
         taken: Vec::new(alloc),
@@ -48,8 +48,8 @@ fn writer_of(alloc: Global, most: usize, room: usize, heals: bool) -> Narrow {
     }
 }
 
-/// Whether a session over such a writer ends with this status, tells that it is bad where that is not 0, and writes
-/// these bytes.
+/// Returns whether a session over such a writer ends with this status and writes these bytes. If
+/// the status is not 0, the session must report that it is bad.
 fn gives(alloc: Global, session: &str, mut writer: Narrow, status: u8, bytes: &[u8]) -> bool {
     let mut said = Vec::new(alloc);
     let answer = run_session(
@@ -63,15 +63,16 @@ fn gives(alloc: Global, session: &str, mut writer: Narrow, status: u8, bytes: &[
     answer == status && (if status == 0 { quiet } else { told }) && writer.taken.as_slice() == bytes
 }
 
-/// What a build writes whose sink fails once after so many bytes of its message lines, and then its result line.
+/// Returns what a build writes if its sink fails once after these bytes of the message lines. The
+/// build's result line follows.
 fn broken_off(alloc: Global, messages: &[u8]) -> Result<Vec<u8>, Fail> {
     let mut bytes = Vec::from_slice(alloc, messages)?;
     bytes.extend_from_slice(b"fault sink Sink\n")?;
     Ok(bytes)
 }
 
-/// Whether a session is right over a writer that fails after so many bytes, for good or once. The first `messages`
-/// bytes that are printed are the message lines.
+/// Returns whether a session is right over a writer that fails after this number of bytes, for good
+/// or once. The first `messages` printed bytes are the message lines.
 fn is_right_at(
     alloc: Global,
     session: &str,
@@ -92,8 +93,9 @@ fn is_right_at(
     Ok(gives(alloc, session, writer, 1, first))
 }
 
-/// Runs a session over writers that fail after each number of bytes, for good and once: among the message lines, which
-/// are the first so many bytes, or among the result lines. The first number that goes wrong.
+/// Runs a session over writers that fail after each number of bytes, for good and once. The first
+/// `messages` bytes are the message lines; the result lines follow. Returns the first number that
+/// goes wrong.
 fn wrong_byte(
     alloc: Global,
     session: &str,
@@ -110,7 +112,8 @@ fn wrong_byte(
     Ok(None)
 }
 
-/// Runs a session over writers that take all, so many bytes at a time. The first such number that goes wrong.
+/// Runs a session over writers that take everything, a limited number of bytes at a time. Returns
+/// the first limit that goes wrong.
 fn wrong_most(alloc: Global, session: &str, printed: &[u8]) -> Option<usize> {
     for most in [usize::MAX, 7, 1] {
         let writer = writer_of(alloc, most, printed.len(), false);
@@ -153,7 +156,7 @@ const SESSIONS: &[(&str, &str, &str)] = &[
     ),
 ];
 
-/// The message lines of a build, and then its result line.
+/// Returns the message lines of a build, and then its result line.
 fn lines_of(alloc: Global, messages: &str, last: &str) -> Result<Vec<u8>, Fail> {
     let mut printed = Vec::from_slice(alloc, messages.as_bytes())?;
     printed.extend_from_slice(last.as_bytes())?;
@@ -185,8 +188,8 @@ const FRESH_LINES: &str =
 {"reason":"build-finished","success":true}
 "#;
 
-/// Whether of two builds, the first of whose sinks fails once after these message bytes, the second starts nothing and
-/// says all.
+/// Returns whether the second of two builds starts nothing and writes everything. The sink of the
+/// first build fails once after these message bytes.
 fn is_mended(alloc: Global, first: &[u8]) -> Result<bool, Fail> {
     let mut bytes = Vec::from_slice(alloc, first)?;
     bytes.extend_from_slice(FRESH_LINES.as_bytes())?;
@@ -195,7 +198,8 @@ fn is_mended(alloc: Global, first: &[u8]) -> Result<bool, Fail> {
     Ok(gives(alloc, TWICE, writer, 0, bytes.as_slice()))
 }
 
-/// The first number of message bytes after which a sink that fails once is not followed by a build that is right.
+/// Lets a sink fail once, after each number of message bytes. Returns the first number for which
+/// the next build is not right, if there is such a number.
 fn wrong_after(alloc: Global, messages: &[u8]) -> Result<Option<usize>, Fail> {
     for room in 0..messages.len() {
         if !is_mended(alloc, &messages[..room])? {

@@ -13,8 +13,7 @@ use std::process::Abort;
 use std::test::Fail;
 
 /// A line for each answer: the rule that it is about, the unit, the child's status, its dep-info or
-/// what it printed (`~` stands for the end of a line), and the inputs (`$` before a variable) or the
-/// fault.
+/// what it printed (`~` is the end of a line), and the inputs (`$` before a variable) or the fault.
 const CASES: &str = "\
 each input once, and no variable that the command sets|a.target.lib|0|o: /w/a/src/lib.rs /w/x a/../x~# env-dep:V=1~# env-dep:CARGO_PKG_NAME=a~|/w/a/src/lib.rs /w/x $V
 no file of a unit that it reaches|a.target.lib|0|o: /w/target/debug/b.target.lib/x /y~|/y

@@ -13,8 +13,8 @@ use std::process::Abort;
 use std::test::Fail;
 
 /// A line for each workspace: the rule that it is about, what is in the manifest of the member `m`
-/// (`~` stands for the end of a line), and the packages without a library, or the result line. `Z`,
-/// `a_b` and `a-b` have a binary and no library; `m` and `n` have a library.
+/// (`~` is the end of a line), and the packages without a library, or the result line. `Z`, `a_b`
+/// and `a-b` have a binary and no library; `m` and `n` have a library.
 const CASES: &str = "\
 no dependency||
 a library|dependencies.n.path = '../n'|
@@ -76,8 +76,8 @@ fn missing_in(alloc: Global, place: &mut Memory<Mini>, manifest: &str) -> Result
     Ok(names_in(alloc, missing)?)
 }
 
-/// Returns the libraries that such a build lacks, and the number of children that were started to
-/// find them.
+/// Returns the libraries that a build with this manifest lacks, and the number of children that
+/// were started to find them.
 fn missing(alloc: Global, manifest: &str) -> Result<(String, u64), Fail> {
     let mut place = Memory::new(alloc, Mini);
     let missing = missing_in(alloc, &mut place, manifest);

@@ -1,5 +1,5 @@
-//! Tests over the tops of the families alone, as a user of these crates would write them: a call of
-//! each kind, whose answer is compared with the rules.
+//! Tests over the tops of the families only, as a user of these crates would write them. They make
+//! a call of each kind, and compare its answer with the rules.
 #![tactic(auto)]
 
 #[cfg(test)]

@@ -1,4 +1,4 @@
-//! A store keeps a record, and gives a number to a record without one.
+//! A store keeps a record, and gives a number to a record that has no number.
 
 ghost use Rattle.std.specs.Prelude.{◌≡◌, true, IfOk, Some};
 ghost use Rattle.pb_record.specs.Sorted.{are_sorted};

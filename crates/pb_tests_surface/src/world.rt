@@ -92,7 +92,7 @@ pub fn setup(alloc: Global) -> Result<Setup, AllocError> {
     })
 }
 
-/// Returns the command of a unit of which no other has answered.
+/// Returns the command of a unit, if no other unit has answered.
 pub fn first_command(
     alloc: Global,
     project: &Project,

@@ -12,7 +12,7 @@ use clap::{Arg, ArgAction, Command};
 use pb_data::with_next;
 use std::alloc::{AllocError, Global};
 
-/// Returns an argument, with a letter if there is one.
+/// Returns an argument. If a letter is given, the argument also has this letter.
 fn with_short<'a>(arg: Arg<'a>, short: Option<char>) -> Arg<'a>
     ensures rule { (rule_of arg.entry).short ≡ None → rule_of result
         ≡ record (rule_of arg.entry) { short = short } }
@@ -24,7 +24,7 @@ fn with_short<'a>(arg: Arg<'a>, short: Option<char>) -> Arg<'a>
     }
 }
 
-/// Returns an argument, with what each use of the argument does if this is given.
+/// Returns an argument. If an action is given, each use of the argument does this action.
 fn with_action<'a>(arg: Arg<'a>, action: Option<ArgAction>) -> Arg<'a>
     ensures rule { (rule_of arg.entry).action ≡ None → rule_of result
         ≡ record (rule_of arg.entry) { action = action } }
@@ -36,7 +36,7 @@ fn with_action<'a>(arg: Arg<'a>, action: Option<ArgAction>) -> Arg<'a>
     }
 }
 
-/// Returns an argument, with the texts that its value may be if they are given.
+/// Returns an argument. If texts are given, the value of the argument must be one of them.
 fn with_names<'a>(arg: Arg<'a>, among: Option<&'a [&'a str]>) -> Arg<'a>
     ensures rule { (rule_of arg.entry).parser ≡ None → rule_of result
         ≡ record (rule_of arg.entry) { parser = option_map Names among.entry } }
@@ -68,7 +68,7 @@ fn arg_of<'a>(alloc: Global, option: &Described) -> Arg<'a>
     with_names(arg, option.among)
 }
 
-/// Returns a command to which these options are added at the end.
+/// Returns a command with these options after its own.
 fn with_options<'a>(
     alloc: Global,
     command: Command<'a>,

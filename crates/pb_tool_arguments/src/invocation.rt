@@ -1,4 +1,4 @@
-//! What a command line requests, and why a command line requests nothing.
+//! What a command line requests, and the errors of a command line.
 
 ghost use Rattle.std.specs.Prelude.{◌≡◌, ◌≢◌};
 ghost use Rattle.clap.specs.Values.{kind_of};
@@ -62,7 +62,8 @@ pub struct Shown {
     pub colors: bool,
 }
 
-/// Why a command line requests nothing that is done.
+/// Why a command line is not carried out: help was requested, the words are wrong, or memory ran
+/// out.
 #[derive(Drop)]
 pub enum ArgumentsError {
     /// Help or the version was requested, or there were no words. The field is the text to print.
@@ -81,7 +82,8 @@ impl From<AllocError> for ArgumentsError {
     }
 }
 
-/// Returns whether the reader of the words reports help or the version, which is no mistake.
+/// Returns whether the reader of the words reports a request for help or for the version. Such a
+/// request is not a mistake.
 fn is_help(kind: ErrorKind) -> bool
     ensures { result ≡ is_help kind }
 {
@@ -121,7 +123,7 @@ fn wrong(alloc: Global, text: &str) -> ArgumentsError
     }
 }
 
-/// Returns why a path of the command line is not a path.
+/// Returns why a text of the command line is not a path.
 pub(crate) fn bad_path(alloc: Global, fault: PathFault) -> ArgumentsError
     ensures { ToldWrong (λ told. (fault ≢ path_fault.OutOfMemory) × (told ≡ path_told)) result }
 {

@@ -1,4 +1,4 @@
-//! The reading of a command line: which request its words make.
+//! Reads a command line: returns what its words request.
 
 ghost use Rattle.std.specs.Prelude.{◌≡◌, Ok, IfOk, IfErr, Some, [], codes, map, unwrap_or};
 ghost use Rattle.clap.specs.Matches.{found_of};
@@ -33,7 +33,7 @@ struct Judged {
     jobs: u64,
 }
 
-/// The options of a build that name something. Each has any number of texts.
+/// The packages, features and binaries that a command line names, any number of each.
 #[derive(Drop)]
 struct Named {
     packages: Items<Text>,
@@ -88,7 +88,7 @@ fn judged_of(alloc: Global, here: &Here, matches: &ArgMatches<'_>) -> Result<Jud
     })
 }
 
-/// Returns the options of a build that name something.
+/// Returns the packages, features and binaries that the words of a command line name.
 fn named_of(alloc: Global, matches: &ArgMatches<'_>) -> Result<Named, AllocError>
     ensures packages { IfOk result (λ named. named.packages
         ≡ values_of (codes "package") (rows_of (found_of matches.now))) }
@@ -195,8 +195,8 @@ fn joined_of(judged: Judged, named: Named, tools: Tools, flags: Flags) -> Option
     }
 }
 
-/// Returns what `pb_tool build` requests. A relative path of
-/// the manifest starts at the current folder.
+/// Returns what `pb_tool build` requests. A relative path of the manifest starts at the current
+/// folder.
 fn options_of(
     alloc: Global,
     tool: &str,
@@ -352,8 +352,8 @@ fn clean_of(
     }
 }
 
-/// Returns what the subcommand requests. A relative path of a
-/// session's file starts at the current folder.
+/// Returns what the subcommand requests. A relative path of a session's file starts at the current
+/// folder.
 fn asked_by(
     alloc: Global,
     tool: &str,
@@ -388,8 +388,8 @@ fn asked_by(
     }
 }
 
-/// Returns the words as the description of the command line reads them. If the description does not
-/// accept the words, returns why.
+/// Returns what the words contain by the description of the command line. If the description does
+/// not accept the words, returns why.
 fn matches_of<'a, S: AsStr>(alloc: Global, words: &'a [S]) -> Result<ArgMatches<'a>, ArgumentsError>
     ensures matches { IfOk result (λ matches. (choices : Choices) × AreChoices choices
         × IsTaken choices (map S.text words.now)
@@ -416,9 +416,12 @@ fn tool_of<S: AsStr>(words: &[S]) -> &str
 /// Returns what a command line requests. The words are the words of the whole command line, with
 /// the program's own name first.
 ///
-/// Errors: `Help`, if help or the version is requested, or if there are no words; `Wrong`, with its
-/// text, if the words are not a command line, two profiles are given, `--jobs` is wrong, or a path
-/// has byte 0; `OutOfMemory`.
+/// Errors:
+///
+/// - `Help`, if help or the version is requested, or if there are no words.
+/// - `Wrong`, with its text, if the words are not a command line, two profiles are given, `--jobs`
+///   is wrong, or a path has byte 0.
+/// - `OutOfMemory`.
 pub fn read_command_line<S: AsStr>(
     alloc: Global,
     words: &[S],

@@ -21,7 +21,7 @@ pub struct Choice {
     pub profile: Option<PathText>,
 }
 
-/// Returns whether a path is below a folder, or there is no folder.
+/// Returns whether a path is below a folder. Returns true if there is no folder.
 fn is_within(folder: &Option<PathText>, path: &PathText) -> bool
     ensures { result ≡ is_within folder.now path.now }
 {

@@ -25,7 +25,7 @@ pub enum Wanted {
 pub enum CleanFault {
     /// Nothing that the options choose is in this folder.
     Nothing(Wanted, PathText),
-    /// The folder of the profile has no name.
+    /// The profile's name cannot name a folder in the target folder.
     NoSuchProfile,
     /// A call of the place failed. The fault has the path or the name that was passed to the call,
     /// and the reason.

@@ -98,7 +98,10 @@ fn require_listed(alloc: Global, choice: Choice, listed: &Listed) -> Result<Choi
 
 /// Returns the folder of a profile in a target folder.
 ///
-/// Errors: `NoSuchProfile`, if the folder has no name; `OutOfMemory`.
+/// Errors:
+///
+/// - `NoSuchProfile`, if the profile's name cannot name a folder there.
+/// - `OutOfMemory`.
 fn folder_in(alloc: Global, target: &PathText, profile: &str) -> Result<PathText, CleanFault>
     ensures ok { IfOk result (λ folder. (is_relative (profile_folder profile.now) ≡ true)
         × (folder ≡ below target.now (profile_folder profile.now))) }
@@ -170,10 +173,10 @@ fn choice_in(
 ///
 /// Errors:
 ///
-/// - `Nothing`, if no record and no unit's folder is chosen, with the folder that was looked at
-/// - `NoSuchProfile`, if the profile's folder has no name
-/// - `Call`, with the path of the folder that could not be listed, or `CARGO_TARGET_DIR`
-/// - `OutOfMemory`
+/// - `Nothing`, if no record and no unit's folder is chosen, with the folder that was looked at.
+/// - `NoSuchProfile`, if the profile's name cannot name a folder in the target folder.
+/// - `Call`, with the path of the folder that could not be listed, or with `CARGO_TARGET_DIR`.
+/// - `OutOfMemory`.
 pub fn find<P: Place>(
     alloc: Global,
     place: &mut P,

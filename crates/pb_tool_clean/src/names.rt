@@ -7,7 +7,7 @@ ghost use Rattle.pb_tool_clean.specs.Names.{words_in, is_side, is_binary, is_wha
 use pb_data::Text;
 use std::alloc::{AllocError, Global};
 
-/// Returns the words of a name, which dots separate.
+/// Returns the words of a name, separated by dots.
 pub(crate) fn words_in(alloc: Global, name: &str) -> Result<Vec<&str>, AllocError>
     ensures { IfOk result (λ words. map (λ word. word.now) words.items ≡ words_in name.now) }
 {
@@ -67,7 +67,7 @@ pub(crate) fn package_in<'a>(words: &[&'a str]) -> &'a str
     }
 }
 
-/// Returns whether a word is one of the names of packages, or no package is named.
+/// Returns whether a word is among the named packages. Returns true if no package is named.
 pub(crate) fn is_named(packages: &[Text], word: &str) -> bool
     ensures { result ≡ is_named packages.now word.now }
 {

@@ -1,4 +1,4 @@
-//! Removals.
+//! Removes the chosen part of a target folder.
 
 ghost use Rattle.std.specs.Prelude.{◌≡◌, IfOk, OnOk, OnErr, IsTrue, false, true};
 ghost use Rattle.pb_place_types.specs.Paths.{is_at_or_below};
@@ -208,8 +208,12 @@ fn remove<P: Place>(
 /// this list. Records are removed first, and then the folders of units. If everything is chosen and
 /// the target folder then contains only its tag, the target folder is removed, too.
 ///
-/// Errors: `Call`, with the path of the call that failed; `OutOfMemory`. What was removed before
-/// the error stays removed.
+/// Errors:
+///
+/// - `Call`, with the path of the call that failed.
+/// - `OutOfMemory`.
+///
+/// What was removed before the error stays removed.
 pub fn clean<P: Place>(alloc: Global, place: &mut P, choice: &Choice) -> Result<(), CleanFault>
     ensures { CleansNow P.is_modelled choice.now result
         (moment_of (P.at place.old)) (moment_of (P.at place.new)) }

@@ -47,8 +47,8 @@ fn variable<P: Place>(alloc: Global, place: &mut P) -> Result<Option<Text>, Clea
     }
 }
 
-/// Returns the path that a text means; a relative text starts at the root. If there is no text, or
-/// the text has byte 0, returns the other path.
+/// Returns the path that a text means. A relative text starts at the root. If there is no text, or
+/// if the text contains byte 0, returns `other`.
 fn told_or(
     alloc: Global,
     root: &PathText,

@@ -19,7 +19,7 @@ fn push_string(alloc: Global, text: &mut String, value: &str) -> Result<(), Allo
     Ok(())
 }
 
-/// Adds the keys of the units at some indexes, each with a comma before it.
+/// Adds the keys of the units at some indices, each with a comma before it.
 fn push_rest(
     alloc: Global,
     text: &mut String,
@@ -36,7 +36,7 @@ fn push_rest(
     Ok(())
 }
 
-/// Adds the keys of the units at some indexes, with commas between them.
+/// Adds the keys of the units at some indices, with commas between them.
 fn push_strings(
     alloc: Global,
     text: &mut String,

@@ -1,4 +1,4 @@
-//! Keys of what a unit needs.
+//! Looks up the key of a unit.
 
 ghost use Rattle.std.specs.Prelude.{◌≡◌};
 ghost use Rattle.pb_tool_plan.specs.Texts.{key_at};

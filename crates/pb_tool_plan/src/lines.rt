@@ -7,7 +7,7 @@ use crate::keys::key_at;
 use pb_unit::{Plan, Planned};
 use std::alloc::{AllocError, Global};
 
-/// Adds the keys of the units at some indexes, each with a space before it.
+/// Adds the keys of the units at some indices, each with a space before it.
 fn push_spaced(text: &mut String, units: &[Planned], needs: &[usize]) -> Result<(), AllocError>
     ensures { OnOk result
         (string_bytes text.new ≡ string_bytes text.old ++ spaced units.now needs.now) }
@@ -19,7 +19,7 @@ fn push_spaced(text: &mut String, units: &[Planned], needs: &[usize]) -> Result<
     Ok(())
 }
 
-/// Adds a colon and the keys of the units at some indexes. If there are no indexes, adds nothing.
+/// Adds a colon and the keys of the units at some indices. If there are no indices, adds nothing.
 fn push_needed(text: &mut String, units: &[Planned], needs: &[usize]) -> Result<(), AllocError>
     ensures { OnOk result
         (string_bytes text.new ≡ string_bytes text.old ++ needed units.now needs.now) }

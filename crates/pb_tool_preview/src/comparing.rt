@@ -73,8 +73,10 @@ fn compare_record<P: Place>(
 /// Returns the fate of a unit that reaches only kept units. If the unit's record replays
 /// directives, returns them too. `done` contains the directives of the units before this unit.
 ///
-/// Errors: `Device` with the unit's key, if a file, a folder or a variable cannot be read;
-/// `OutOfMemory`.
+/// Errors:
+///
+/// - `Device` with the unit's key, if a file, a folder or a variable cannot be read.
+/// - `OutOfMemory`.
 pub(crate) fn compare_kept<P: Place>(
     alloc: Global,
     place: &mut P,

@@ -1,4 +1,4 @@
-//! All units of a prepared build, one after another.
+//! Finds the fates of all units of a prepared build, one after another.
 
 ghost use Rattle.std.specs.Prelude.{◌≡◌, ◌++◌, List, [], ◌∷◌, Option, IfErr, IfOk, IsTrue, OnOk, Some, slice_get};
 ghost use Rattle.pb_directive.specs.declared.directive.Directive.{Directive};
@@ -76,8 +76,10 @@ fn append(
 /// compares it. The function reads what this comparison reads. If nothing differs, the function
 /// reads the unit's dep-info, too. No child is started, and nothing is changed.
 ///
-/// Errors: `Device` with a unit's key, if a file, a folder or a variable cannot be read;
-/// `OutOfMemory`.
+/// Errors:
+///
+/// - `Device` with a unit's key, if a file, a folder or a variable cannot be read.
+/// - `OutOfMemory`.
 pub fn foresee<P: Place>(
     alloc: Global,
     place: &mut P,
@@ -90,7 +92,7 @@ pub fn foresee<P: Place>(
         HasNumbers (records (records_folder project.now) (P.at place.old).world)
         store.now.numbers }
 
-    // Each fate is as defined, by the records of this world.
+    // Each fate is the one that the definition requires, for the records of this world.
     ensures fates { IsTrue P.is_modelled → IfOk result (λ fates.
         (done : List (Option (List Directive))) × Foresees setup.now project.now
         (P.at place.old).world project.now.plan.planned fates done) }

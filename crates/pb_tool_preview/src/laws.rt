@@ -1,4 +1,4 @@
-//! A law of a look at what a build would start. The function does nothing: its contract is the law.
+//! A law about what `foresee` returns. The function does nothing: its contract is the law.
 
 ghost use Rattle.pb_tool_preview.specs.Laws.{BeginsAsForeseen};
 

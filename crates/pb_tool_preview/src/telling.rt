@@ -121,7 +121,8 @@ fn rows_of(alloc: Global, units: &[Planned], fates: &[Fate]) -> Result<Items<Row
     Ok(rows)
 }
 
-/// Returns the end of the line: how many units may be started, and how many are not reached, if any.
+/// Returns the end of the line: how many units may be started, and how many are not reached, if
+/// any.
 fn others_text(alloc: Global, waiting: usize, unreached: usize) -> Result<String, AllocError>
     ensures { IfOk result (λ text. string_bytes text ≡ others_text waiting unreached) }
 {

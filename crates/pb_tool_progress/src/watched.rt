@@ -1,4 +1,4 @@
-//! A turn that is watched.
+//! A turn that shows each unit that begins.
 
 ghost use Rattle.std.specs.Prelude.{◌≡◌};
 ghost use Rattle.pb_build.specs.Ending.{PicksFirstOf};
@@ -21,8 +21,8 @@ pub(crate) struct Watched<'a, S> {
 }
 
 impl<'a, S: Out> Watched<'a, S> {
-    /// Shows that the unit at an index begins, if there is a key for it. The other turn stays as it
-    /// is.
+    /// Shows that the unit at an index begins, if there is a key for this unit. The turn that
+    /// decides does not change.
     fn show(&mut self, index: usize)
         ensures { self.new.jobs ≡ self.old.jobs }
     {

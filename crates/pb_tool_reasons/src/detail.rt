@@ -3,8 +3,8 @@
 use pb_data::{Text, TryCopy};
 use std::alloc::{AllocError, Global};
 
-/// How something differs, as words for people. A text with a line feed, or with another ASCII
-/// control character below the blank, is not shown.
+/// How something differs, as words for people. A text is not shown if it contains a byte below 32,
+/// such as a line feed.
 #[derive(Drop)]
 pub enum Detail {
     /// Only what differs is known.

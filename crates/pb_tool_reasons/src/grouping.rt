@@ -76,7 +76,7 @@ fn line_in(alloc: Global, rows: &[Row], index: usize, row: &Row) -> Result<Strin
 }
 
 /// Returns the lines of rows, in their order. The line of a row is `KEY: SAID`. Five or more rows
-/// with the same text share the line `N units: SAID`, which comes where the first of these rows is.
+/// with the same text share the line `N units: SAID`, which replaces the first of these rows.
 ///
 /// Errors: out of memory.
 pub fn group_rows(alloc: Global, rows: &[Row]) -> Result<String, AllocError>

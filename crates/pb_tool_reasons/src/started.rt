@@ -1,4 +1,4 @@
-//! Why a build started what it started.
+//! Why a build started the children of its units, as lines.
 
 ghost use Rattle.std.specs.Prelude.{◌≡◌, ◌++◌, ◌∷◌, [], IfOk, OnOk, string_bytes};
 ghost use Rattle.std.specs.List.{list_all};
@@ -112,14 +112,14 @@ fn is_tool(difference: &Difference) -> bool
     }
 }
 
-/// Returns whether the first difference of all started units is in `CARGO`.
+/// Returns whether the first difference of each started unit is in `CARGO`.
 fn are_tools(differences: &[Difference]) -> bool
     ensures { result ≡ list_all is_tool differences.now }
 {
     differences.iter().all(is_tool)
 }
 
-/// Returns the note on `CARGO` if this is so.
+/// Returns the note on `CARGO` if `are_tools` is true, and an empty text otherwise.
 fn note_if(are_tools: bool) -> &'static str
     ensures { result.now ≡ note_if are_tools }
 {
@@ -130,8 +130,8 @@ fn note_if(are_tools: bool) -> &'static str
     }
 }
 
-/// Returns the note on `CARGO` if the first difference of all started units is in `CARGO`, and at
-/// least one unit was started.
+/// Returns the note on `CARGO` if at least one unit was started, and the first difference of each
+/// started unit is in `CARGO`.
 fn tool_note(differences: &[Difference]) -> &'static str
     ensures { result.now ≡ tool_note differences.now }
 {
@@ -146,7 +146,7 @@ fn tool_note(differences: &[Difference]) -> &'static str
 /// key, what differed first and, if this is known, how it differed. The lines are in order of
 /// starting. Five or more units with the same reason have one line.
 ///
-/// The last line has how many units were started, how many were kept, and how many did not begin,
+/// The last line says how many units were started, how many were kept, and how many did not begin,
 /// if any. A note before this line says what `CARGO` is, if only `CARGO` is known to differ. Each
 /// line ends with a line feed. The words are our own choice.
 ///

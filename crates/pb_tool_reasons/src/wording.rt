@@ -59,14 +59,14 @@ fn with_name(alloc: Global, name: &str, text: &Text) -> Result<String, AllocErro
     Ok(said)
 }
 
-/// Returns whether a byte is no ASCII control character below the blank.
+/// Returns whether a byte is greater than 31. The bytes up to 31 are control characters of ASCII.
 fn is_plain_byte(byte: u8) -> bool
     ensures { result ≡ nat_lt 31 byte }
 {
     31 < byte
 }
 
-/// Returns whether a text has no control character below the blank. A line feed is such a character.
+/// Returns whether all bytes of a text are greater than 31. So the text has no line feed.
 fn is_plain(text: &Text) -> bool
     ensures { result ≡ is_plain text.now }
 {
@@ -97,8 +97,8 @@ fn word_reason(alloc: Global, difference: &Difference, text: &Text) -> Result<St
     }
 }
 
-/// Returns why a unit's child was started, and how the thing differs, if that is known and its text
-/// stays on one line.
+/// Returns why a unit's child was started. If it is known how the thing differs, and the text about
+/// this has one line, the result contains this text.
 ///
 /// Errors: out of memory.
 pub fn reason_with(
@@ -132,7 +132,7 @@ pub fn reason_with(
     }
 }
 
-/// Returns a number with words for what it counts, after a comma. Returns nothing for 0.
+/// Returns a comma, a number, and words for what is counted. Returns an empty text for 0.
 ///
 /// Errors: out of memory.
 pub fn if_some(alloc: Global, count: usize, words: &str) -> Result<String, AllocError>

@@ -17,8 +17,8 @@ const CYAN: &[u8] = b"\x1b[1;36m";
 
 /// A sink for people that can also show levels in colours.
 pub trait Coloring: Out {
-    /// How colours are switched. The relation has the sink before, whether it shows colours from
-    /// then on, and the sink after.
+    /// How colours are switched. The relation is between the sink before, a setting, and the sink
+    /// after. The setting is whether the sink shows colours from then on.
     ghost colors: { Self → Bool → Self → Type 0 };
 
     /// Sets whether levels have colours from now on. What the sink has received stays.

@@ -2,7 +2,7 @@
 
 use std::alloc::{AllocError, Global};
 
-/// The bytes that erase the line in which a terminal's cursor is.
+/// The bytes that erase the current line of a terminal.
 pub const ERASE: &[u8] = b"\r\x1b[K";
 
 /// The greatest number of letters of a status line. A line of this length fits into one row of a

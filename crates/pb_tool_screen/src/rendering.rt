@@ -7,7 +7,7 @@ ghost use Rattle.pb_tool_screen.specs.Rendering.{text_at, text_or_none, told, to
 use serde_json::Value;
 use std::alloc::{AllocError, Global};
 
-/// Returns the text at a path of a line.
+/// Returns the text at a path of a message line.
 fn text_at<'v>(value: &'v Value, path: &str) -> Option<&'v str>
     ensures { option_map (λ text. text.now) result ≡ text_at path.now (view value.now) }
 {
@@ -17,7 +17,7 @@ fn text_at<'v>(value: &'v Value, path: &str) -> Option<&'v str>
     }
 }
 
-/// Returns the text at a path of a line, or an empty text if there is none.
+/// Returns the text at a path of a message line, or an empty text if there is no text.
 fn text_or_none<'v>(value: &'v Value, path: &str) -> &'v str
     ensures { result.now ≡ text_or_none path.now (view value.now) }
 {
@@ -38,7 +38,7 @@ fn level_line(alloc: Global, level: &str, text: &str) -> Result<String, AllocErr
     Ok(line)
 }
 
-/// Returns a line with the level and the text at these paths of a line.
+/// Returns a line with a level and a text, which are at these paths of a message line.
 fn told_at(alloc: Global, value: &Value, level: &str, text: &str) -> Result<String, AllocError>
     ensures { IfOk result
         (λ line. string_bytes line ≡ told_at level.now text.now (view value.now)) }
@@ -57,8 +57,8 @@ fn diagnostic_shown(alloc: Global, value: &Value) -> Result<String, AllocError>
     }
 }
 
-/// Returns the text of a line for a diagnostic, or for a script's warning or error. For any other
-/// line, returns an empty text.
+/// Returns the text of a message line for a diagnostic, or for a script's warning or error. For any
+/// other line, returns an empty text.
 fn value_shown(alloc: Global, value: &Value) -> Result<String, AllocError>
     ensures { IfOk result (λ text. string_bytes text ≡ value_shown (view value.now)) }
 {
@@ -72,8 +72,8 @@ fn value_shown(alloc: Global, value: &Value) -> Result<String, AllocError>
     Ok(String::new(alloc))
 }
 
-/// Returns the text that is shown for a line. The line has no line feed at its end. If the line is
-/// not JSON, returns an empty text.
+/// Returns the text that is shown for a message line. The line has no line feed at its end. If the
+/// line is not JSON, returns an empty text.
 ///
 /// Errors: only out of memory.
 pub fn line_shown(alloc: Global, line: &str) -> Result<String, AllocError>

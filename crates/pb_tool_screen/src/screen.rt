@@ -12,8 +12,9 @@ use std::alloc::{AllocError, Global};
 
 /// A sink that receives message lines and can also show them as text.
 pub trait Screen: Out {
-    /// How the showing of lines is switched. The relation has the sink before, whether it shows
-    /// lines, whether it erases a status line, whether levels have colours, and the sink after.
+    /// How the showing of lines is switched. The relation is between the sink before, three
+    /// settings, and the sink after. The settings are whether the sink shows lines, whether it
+    /// erases a status line, and whether levels have colours.
     ghost shows: { Self → Bool → Bool → Bool → Self → Type 0 };
 
     /// Sets whether lines are shown from now on, whether a status line is erased before each write,

@@ -18,8 +18,9 @@ const NO_MEMORY: &[u8] = b"note: there is no memory to show the note on a long r
 
 /// A place that can also name the children that it starts, and report what failed.
 pub trait Speaking: Place + Reporting {
-    /// How naming is switched. The relation has the place before, whether it names children,
-    /// whether it erases a status line, and the place after.
+    /// How naming is switched. The relation is between the place before, two settings, and the
+    /// place after. The settings are whether the place names children, and whether it erases a
+    /// status line.
     ghost speaks: { Self → Bool → Bool → Self → Type 0 };
 
     /// Sets whether children are named from now on, and whether a status line is erased before each
@@ -82,7 +83,7 @@ fn line_of(alloc: Global, command: &Command) -> Result<String, AllocError> {
     Ok(line)
 }
 
-/// Writes a text to a sink. If this is requested, a status line on the sink is erased first.
+/// Writes a text to a sink. If `erases` is true, a status line on the sink is erased first.
 fn write_text<S: Out>(aside: &mut S, erases: bool, text: &[u8]) {
     if erases {
         let _ = write_all(aside, ERASE);

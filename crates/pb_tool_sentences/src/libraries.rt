@@ -33,7 +33,7 @@ fn push_note(notes: &mut String, manifest: &str, name: &str) -> Result<(), Alloc
     Ok(())
 }
 
-/// Returns a line for each of some packages that have no library, by their names.
+/// Returns a line for each package with one of these names. These packages have no library.
 ///
 /// Errors: out of memory.
 pub fn notes_of(alloc: Global, packages: &[Package], names: &[Text]) -> Result<String, AllocError>

@@ -26,7 +26,7 @@ pub(crate) struct Named {
     pub(crate) name: Text,
 }
 
-/// Returns whether a text is one of these.
+/// Returns whether a text is one of these texts.
 fn is_mentioned(texts: &[Text], text: &Text) -> bool
     ensures { result ≡ is_mentioned texts.now text.now }
 {
@@ -108,7 +108,7 @@ fn binaries_at(workspace: &Workspace, place: usize) -> &[Binary]
     }
 }
 
-/// Adds the binaries of a selected package that are roots.
+/// Adds those binaries of a selected package that are roots.
 fn add_selected(
     alloc: Global,
     found: &mut Vec<Named>,
@@ -184,7 +184,7 @@ fn add_unit(units: &mut Vec<Unit>, owner: usize, side: Side, what: What) -> Resu
     Ok(())
 }
 
-/// Adds the units of a package that are not binaries.
+/// Adds those units of a package that are not binaries.
 fn add_fixed(units: &mut Vec<Unit>, place: usize, owner: &Package) -> Result<(), AllocError>
     ensures { OnOk result (units.new.items ≡ units.old.items ++ six place owner.now) }
 {
@@ -197,7 +197,7 @@ fn add_fixed(units: &mut Vec<Unit>, place: usize, owner: &Package) -> Result<(),
     Ok(())
 }
 
-/// Returns the units of each package that are not binaries.
+/// Returns those units of each package that are not binaries.
 fn units_without_binaries(alloc: Global, packages: &[Package]) -> Result<Vec<Unit>, AllocError>
     ensures { IfOk result (λ units. units.items ≡ fixed packages.now) }
 {

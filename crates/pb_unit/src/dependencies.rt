@@ -121,8 +121,8 @@ fn leads(workspace: &SettledWorkspace, need: Need, entry: &Entry) -> bool
     }
 }
 
-/// Returns the number of the unit that a need of this kind
-/// means, for the package at an index and a unit on a side.
+/// Returns the number of the unit that a need of this kind means. A unit on this side has the need,
+/// and the need leads to the package at this index.
 fn needed_number(need: Need, owner: usize, side: Side) -> usize
     requires { owner < 256 }
     ensures { result ≡ number (needed need owner side) }
@@ -134,7 +134,7 @@ fn needed_number(need: Need, owner: usize, side: Side) -> usize
     }
 }
 
-/// Adds the needs of this kind to which the enabled entries of the package at an index lead.
+/// For the package at an index, adds the needs of this kind to which its enabled entries lead.
 pub(crate) fn add_needed(
     numbers: &mut Vec<usize>,
     workspace: &SettledWorkspace,

@@ -46,7 +46,7 @@ fn add_missing(
     Ok(())
 }
 
-/// Adds the names of the packages without a library to which a package's entries lead.
+/// Adds the names of the packages that have no library although a package's entries lead to them.
 fn add_all_missing(
     alloc: Global,
     names: &mut Vec<Text>,
@@ -72,8 +72,8 @@ fn add_all_missing(
     Ok(())
 }
 
-/// Returns the names of the packages without a library to which enabled entries lead, in the order
-/// in which they are found.
+/// Returns the names of the packages that have no library although enabled entries lead to them, in
+/// the order in which they are found.
 fn all_missing(
     alloc: Global,
     workspace: &Workspace,
@@ -90,7 +90,7 @@ fn all_missing(
     Ok(names)
 }
 
-/// Returns the names of the packages without a library to which enabled entries lead.
+/// Returns the names of the packages that have no library although enabled entries lead to them.
 pub(crate) fn without_library(
     alloc: Global,
     workspace: &Workspace,

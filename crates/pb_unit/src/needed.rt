@@ -1,4 +1,4 @@
-//! What a unit needs, as numbers of units.
+//! What each kind of unit needs, as numbers of units.
 
 ghost use Rattle.std.specs.Prelude.{◌≡◌, ◌<◌, IfOk, map, length};
 ghost use Rattle.pb_unit.specs.declared.unit.What.TheVariants.{Lib, Bin, Script, Run};

@@ -56,8 +56,8 @@ pub struct Planned {
 pub struct Plan {
     /// The units by level, and then by the bytes of their keys: at least 1, at most 4,096.
     pub planned: Items<Planned>,
-    /// The names of the packages without a library to which enabled dependencies lead, in byte order,
-    /// each once.
+    /// The names of the packages that have no library although enabled dependencies lead to them,
+    /// in byte order, each once.
     pub without_library: Items<Text>,
 }
 
@@ -73,7 +73,7 @@ fn workspace_of<'a>(selected: &'a SelectedWorkspace<'_>) -> &'a Workspace
     selected.workspace().get()
 }
 
-/// The line of the requested profile, and the folder of its output.
+/// The line of inheritance of the requested profile, and the folder of its output.
 #[derive(Drop)]
 struct ProfileContext<'a> {
     line: Vec<Ancestor<'a>>,
@@ -102,7 +102,7 @@ fn folder_in(
     }
 }
 
-/// Returns the line of the requested profile, and the folder of its output.
+/// Returns the line of inheritance of the requested profile, and the folder of its output.
 fn profile_context<'a>(
     alloc: Global,
     workspace: &'a Workspace,
@@ -253,12 +253,15 @@ impl Plan {
     /// - a library needs the libraries of its enabled dependencies, and the run of its own script;
     /// - a binary needs its own library, and all that this library would need;
     /// - a script needs the host's libraries of its enabled build dependencies;
-    /// - a run needs its script, and the runs of the enabled
-    ///   dependencies with a library and `links`.
+    /// - a run needs its script, and the runs of the enabled dependencies with a library and
+    ///   `links`.
     ///
-    /// Errors, in this order: `Profile`, if the profile has no settings; `Cycle`, if units of the
-    /// plan reach themselves; `TooManyUnits`, if there are more than 4,096 units; `NothingToBuild`,
-    /// if there is no unit. The only other error is `OutOfMemory`.
+    /// Errors: the first of these that occurs, or `OutOfMemory` at any time.
+    ///
+    /// - `Profile`, if the profile has no settings.
+    /// - `Cycle`, if units of the plan reach themselves.
+    /// - `TooManyUnits`, if there are more than 4,096 units.
+    /// - `NothingToBuild`, if there is no unit.
     pub fn plan(
         alloc: Global,
         selected: &SelectedWorkspace<'_>,
@@ -349,8 +352,8 @@ impl Plan {
         }
     }
 
-    /// Returns the names of the packages without a library to which enabled dependencies lead, in
-    /// byte order, each once. The plan has no unit of these packages. No memory is used.
+    /// Returns the names of the packages that have no library although enabled dependencies lead to
+    /// them, in byte order, each once. The plan has no unit of these packages. No memory is used.
     pub fn without_library(&self) -> &[Text]
         ensures { result.now ≡ self.now.without_library }
     {

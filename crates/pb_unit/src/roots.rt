@@ -22,7 +22,7 @@ fn is_target(side: Side) -> bool
     }
 }
 
-/// Returns the selected packages as marks by their indices.
+/// Returns a mark for each package: whether the package is selected.
 fn selected_marks(alloc: Global, count: usize, places: &[usize]) -> Result<Vec<bool>, AllocError>
     requires { All (λ p. p < count) places.now }
     ensures { IfOk result (λ marks. (p : ℕ) →

@@ -23,10 +23,11 @@ pub fn needs_are_these()
     ensures { NeedsAreThese }
 {}
 
-/// A law: the line of a profile leads from each profile to the profile from which it inherits, up
-/// to `dev` or `release`. A profile has no line if and only if one of its ancestors inherits from
-/// nothing or, after some steps, from itself. A line is good if its overrides set only keys that
-/// overrides may set.
+/// A law: the line of inheritance of a profile leads from each profile to the profile from which it
+/// inherits, up to `dev` or `release`. A profile is at fault if it is neither `dev` nor `release`
+/// and inherits from no profile, or if it inherits from itself in one or more steps. A profile has
+/// no line of inheritance if and only if it, or a profile from which it inherits, is at fault. A
+/// line of inheritance is good if its overrides set only keys that overrides may set.
 pub fn lines_are_these()
     ensures lines { LinesAreThese }
     ensures checked { LinesAreChecked }
@@ -55,7 +56,8 @@ pub fn kinds_are_these()
     ensures said { RunsSay }
 {}
 
-/// A law: for each key, the setting of a package in a role is the first value that counts for the key.
+/// A law: for each key, the setting of a package in a role is the first value that counts for the
+/// key.
 pub fn settings_are_these()
     ensures { SettingsAreThese }
 {}

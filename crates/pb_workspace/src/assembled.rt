@@ -241,7 +241,8 @@ fn default_members_of(
     Ok(DefaultMembers::Named(places))
 }
 
-/// Returns the packages of these drafts, and their default members.
+/// Returns these packages, with the indices of the packages to which their entries lead, and their
+/// default members.
 fn members_of(
     alloc: Global,
     frame: &WorkspaceRoot,

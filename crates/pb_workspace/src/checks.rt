@@ -87,7 +87,7 @@ fn matches_if(requirement: &Option<Requirement>, version: &Version) -> bool
     }
 }
 
-/// Returns whether an entry leads to a package with another name.
+/// Returns whether an entry leads to a package that does not have the requested name.
 fn leads_to_other_name(
     drafts: &[UnresolvedPackage],
     places: &ByFolder<usize>,
@@ -117,7 +117,7 @@ fn leads_to_other_version(
     }
 }
 
-/// Returns whether one of these entries leads to a package with another name.
+/// Returns whether one of these entries leads to a package that does not have the requested name.
 fn one_other_name(drafts: &[UnresolvedPackage], places: &ByFolder<usize>, wanted: &[Wanted]) -> bool
     requires { places.now ≡ places_of drafts.now }
     ensures { result
@@ -131,7 +131,8 @@ fn one_other_name(drafts: &[UnresolvedPackage], places: &ByFolder<usize>, wanted
     false
 }
 
-/// Returns whether an entry of some package leads to a package with another name.
+/// Returns whether an entry of some package leads to a package that does not have the requested
+/// name.
 fn some_other_name(drafts: &[UnresolvedPackage], places: &ByFolder<usize>) -> bool
     requires { places.now ≡ places_of drafts.now }
     ensures { result ≡ some_leads has_other_name drafts.now }

@@ -7,15 +7,15 @@ ghost use Rattle.pb_workspace.specs.Rows.{cells_from, row_of, plain_cells, star_
 use pb_data::Items;
 use std::alloc::{AllocError, Global};
 
-/// An end of a name: its first byte, and whether a pattern matches the end.
+/// A suffix of a name: its first byte, and whether a pattern matches the suffix.
 #[derive(Clone, Copy)]
 struct Cell {
     byte: u8,
     matched: bool,
 }
 
-/// For each end of a name, whether a pattern matches the end. The empty end comes first, and then
-/// the others, the shortest first.
+/// For each suffix of a name, whether a pattern matches this suffix. The suffixes are ordered by
+/// length, from the empty suffix to the whole name.
 #[derive(Drop)]
 struct Row {
     empty: bool,
@@ -45,7 +45,7 @@ fn backwards(alloc: Global, name: &[u8]) -> Result<Vec<u8>, AllocError>
     name.iter().rev().copied().collect(alloc)
 }
 
-/// Returns the row of the empty pattern, which matches only the empty end.
+/// Returns the row of the empty pattern, which matches only the empty suffix.
 fn last_row(alloc: Global, before: &[u8]) -> Result<Row, AllocError>
     ensures { IfOk result (λ row. row ≡ record { empty = true; cells = plain_cells before.now }) }
 {
@@ -59,7 +59,8 @@ fn last_row(alloc: Global, before: &[u8]) -> Result<Row, AllocError>
     Ok(Row { empty: true, cells })
 }
 
-/// Returns the cells of the pattern that is a `*` and then the pattern of these cells.
+/// Returns the cells of the pattern that begins with `*` and continues as the pattern of these
+/// cells.
 fn star_cells(alloc: Global, empty: bool, cells: &[Cell]) -> Result<Items<Cell>, AllocError>
     ensures { IfOk result (λ made. made ≡ star_cells empty cells.now) }
 {
@@ -75,7 +76,8 @@ fn star_cells(alloc: Global, empty: bool, cells: &[Cell]) -> Result<Items<Cell>,
     Ok(made)
 }
 
-/// Returns the cells of the pattern that is a `?` and then the pattern of these cells.
+/// Returns the cells of the pattern that begins with `?` and continues as the pattern of these
+/// cells.
 fn one_cells(alloc: Global, empty: bool, cells: &[Cell]) -> Result<Items<Cell>, AllocError>
     ensures { IfOk result (λ made. made ≡ one_cells empty cells.now) }
 {
@@ -95,7 +97,8 @@ fn one_cells(alloc: Global, empty: bool, cells: &[Cell]) -> Result<Items<Cell>, 
     Ok(made)
 }
 
-/// Returns the cells of the pattern that is this byte and then the pattern of these cells.
+/// Returns the cells of the pattern that begins with this byte and continues as the pattern of
+/// these cells.
 fn byte_cells(
     alloc: Global,
     byte: u8,
@@ -116,7 +119,8 @@ fn byte_cells(
     Ok(made)
 }
 
-/// Returns the row of the pattern that is one byte and then the pattern of this row.
+/// Returns the row of the pattern that begins with this byte and continues as the pattern of this
+/// row.
 fn next_row(alloc: Global, byte: u8, row: &Row) -> Result<Row, AllocError>
     ensures { IfOk result (λ made. made ≡ stepped byte row.now) }
 {
@@ -151,7 +155,7 @@ fn row_of(alloc: Global, pattern: &[u8], name: &[u8]) -> Result<Row, AllocError>
     Ok(row)
 }
 
-/// Returns whether the longest end matches.
+/// Returns whether the longest suffix matches.
 fn last_matched(row: &Row) -> bool
     ensures { result ≡ last_matched row.now.empty row.now.cells }
 {

@@ -5,7 +5,7 @@ ghost use Rattle.pb_workspace.specs.Laws.{NamesDiffer, HasTargetFolder, HasRoot,
 ghost use Rattle.pb_workspace.specs.PackageFolders.{FuelIsEnough};
 
 /// The limit on rounds never cuts the reading of a workspace short. At most 256 packages are read.
-/// Any number of rounds from 257 on finds the same packages, or the same fault.
+/// So 257 rounds or more find the same packages, or the same fault.
 pub fn rounds_are_enough()
     ensures { FuelIsEnough }
 {}

@@ -1,4 +1,4 @@
-//! The workspace of a manifest.
+//! Reads the workspace of a root manifest.
 
 ghost use Rattle.std.specs.Prelude.{◌≡◌, IfErr, IfOk, IsTrue, Some, false, IfSome};
 ghost use Rattle.pb_place_types.specs.Paths.{folder_of};
@@ -34,8 +34,10 @@ use std::alloc::{AllocError, Global};
 
 /// Returns the parts of the root manifest.
 ///
-/// Errors: `NoManifest`, if the manifest is not named `Cargo.toml` or is no file of the sources;
-/// those of `parts_at`.
+/// Errors:
+///
+/// - Those of `parts_at`.
+/// - `NoManifest`, if the manifest is not named `Cargo.toml` or is not a file of the sources.
 fn root_parts<P: Place>(
     alloc: Global,
     place: &mut P,
@@ -70,7 +72,7 @@ fn at_root(alloc: Global, frame: &WorkspaceRoot) -> Result<PackageLocation, Allo
     })
 }
 
-/// Returns a reading without packages. No memory is used.
+/// Returns the state of a reading in which no package has been read. No memory is used.
 fn nothing_read(alloc: Global) -> LoadState
     ensures { result ≡ nothing_read }
 {
@@ -80,7 +82,7 @@ fn nothing_read(alloc: Global) -> LoadState
     }
 }
 
-/// Returns a reading with only the root package.
+/// Returns the state of a reading in which only the root package has been read.
 fn begun_with(
     alloc: Global,
     frame: &WorkspaceRoot,
@@ -217,7 +219,7 @@ fn workspace_from(
     Ok(made)
 }
 
-/// Returns the workspace of a reading.
+/// Returns the workspace of the packages that were read.
 fn workspace_of(
     alloc: Global,
     target: &PathText,
@@ -237,7 +239,7 @@ fn workspace_of(
     Ok(SettledWorkspace::new(made))
 }
 
-/// Returns the workspace of a frame and its root package, if there is one.
+/// Returns the workspace of a root manifest (`frame`) and its root package, if there is one.
 #[tactic(auto, unfolding(crate::specs::Loaded::workspace_in))]
 fn workspace_in<P: Place>(
     alloc: Global,
@@ -280,9 +282,9 @@ fn workspace_in<P: Place>(
 /// - `Manifest` with `UnsupportedSource`: a package inherits an entry of the workspace that has no
 ///   path, or has `git` or `registry`.
 /// - `NoInherited`: a package inherits a key or an entry that the workspace does not have, or the
-///   package inherits but is no member.
+///   package inherits but is not a member.
 /// - `TooMany`: a 257th package would be read.
-/// - `Place`: a call failed. It contains the path of that call.
+/// - `Place`: a call failed. The error contains the path of that call.
 /// - `SameName`, `NameMismatch`, `VersionMismatch`, `LinksTwice`, `LinksWithoutScript`,
 ///   `SameBinary`, in this order, after all packages are read.
 /// - `OutOfMemory`, at any time.

@@ -14,7 +14,7 @@ use pb_workspace_package::source::resolve_path;
 use pb_workspace_package::{cut_at_slashes, names_in};
 use std::alloc::{AllocError, Global};
 
-/// A part of a text, which a name of a folder's path must match if the text means the folder.
+/// A part of a text. If the text means a folder, a name in the folder's path matches this part.
 #[derive(Drop)]
 pub struct Part {
     /// A name, or a pattern for a name.
@@ -113,7 +113,7 @@ fn go_further(alloc: Global, parts: &mut Vec<Part>, part: &str) -> Result<(), Al
 
 /// Returns the parts of a text of `members` or `default-members`. The text means a folder if the
 /// folder's names match these parts. The parts of the root folder come first, and each matches only
-/// itself. The parts of the text follow, where `.` and `..` have their meaning in a path.
+/// itself. The parts of the text follow. In them `.` and `..` have their meaning in a path.
 ///
 /// Errors: out of memory only.
 pub fn parts_meant(

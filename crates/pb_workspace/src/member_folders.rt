@@ -282,7 +282,7 @@ fn with_manifests<P: Place>(
 /// folders have a manifest, and `exclude` does not leave them out. No call is made for a path at or
 /// below a folder that `exclude` leaves out (our own choice).
 ///
-/// Errors: those of `one_step`; those of `has_manifest`.
+/// Errors: those of `one_step` and `has_manifest`.
 fn folders_taken<P: Place>(
     alloc: Global,
     place: &mut P,

@@ -81,8 +81,12 @@ fn read_found(alloc: Global, path: &PathText, found: Option<Bytes>) -> Result<Ma
 
 /// Returns the manifest at a path. At most one byte more than a manifest may have is read.
 ///
-/// Errors: `NoManifest`, if the path is no file of the sources; `Manifest`, if the reader refuses
-/// it; `Place`, if the read failed; `OutOfMemory`.
+/// Errors:
+///
+/// - `NoManifest`, if the path is not a file of the sources.
+/// - `Manifest`, if the reader refuses the file.
+/// - `Place`, if the read failed.
+/// - `OutOfMemory`.
 #[tactic(auto, using(crate::proofs::Cut::cut_laws))]
 fn manifest_at<P: Place>(
     alloc: Global,
@@ -102,8 +106,8 @@ fn manifest_at<P: Place>(
     Ok(manifest)
 }
 
-/// Returns what a package may inherit from its workspace. A package that is no member may inherit
-/// nothing.
+/// Returns what a package may inherit from its workspace. A package that is not a member may
+/// inherit nothing.
 fn given_to<'a>(frame: &'a WorkspaceRoot, none: &'a Given, is_member: bool) -> &'a Given
     requires { none.now ≡ nothing }
     ensures { result.now ≡ given_to frame.now is_member }
@@ -113,8 +117,10 @@ fn given_to<'a>(frame: &'a WorkspaceRoot, none: &'a Given, is_member: bool) -> &
 
 /// Returns the package of a manifest that was read.
 ///
-/// Errors: `Manifest` with `BadKind` of `package`, if the manifest has no package; those of
-/// `draft_of`.
+/// Errors:
+///
+/// - `Manifest` with `BadKind` of `package`, if the manifest has no package.
+/// - Those of `draft_of`.
 #[tactic(auto, unfolding(crate::specs::Rounds::draft_if))]
 pub fn draft_if<P: Place>(
     alloc: Global,
@@ -208,8 +214,12 @@ pub fn parts_of(read: Manifest) -> Parts
 
 /// Returns the parts of the manifest at a path.
 ///
-/// Errors: `NoManifest`, if the path is no file of the sources; `Manifest`, if the reader refuses
-/// it; `Place`, if the read failed; `OutOfMemory`.
+/// Errors:
+///
+/// - `NoManifest`, if the path is not a file of the sources.
+/// - `Manifest`, if the reader refuses the file.
+/// - `Place`, if the read failed.
+/// - `OutOfMemory`.
 pub fn parts_at<P: Place>(
     alloc: Global,
     place: &mut P,
@@ -330,7 +340,7 @@ fn add_draft(
     led
 }
 
-/// Returns the reading with one more package.
+/// Returns the state of a reading after one more package.
 pub fn with_draft(
     alloc: Global,
     reading: LoadState,

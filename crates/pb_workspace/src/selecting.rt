@@ -35,7 +35,7 @@ fn is_member_named(name: &Text, found: &Package) -> bool
     found.is_member && *name == found.name
 }
 
-/// Returns whether a name is one of these.
+/// Returns whether a name is one of these names.
 fn is_mentioned(names: &[Text], name: &Text) -> bool
     ensures { result ≡ is_mentioned names.now name.now }
 {
@@ -257,15 +257,18 @@ fn selection_of(
 /// cargo build).
 ///
 /// With `--workspace` the packages are all members. Otherwise they are the members that `-p` names.
-/// Without both options, `default-members` decides. Without this key, the package is the root
+/// If neither option is given, `default-members` decides. Without this key, the package is the root
 /// package, or all members if there is no root package. The indices are in ascending order without
 /// repeats, and the type guarantees that each is the index of a package of the workspace.
 ///
 /// The features are the texts between the commas and spaces of `--features`, in order; empty texts
 /// are left out.
 ///
-/// Errors: `NoSuchPackage`, if `-p` names no member, or if `default-members` decides and lists a
-/// folder that is no member; `OutOfMemory`.
+/// Errors:
+///
+/// - `NoSuchPackage`, if `-p` names a package that is not a member, or if `default-members` decides
+///   and lists a folder that is not a member.
+/// - `OutOfMemory`.
 pub fn selected<'a>(
     alloc: Global,
     workspace: &'a SettledWorkspace,

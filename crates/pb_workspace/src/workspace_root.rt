@@ -49,7 +49,7 @@ fn no_keys() -> WorkspacePackage
     }
 }
 
-/// Returns nothing to inherit. No memory is used.
+/// Returns the value of a workspace that offers nothing to inherit. No memory is used.
 pub fn nothing(alloc: Global) -> Given
     ensures { result ≡ nothing }
 {

@@ -1,4 +1,4 @@
-//! Names that repeat.
+//! Finds names that occur more than once.
 
 ghost use Rattle.std.specs.Prelude.{◌≡◌, IfOk, OnOk};
 ghost use Rattle.pb_data.specs.OrderedSet.{is_mentioned, mentioned};

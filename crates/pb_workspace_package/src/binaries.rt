@@ -29,7 +29,7 @@ fn with_end(alloc: Global, name: &str, end: &str) -> Result<Text, AllocError>
 }
 
 /// Returns the first of `src/bin/NAME.rs` and `src/bin/NAME/main.rs` that is a file of the sources,
-/// or none if neither is.
+/// or none if neither path is such a file.
 #[tactic(auto, using(crate::proofs::BinPaths::bin_laws))]
 fn looked_in_bin(
     alloc: Global,

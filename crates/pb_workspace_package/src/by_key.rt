@@ -1,5 +1,5 @@
-//! What entries request, and the entries of `[workspace.dependencies]`,
-//! in order. An entry of the workspace is found by binary search.
+//! What entries request, and the entries of `[workspace.dependencies]`, in order. An entry of the
+//! workspace is found by binary search.
 
 ghost use Rattle.std.specs.Prelude.{◌≡◌, [], map};
 ghost use Rattle.std.specs.List.{find};

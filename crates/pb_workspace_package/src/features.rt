@@ -70,8 +70,8 @@ fn enabled_names(alloc: Global, features: &[Feature]) -> Result<OrderedSet, Allo
     Ok(names)
 }
 
-/// Returns whether an entry makes a feature of its name, given
-/// the names N that features list as `dep:N`.
+/// Returns whether an entry makes a feature of its name, given the names N that features list as
+/// `dep:N`.
 fn makes_feature(names: &OrderedSet, entry: &Dependency) -> bool
     ensures { result ≡ (entry.now.optional && not (is_mentioned names.now entry.now.key)) }
 {
@@ -123,7 +123,8 @@ fn add_made(
     Ok(())
 }
 
-/// Adds the written features. Each replaces a feature of the same name that an entry made.
+/// Adds the written features. Each written feature replaces a feature of the same name that an
+/// entry made.
 fn add_written(
     made: &mut Sorted<Items<FeatureItem>>,
     written: Items<Feature>,
@@ -150,8 +151,8 @@ fn features_from(
     Ok(features)
 }
 
-/// Adds the features that the entries of the two tables make,
-/// given the names N that features list as `dep:N`.
+/// Adds the features that the entries of the two tables make, given the names N that features list
+/// as `dep:N`.
 fn add_all_made(
     alloc: Global,
     names: &OrderedSet,

@@ -178,7 +178,7 @@ fn binaries_from(
 /// of `src/bin/NAME/main.rs` come first, and then the binaries of `src/bin/NAME.rs`. The binary of
 /// `src/main.rs` comes last, and is named as the package.
 ///
-/// If two binaries have the same name, the later one counts. NAME must be possible as the name of a
+/// If two binaries have the same name, the later one counts. NAME must be a valid name of a
 /// package. Files at or below the target folder are left out.
 ///
 /// Errors: out of memory.

@@ -8,8 +8,8 @@ use crate::source::own_path;
 use pb_place_types::PathText;
 use std::alloc::{AllocError, Global};
 
-/// A file at a fixed path in a package's folder (The Cargo
-/// Book, Manifest Format, Cargo Targets, Build Scripts).
+/// A file at a fixed path in a package's folder (The Cargo Book, Manifest Format, Cargo Targets,
+/// Build Scripts).
 #[derive(Clone, Copy, PartialEq, Eq)]
 pub enum OwnFile {
     /// `README.md`.

@@ -26,8 +26,8 @@ use pb_place_types::PathText;
 use pb_workspace_types::{BinariesByName, Binary, DependencyKind, Library, LoadFault};
 use std::alloc::{AllocError, Global};
 
-/// What a package may take from its workspace. A package that
-/// may take nothing gets a table without values and no entries.
+/// What a package may take from its workspace. A package that may take nothing gets a table without
+/// values and no entries.
 #[derive(Drop)]
 pub struct Given {
     /// `[workspace.package]`.
@@ -78,12 +78,15 @@ fn join_entries(first: Items<Wanted>, second: Items<Wanted>) -> Result<Items<Wan
     Ok(made)
 }
 
-/// Returns what the entries of `[dependencies]` and then of
-/// `[build-dependencies]` request, up to the first fault.
+/// Returns what the entries of `[dependencies]` and then of `[build-dependencies]` request, up to
+/// the first fault.
 ///
-/// Errors: `NoInherited`, if an entry is taken that the workspace does
-/// not have; `Manifest` with `UnsupportedSource`, if the workspace's
-/// entry has no path, or has `git` or `registry`; `OutOfMemory`.
+/// Errors:
+///
+/// - `NoInherited`, if an entry is taken that the workspace does not have.
+/// - `Manifest` with `UnsupportedSource`, if the workspace's entry has no path, or has `git` or
+///   `registry`.
+/// - `OutOfMemory`.
 pub fn wanted_in(
     alloc: Global,
     at: &PackageLocation,

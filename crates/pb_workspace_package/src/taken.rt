@@ -114,7 +114,7 @@ fn authors_of(
 }
 
 /// Returns a path of the workspace as a path from the member's folder. The workspace's path starts
-/// at the root folder. A text with byte 0 is no path and stays unchanged.
+/// at the root folder. A text with byte 0 is not a path and stays unchanged.
 fn from_member(
     alloc: Global,
     root: &PathText,

@@ -88,8 +88,8 @@ pub struct Lists {
     pub has_same_binaries: bool,
 }
 
-/// Returns what the lists of a manifest result in: its entries,
-/// its features and whether names of its `[[bin]]` repeat.
+/// Returns what the lists of a manifest result in: its entries, its features and whether names of
+/// its `[[bin]]` repeat.
 fn lists_of(
     alloc: Global,
     at: &PackageLocation,
@@ -230,10 +230,10 @@ fn draft_seen(
 ///
 /// Errors: the first that occurs. The keys are checked first, then `[dependencies]`, and then
 /// `[build-dependencies]`:
-/// - `Place`: a call failed. It contains the path of that call.
+/// - `Place`: a call failed. The error contains the path of that call.
 /// - `NoInherited`: a key or an entry is taken that the workspace does not have.
-/// - `Manifest` with `UnsupportedSource`: the entry that is
-///   taken has no path, or has `git` or `registry`.
+/// - `Manifest` with `UnsupportedSource`: the entry that is taken has no path, or has `git` or
+///   `registry`.
 /// - `OutOfMemory`, at any time.
 pub fn draft_of<P: Place>(
     alloc: Global,

@@ -17,8 +17,8 @@ use pb_place_types::PathText;
 use pb_workspace_types::{DependencyKind, LoadFault};
 use std::alloc::{AllocError, Global};
 
-/// An entry of `[dependencies]` or `[build-dependencies]` whose
-/// package has not been looked for yet.
+/// An entry of `[dependencies]` or `[build-dependencies]` whose package has not been looked for
+/// yet.
 #[derive(Drop)]
 pub struct Wanted {
     /// The name of the entry in the manifest.
@@ -31,7 +31,7 @@ pub struct Wanted {
     pub name: Text,
     /// The requirement that its package's version must match.
     pub version: Option<Requirement>,
-    /// Whether `package` names another package than the key.
+    /// Whether the name at `package` differs from `key`. False if `package` is not written.
     pub renamed: bool,
     /// Whether the entry is left out unless something enables it.
     pub optional: bool,
@@ -52,7 +52,8 @@ pub struct PackageLocation {
     pub manifest: PathText,
 }
 
-/// Returns whether `package` names another package than the key.
+/// Returns whether the name at `package` differs from the key. Returns false if there is no such
+/// name.
 fn is_renamed(key: &Text, name: &Option<Text>) -> bool
     ensures { result ≡ is_renamed key.now name.now }
 {
@@ -170,8 +171,10 @@ fn taken_from(
 
 /// Returns what an entry requests (The Cargo Book, Specifying Dependencies and Workspaces).
 ///
-/// Errors: `NoInherited`, if it takes an entry that the workspace does not have; `Manifest`
-/// with `UnsupportedSource`, if that entry has no path, or has `git` or `registry`.
+/// Errors:
+///
+/// - `NoInherited`, if the entry takes an entry that the workspace does not have.
+/// - `Manifest` with `UnsupportedSource`, if that entry has no path, or has `git` or `registry`.
 fn wanted_of(
     alloc: Global,
     at: &PackageLocation,
@@ -207,7 +210,11 @@ fn wanted_of(
 
 /// Returns what the entries of one table request, in order, up to the first fault.
 ///
-/// Errors: `NoInherited`; `Manifest` with `UnsupportedSource`; `OutOfMemory`.
+/// Errors:
+///
+/// - `NoInherited`.
+/// - `Manifest` with `UnsupportedSource`.
+/// - `OutOfMemory`.
 pub fn each_wanted(
     alloc: Global,
     at: &PackageLocation,

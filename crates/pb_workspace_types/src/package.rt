@@ -35,7 +35,7 @@ pub struct Entry {
     pub kind: DependencyKind,
     /// The index of the entry's package in the workspace.
     pub to: usize,
-    /// Whether `package` names a package other than the key.
+    /// Whether the name at `package` differs from `key`. False if `package` is not written.
     pub renamed: bool,
     /// Whether the entry is optional. An optional entry is enabled only by a feature.
     pub optional: bool,

@@ -294,7 +294,8 @@ impl<C: Child> Place for Memory<C> {
             ≡ counted_spawn (child_spawned (C.answers command.now) command.now self.old.world)
             result (counts_in self.old) }
 
-        // If the start fails, or a later call can fail, then calls could fail before.
+        // If the start fails, or a later call can fail, then calls could already fail before the
+        // start.
         ensures fails { IfErr result (λ e. e ≢ StartFault.OutOfMemory → may_fail self.old ≡ true) }
         ensures later { may_fail self.new ≡ true → may_fail self.old ≡ true }
     {

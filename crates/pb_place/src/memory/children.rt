@@ -22,7 +22,8 @@ use pb_place_types::{
 };
 use std::alloc::{AllocError, Global};
 
-/// Adds a child in flight, and returns the most children that were ever in flight.
+/// Adds a child in flight, and returns the greatest number of children that were ever in flight at
+/// a time.
 #[tactic(auto, using(crate::proofs::InFlight::fly_laws))]
 fn add_child(
     flying: &mut Vec<Flying<Option<StartFault>>>,

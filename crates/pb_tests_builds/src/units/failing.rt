@@ -14,7 +14,7 @@ use pb_tests_files::{Case, Shown, Trial, Untold, put_files};
 use std::alloc::Global;
 use std::test::Fail;
 
-/// The report on calls that came after the failed call.
+/// Returns the report on calls that came after the failed call.
 fn late_told(place: &Untold<Mini>) -> &'static str {
     if place.late() > 0 {
         return " (wrong: a call came after it)";
@@ -50,7 +50,7 @@ fn fail_at(
     Ok(said.whole()?)
 }
 
-/// The same of the last of these steps, after those before it.
+/// Does what `fail_at` does with the last of these steps, after the steps before it.
 fn fail_after(
     alloc: Global,
     place: &mut Untold<Mini>,
@@ -78,7 +78,7 @@ fn fail_if(
     }
 }
 
-/// The same on the project of the files, in a place without files.
+/// Does the same on the project of the files, in a place without files.
 fn fail_in(
     alloc: Global,
     place: &mut Untold<Mini>,
@@ -90,7 +90,7 @@ fn fail_in(
     fail_if(alloc, place, &project, steps, number)
 }
 
-/// The same in a fresh place.
+/// Does the same in a fresh place.
 fn try_at(alloc: Global, steps: &str, number: u64) -> Result<String, Fail> {
     let inside = Memory::new(alloc, Mini);
     fail_in(alloc, &mut Untold { inside }, steps, number)

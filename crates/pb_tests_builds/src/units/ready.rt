@@ -17,7 +17,7 @@ use pb_tests_files::{Untold, no_options};
 use std::alloc::{AllocError, Global};
 use std::test::Fail;
 
-/// What the units of a project have told.
+/// What the units of a project have reported.
 #[derive(Drop)]
 pub struct Told {
     /// The directives of the runs among them, by index.
@@ -33,11 +33,11 @@ pub struct Bench {
     pub setup: Setup,
     /// The records of the project's folder.
     pub store: Store,
-    /// What the units have told.
+    /// What the units have reported.
     pub told: Told,
 }
 
-/// The project at `/w`, whose target folder is `/w/target`, or none if it is refused.
+/// Returns the project at `/w`, whose target folder is `/w/target`, or none if it is refused.
 pub fn project_in(alloc: Global, place: &mut Memory<Mini>) -> Result<Option<OrderedProject>, Fail> {
     let options = no_options(alloc)?;
     match plan_build(alloc, place, &options) {
@@ -46,7 +46,7 @@ pub fn project_in(alloc: Global, place: &mut Memory<Mini>) -> Result<Option<Orde
     }
 }
 
-/// The small compiler, as a runner.
+/// Returns the small compiler, as a runner.
 fn runner(alloc: Global) -> Result<Items<Text>, AllocError> {
     let mut runner = Items::new(alloc);
     runner.push(Text::from_str(alloc, "mini")?)?;
@@ -54,7 +54,7 @@ fn runner(alloc: Global) -> Result<Items<Text>, AllocError> {
     Ok(runner)
 }
 
-/// How things are compiled at first.
+/// Returns how things are compiled at first.
 fn setup_of(alloc: Global) -> Result<Setup, AllocError> {
     let runner = runner(alloc)?;
     let tool = Text::from_str(alloc, "tool")?;
@@ -90,7 +90,7 @@ pub fn store_of(
     }
 }
 
-/// What the units of a project have reported at first: nothing.
+/// Returns what the units of a project have reported at first: nothing.
 fn nothing_told(alloc: Global, project: &OrderedProject) -> Result<Told, AllocError> {
     let mut done = Vec::new(alloc);
     for _ in project.units() {
@@ -102,7 +102,7 @@ fn nothing_told(alloc: Global, project: &OrderedProject) -> Result<Told, AllocEr
     })
 }
 
-/// What the units of a project are run with at first.
+/// Returns what the units of a project are run with at first.
 pub fn bench_of(
     alloc: Global,
     place: &mut Untold<Mini>,

@@ -16,13 +16,13 @@ use pb_tests_files::Untold;
 use pb_unit::Planned;
 use std::alloc::{AllocError, Global};
 
-/// A fault, in words.
+/// Returns a fault, in words.
 fn tell_fault(alloc: Global, fault: BuildFault) -> Result<String, AllocError> {
     let answer: Result<Summary, BuildFault> = Err(fault);
     result_line(alloc, &answer)
 }
 
-/// What differed, in words.
+/// Returns what differed, in words.
 fn tell_difference(alloc: Global, difference: &Option<Difference>) -> Result<String, AllocError> {
     match difference {
         Some(difference) => format!(in alloc; "{difference}"),
@@ -30,7 +30,7 @@ fn tell_difference(alloc: Global, difference: &Option<Difference>) -> Result<Str
     }
 }
 
-/// What came of a unit, in words: what differed, and why a bad unit is bad.
+/// Returns what came of a unit, in words: what differed, and why a bad unit is bad.
 fn tell_outcome(alloc: Global, outcome: &Outcome) -> Result<String, AllocError> {
     let mut said = tell_difference(alloc, &outcome.difference)?;
     if outcome.started != outcome.difference.is_some() {
@@ -43,7 +43,7 @@ fn tell_outcome(alloc: Global, outcome: &Outcome) -> Result<String, AllocError> 
     Ok(said)
 }
 
-/// Notes what came of a unit, and tells it in words.
+/// Notes what came of a unit, and reports it in words.
 fn note(
     alloc: Global,
     told: &mut Told,
@@ -89,7 +89,7 @@ pub fn run(
     }
 }
 
-/// Whether the child of a unit that has begun is in flight, if the unit has a child.
+/// Returns whether the child of a unit that has begun is in flight, if the unit has a child.
 fn is_aloft(place: &Untold<Mini>, begun: &Begun) -> bool
     ensures { result ≡ true → IfSome (child_of begun.now) (λ launched.
         is_flying launched.ticket (counts_in place.now.inside).starts.flying ≡ true) }

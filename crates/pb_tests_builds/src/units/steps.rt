@@ -1,4 +1,4 @@
-//! Steps in words: what changes, which units run, and what they tell.
+//! Steps in words: what changes, which units run, and what the steps report.
 
 ghost use Rattle.std.specs.Prelude.{◌≡◌, ◌≢◌, IfOk};
 ghost use Rattle.pb_place_types.specs.declared.place.StartFault.TheVariants as StartFault;
@@ -17,14 +17,14 @@ use std::alloc::Global;
 use std::process::Abort;
 use std::test::Fail;
 
-/// The words of a step: its verb, the next word, and all after it.
+/// Returns the words of a step: its verb, the next word, and all after it.
 pub fn words_of(line: &str) -> (&str, &str, &str) {
     let (verb, words) = line.split_once(' ').unwrap_or((line, ""));
     let (first, rest) = words.split_once(' ').unwrap_or((words, ""));
     (verb, first, rest)
 }
 
-/// The kind of a death.
+/// Returns the kind of a death.
 fn kind_of(word: &str) -> Result<StartFault, Fail>
     ensures { IfOk result (λ kind. kind ≢ StartFault.OutOfMemory) }
 {
@@ -84,7 +84,7 @@ fn set_up(alloc: Global, setup: &mut Setup, verb: &str, first: &str) -> Result<(
     Ok(())
 }
 
-/// The index of a unit in a word.
+/// Returns the index of a unit in a word.
 fn index_of(word: &str) -> Result<usize, Fail> {
     match word.parse::<usize>() {
         Ok(index) => Ok(index),
@@ -111,7 +111,7 @@ pub fn call(
     }
 }
 
-/// Whether a file is there, in words.
+/// Returns whether a file is there, in words.
 fn tell_file(alloc: Global, place: &Memory<Mini>, path: &str) -> Result<String, Fail> {
     let path = PathText::parse(alloc, path)?;
     let file = place.file(alloc, &path)?;
@@ -119,7 +119,8 @@ fn tell_file(alloc: Global, place: &Memory<Mini>, path: &str) -> Result<String, 
     Ok(String::from_str(alloc, said)?)
 }
 
-/// What the test sees of the place and of what units reported, in words; nothing for another step.
+/// Returns what the test sees of the place and of what units reported, in words; nothing for
+/// another step.
 fn look(
     alloc: Global,
     place: &Memory<Mini>,
@@ -166,7 +167,7 @@ const VERBS: &[&str] = &[
     "run", "drop", "there", "starts", "late", "lines",
 ];
 
-/// One step. A word that is none of these fails.
+/// Takes one step. A word that is not one of these verbs is an error.
 fn step(
     alloc: Global,
     place: &mut Untold<Mini>,

@@ -9,12 +9,12 @@ use pb_tests_files::{Case, Shown, Trial, Untold, put_files};
 use std::alloc::Global;
 use std::test::Fail;
 
-/// A library, which warns, reads a file and a variable; a script, and the library for which the
-/// script runs. The units: a's library, b's script, its run and its library.
+/// The library of `a` warns, and reads a file and a variable. The package `b` has a script and a
+/// library. The units are a's library, b's script, the run of the script, and b's library.
 pub const FILES: &str =
     "@ /w/Cargo.toml\nworkspace.members = ['a', 'b']\n@ /w/a/Cargo.toml\npackage.name = 'a'\n@ /w/a/src/lib.rs\nwarn w\ninclude n\nenv V\n@ /w/a/src/n\none\n@ /w/b/Cargo.toml\npackage.name = 'b'\ndependencies.a.path = '../a'\n@ /w/b/src/lib.rs\nuse a\n@ /w/b/build.rs\nput f g\n";
 
-/// What steps on a project tell.
+/// Returns what steps on a project report.
 fn told_by(
     alloc: Global,
     place: &mut Untold<Mini>,
@@ -25,7 +25,7 @@ fn told_by(
     make_steps(alloc, place, project, &mut bench, steps)
 }
 
-/// The same report, if the project was not refused.
+/// Returns what steps on a project report, if the project was not refused.
 fn told_if(
     alloc: Global,
     place: &mut Untold<Mini>,
@@ -38,20 +38,21 @@ fn told_if(
     }
 }
 
-/// What steps on the project of these files tell, in a place without files.
+/// Returns what steps on the project of these files report, in a place without files.
 fn told_in(alloc: Global, place: &mut Untold<Mini>, steps: &str) -> Result<String, Fail> {
     put_files(alloc, &mut place.inside, FILES)?;
     let project = project_in(alloc, &mut place.inside)?;
     told_if(alloc, place, &project, steps)
 }
 
-/// The same report, in a fresh place.
+/// Returns what steps on this project report, in a fresh place.
 fn report_afresh(alloc: Global, steps: &str) -> Result<String, Fail> {
     let inside = Memory::new(alloc, Mini);
     told_in(alloc, &mut Untold { inside }, steps)
 }
 
-/// Trials: a line `=== [RULE] NAME`, steps, a line each, and after a line `---` what they tell, a line each.
+/// Trials. A trial is a line `=== [RULE] NAME`, its steps, a line `---`, and what the steps report.
+/// Each step and each report has a line.
 const TRIALS: &str = r#"=== [build.units] a second run starts nothing, and prints its lines again
 run 0
 lines
@@ -340,7 +341,7 @@ run 9
 no unit
 "#;
 
-/// Cases of steps, and what each tells.
+/// Cases of steps, and what each step reports.
 struct StepCases {}
 
 impl Trial for StepCases {

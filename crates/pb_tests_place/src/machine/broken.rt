@@ -9,7 +9,8 @@ use std::io;
 use std::io::{ErrorKind, Read};
 use std::process::{Child, Command, ExitStatus, OpenProcess, Processes, Stdio};
 
-/// A machine whose every call on files and children fails in one way, and whose variables are not UTF-8.
+/// A machine whose every call on files and children fails in one way, and whose variables are not
+/// UTF-8.
 #[derive(Drop)]
 pub(crate) struct Broken {
     kind: ErrorKind,
@@ -18,7 +19,7 @@ pub(crate) struct Broken {
 }
 
 impl Broken {
-    /// A machine that fails so.
+    /// Returns a machine that fails in this way.
     pub(crate) fn new(memory: Global, kind: ErrorKind) -> Broken {
         Broken {
             kind,
@@ -27,7 +28,8 @@ impl Broken {
         }
     }
 
-    /// A machine that may start children, and then fails so where it reads what they write.
+    /// Returns a machine that may start children, and fails in this way when it reads what the
+    /// children write.
     pub(crate) fn with_start(memory: Global, kind: ErrorKind, starts: bool) -> Broken {
         Broken {
             kind,
@@ -36,7 +38,7 @@ impl Broken {
         }
     }
 
-    /// The error of each call.
+    /// Returns the error of each call.
     fn error(&self) -> io::Error {
         io::Error::from(self.kind)
     }

@@ -8,7 +8,7 @@ use std::alloc::Global;
 use std::os::unix::fs::symlink;
 use std::test::Fail;
 
-/// Makes a link that leads to what the text of a step says.
+/// Makes a link that leads to the path in the text of a step.
 fn link(rt: &HostRuntime, root: &PathText, step: &Step) -> Result<(), Fail> {
     let path = path_in(rt.alloc(), root, step.name)?;
     Ok(symlink(rt, step.text, path.as_str())?)
@@ -58,7 +58,7 @@ pub(crate) fn carry_out_here(rt: &HostRuntime, root: &PathText, steps: &str) -> 
     went
 }
 
-/// Carries steps out in a folder, and takes it away.
+/// Carries steps out in a folder, and removes the folder.
 fn try_in(rt: &HostRuntime, root: &PathText, steps: &str) -> Result<(), Fail> {
     carry_out_here(rt, root, steps)?;
     finish(rt, root)

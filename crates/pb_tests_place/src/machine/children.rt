@@ -1,4 +1,4 @@
-//! Children: how they end, and what they are given.
+//! Children: how they end, and what they get.
 
 use crate::machine::calls::carry_out_here;
 use crate::machine::commands::{Asked, said_here};
@@ -8,9 +8,10 @@ use pb_place_host::HostPlace;
 use pb_place_types::{PathText, Place, PlaceFault};
 use std::test::Fail;
 
-/// Children in a test's folder: the program, what the shell is told, the folder in which it starts and its output folder,
-/// of which the last may be missing; and how each ends, with the numbers of starts and failures. Since some write line
-/// feeds, `~` stands between two children.
+/// Children in a test's folder. For each child: the program, the script for the shell, the folder
+/// in which the child starts, and its output folder, which may be missing. Then how the child ends,
+/// with the numbers of starts and failures. Some children write line feeds, so `~` separates two
+/// children.
 const CHILDREN: &str = "/bin/sh|exit 0 -> 0()() 1 0~\
      /bin/sh|exit 3 -> 3()() 1 0~\
      /bin/sh|exit 255 -> 255()() 1 0~\
@@ -42,7 +43,7 @@ fn ends(rt: &HostRuntime, root: &PathText, asked: &Asked, wanted: &str) -> Resul
     Ok(())
 }
 
-/// The child that a text requests.
+/// Returns the child that a text requests.
 fn asked_of(text: &str) -> Asked {
     let (program, rest) = text.split_once('|').unwrap_or((text, ""));
     let (told, folders) = rest.split_once('|').unwrap_or((rest, ""));
@@ -61,7 +62,7 @@ fn all_end(rt: &HostRuntime, root: &PathText) -> Result<(), Fail> {
     carry_out_here(rt, root, LEFT)
 }
 
-/// The value of a variable at a new place.
+/// Returns the value of a variable at a new place.
 fn variable(rt: &HostRuntime, name: &str) -> Result<Option<Text>, PlaceFault> {
     let mut place = HostPlace::new(rt.alloc(), rt);
     let value = place.variable(rt.alloc(), name);
@@ -81,7 +82,7 @@ fn inherits(rt: &HostRuntime, root: &PathText) -> Result<(), Fail> {
     }
 }
 
-/// Tries all children in a folder, and takes it away.
+/// Tries all children in a folder, and removes the folder.
 fn try_children(rt: &HostRuntime, root: &PathText) -> Result<(), Fail> {
     all_end(rt, root)?;
     inherits(rt, root)?;

@@ -7,11 +7,11 @@ use pb_place_types::{Command, PathText};
 use std::alloc::{AllocError, Global};
 use std::test::Fail;
 
-/// A child: its program, what the shell is told (no words where that is empty), the folder in which it starts, its
-/// output folder (none where that is empty), and its pairs.
+/// A child: its program, the script for the shell (no words if the field is empty), the folder in
+/// which it starts, its output folder (none if the field is empty), and its pairs.
 pub(crate) type Asked<'a> = (&'a str, &'a str, &'a str, &'a str, &'a [(&'a str, &'a str)]);
 
-/// The shell in a test's folder, with this script.
+/// Returns the shell in a test's folder, with this script.
 pub(crate) fn shell(told: &str) -> Asked {
     ("/bin/sh", told, "", "", &[])
 }
@@ -56,7 +56,7 @@ fn add_pairs(
     Ok(())
 }
 
-/// The output folder of this name, or none.
+/// Returns the output folder of this name, or none.
 fn out_of(alloc: Global, root: &PathText, name: &str) -> Result<Option<PathText>, Fail> {
     if name.is_empty() {
         return Ok(None);
@@ -65,7 +65,8 @@ fn out_of(alloc: Global, root: &PathText, name: &str) -> Result<Option<PathText>
     Ok(Some(out))
 }
 
-/// The command of a program without words, pairs and an output folder. It sees nothing of a target folder.
+/// Returns the command of a program without words, pairs and an output folder. It sees nothing of a
+/// target folder.
 fn plain_command(
     alloc: Global,
     root: &PathText,
@@ -87,14 +88,14 @@ fn plain_command(
     })
 }
 
-/// Gives a command the words, the pairs and the output folder of a child.
+/// Sets the words, the pairs and the output folder of a command to those of a child.
 fn fill(alloc: Global, root: &PathText, asked: &Asked, command: &mut Command) -> Result<(), Fail> {
     command.out = out_of(alloc, root, asked.3)?;
     add_words(alloc, &mut command.words, asked.1)?;
     Ok(add_pairs(alloc, &mut command.pairs, asked.4)?)
 }
 
-/// The command of a child, whose folders lie in a test's folder.
+/// Returns the command of a child whose folders are in a test's folder.
 pub(crate) fn command(alloc: Global, root: &PathText, asked: &Asked) -> Result<Command, Fail> {
     let mut command = plain_command(alloc, root, asked.0, asked.2)?;
     match fill(alloc, root, asked, &mut command) {
@@ -106,7 +107,7 @@ pub(crate) fn command(alloc: Global, root: &PathText, asked: &Asked) -> Result<C
     }
 }
 
-/// How the child of a command ended at a new place on the machine.
+/// Returns how the child of a command ended at a new place on the machine.
 fn said_of(rt: &HostRuntime, command: &Command) -> Result<String, Fail> {
     let mut place = HostPlace::new(rt.alloc(), rt);
     let said = answer_of(rt.alloc(), &mut place, command);
@@ -114,7 +115,7 @@ fn said_of(rt: &HostRuntime, command: &Command) -> Result<String, Fail> {
     said
 }
 
-/// How a child ended at a new place on the machine.
+/// Returns how a child ended at a new place on the machine.
 pub(crate) fn said_here(rt: &HostRuntime, root: &PathText, asked: &Asked) -> Result<String, Fail> {
     let command = command(rt.alloc(), root, asked)?;
     let said = said_of(rt, &command);

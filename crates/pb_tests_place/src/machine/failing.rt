@@ -12,7 +12,7 @@ use std::fs;
 use std::io::ErrorKind;
 use std::test::Fail;
 
-/// Carries steps out on a machine whose every call fails so.
+/// Carries steps out on a machine on which every call fails in this way.
 fn try_broken(rt: &HostRuntime, root: &PathText, kind: ErrorKind, steps: &str) -> Result<(), Fail> {
     let machine = Broken::new(rt.alloc(), kind);
     let mut place = HostPlace::new(rt.alloc(), &machine);
@@ -51,7 +51,7 @@ static ERRORS: &[(ErrorKind, &str)] = &[
     (ErrorKind::NotADirectory, ABSENT),
 ];
 
-/// What the start of a child gives on a machine.
+/// Returns what the start of a child results in on a machine.
 fn said_on(alloc: Global, machine: &Broken, command: &Command) -> Result<String, Fail> {
     let mut place = HostPlace::new(alloc, machine);
     let said = answer_of(alloc, &mut place, command);
@@ -59,7 +59,8 @@ fn said_on(alloc: Global, machine: &Broken, command: &Command) -> Result<String,
     said
 }
 
-/// Tries that the start of a child that ends well gives this on a machine that fails so.
+/// Tries the start of a child that ends well, on a machine that fails in this way, and compares the
+/// result.
 fn try_start(
     alloc: Global,
     root: &PathText,
@@ -74,7 +75,8 @@ fn try_start(
     try_said(said, wanted)
 }
 
-/// Whether a machine starts children, which then cannot be heard; how it fails; and what a start gives.
+/// For each machine: whether it starts children, whose output then cannot be read; how it fails;
+/// and what a start results in.
 static STARTS: &[(bool, ErrorKind, &str)] = &[
     (false, ErrorKind::NotFound, "CannotStart 1 1"),
     (false, ErrorKind::OutOfMemory, "OutOfMemory 1 0"),
@@ -102,7 +104,7 @@ fn broken_machines(rt: HostRuntime) -> Result<(), Fail> {
     try_machines(&rt, &root)
 }
 
-/// A variable that is no text is a fault, and is counted.
+/// A variable that is not UTF-8 is a fault, and is counted.
 const NO_TEXT: &str = "variable V -> Variable\n\
      counts -> 1 0";
 
@@ -110,7 +112,7 @@ const NO_TEXT: &str = "variable V -> Variable\n\
 const UNSET: &str = "variable NO_SUCH_VARIABLE -> none\n\
      counts -> 0 0";
 
-/// Whether a view of a machine shows no file and no variable, for it fails.
+/// Returns whether a view of a machine shows no file and no variable, because it fails.
 fn hides_all(alloc: Global, machine: &Broken, path: &PathText) -> bool {
     let view = HostView::new(machine);
     let file = view.file(alloc, path);
@@ -139,13 +141,14 @@ const SHUT: &str = "write f x -> Write\n\
 const NOT_SHUT: &str = "write f x -> done\n\
      read f -> x";
 
-/// Whether a folder takes no file: for some users no folder is shut.
+/// Returns whether no file can be written into a folder. For some users, a file can be written into
+/// every folder.
 fn is_shut(rt: &HostRuntime, folder: &PathText) -> Result<bool, Fail> {
     let path = path_in(rt.alloc(), folder, "g")?;
     Ok(fs::write(rt, path.as_str(), "").is_err())
 }
 
-/// Tells the shell something in a test's folder.
+/// Runs a script of the shell in a test's folder.
 fn tell(rt: &HostRuntime, root: &PathText, told: &str) -> Result<(), Fail> {
     said_here(rt, root, &shell(told))?;
     Ok(())
@@ -162,7 +165,7 @@ fn try_shut(rt: &HostRuntime, root: &PathText) -> Result<(), Fail> {
 const NO_TEXTS: &str = "list -> List\n\
      counts -> 1 0";
 
-/// Tries a folder that is read only, and then a name in it that is no text.
+/// Tries a folder that is read only, and then a name in it that is not UTF-8.
 fn try_odd_folder(rt: &HostRuntime, root: &PathText) -> Result<(), Fail> {
     try_shut(rt, root)?;
     tell(rt, root, "touch \"$(printf 'a\\377')\"")?;

@@ -84,7 +84,8 @@ const ASKED: &str = "write a/b/c one -> done\n\
      is no -> false\n\
      counts -> 0 0";
 
-/// Folders that the listing bears, 128 of them one in another with a file, and one too many.
+/// Folders as deep as a listing allows: 128 folders, one in another, with a file. Then one folder
+/// more, which is too deep.
 const NESTED: &str = "write \
      d/d/d/d/d/d/d/d/d/d/d/d/d/d/d/d/\
      d/d/d/d/d/d/d/d/d/d/d/d/d/d/d/d/\

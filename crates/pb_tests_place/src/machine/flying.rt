@@ -1,4 +1,4 @@
-//! Children in flight on the machine: waited for in another order, killed, with much to say.
+//! Children in flight on the machine: awaited in another order, killed, or with long output.
 
 use crate::machine::commands::{Asked, command, shell};
 use crate::told::try_said;
@@ -7,7 +7,8 @@ use pb_place_types::{Ended, PathText, Place, StartFault};
 use std::alloc::{AllocError, Global};
 use std::test::Fail;
 
-/// What a child said: its status, and how many bytes it wrote to each of its two streams; or the fault.
+/// Returns how a child ended, as a text: its status, and how many bytes it wrote to each of its two
+/// streams; or the fault.
 fn flight_text(alloc: Global, ended: Result<Ended, StartFault>) -> Result<String, AllocError> {
     let text = match &ended {
         Ok(ended) => {
@@ -35,13 +36,14 @@ fn spawn<P: Place>(
     Ok(ticket)
 }
 
-/// Whether a program that is not there does not start.
+/// Returns whether a program that does not exist cannot be started.
 fn misses<P: Place>(alloc: Global, place: &mut P, root: &PathText) -> Result<bool, Fail> {
     let answer = spawn(alloc, place, root, &("/no/such/program", "", "", "", &[]))?;
     Ok(matches!(answer, Err(StartFault::CannotStart)))
 }
 
-/// Spawns two children: their tickets, and whether a program that is not there does not start.
+/// Spawns two children. Returns their tickets, and whether a program that does not exist cannot be
+/// started.
 fn spawn_two<P: Place>(
     alloc: Global,
     place: &mut P,
@@ -55,7 +57,7 @@ fn spawn_two<P: Place>(
     Ok((one, two, misses))
 }
 
-/// What a child in flight said.
+/// Returns how a child in flight ended.
 fn finish(
     alloc: Global,
     place: &mut HostPlace<HostRuntime>,
@@ -67,8 +69,9 @@ fn finish(
     flight_text(alloc, place.finish(alloc, ticket))
 }
 
-/// What two children said, of which the second is waited for first; whether a program was missed; how many flew at most,
-/// were started, and failed.
+/// Returns how two children ended, of which the second is awaited first. Then follow whether a
+/// program was missing, the greatest number of children in flight, and how many were started and
+/// failed.
 fn end(
     alloc: Global,
     place: &mut HostPlace<HostRuntime>,
@@ -86,7 +89,7 @@ fn end(
     )?)
 }
 
-/// The same of two that are in flight at one time.
+/// Returns the same for two children that are in flight at a time.
 fn fly(
     alloc: Global,
     place: &mut HostPlace<HostRuntime>,
@@ -98,7 +101,7 @@ fn fly(
     end(alloc, place, one, two, misses)
 }
 
-/// What the shell is told of two children, and what they said.
+/// The shell's scripts for two children, and how the children ended.
 static FLIGHTS: &[(&str, &str, &str)] = &[
     (
         "head -c 200000 /dev/zero; head -c 200000 /dev/zero >&2; exit 3",
@@ -117,7 +120,7 @@ static FLIGHTS: &[(&str, &str, &str)] = &[
     ),
 ];
 
-/// What two children say at a place of their own.
+/// Returns how two children end at a fresh place.
 fn flown(rt: &HostRuntime, root: &PathText, first: &str, second: &str) -> Result<String, Fail> {
     let mut place = HostPlace::new(rt.alloc(), rt);
     let said = fly(rt.alloc(), &mut place, root, first, second);
@@ -125,7 +128,7 @@ fn flown(rt: &HostRuntime, root: &PathText, first: &str, second: &str) -> Result
     said
 }
 
-/// Tries that two children say this.
+/// Tries two children, and compares how they end.
 fn try_flight(rt: &HostRuntime, first: &str, second: &str, wanted: &str) -> Result<(), Fail> {
     let root = PathText::parse(rt.alloc(), "/")?;
     try_said(flown(rt, &root, first, second), wanted)

@@ -1,4 +1,5 @@
-//! Links: those that lead somewhere are followed, but for removals; those that lead nowhere count as absent.
+//! Links. A link that leads somewhere is followed, except by a removal. A link that leads nowhere
+//! counts as absent.
 
 /// Links that lead somewhere.
 pub(crate) const SOMEWHERE: &str = "write outside/f x -> done\n\
@@ -11,7 +12,7 @@ pub(crate) const SOMEWHERE: &str = "write outside/f x -> done\n\
      list -> /outside/f \n\
      counts -> 0 0";
 
-/// A link is removed alone.
+/// A removal removes a link, but not what the link leads to.
 pub(crate) const THE_LINK_ALONE: &str = "write outside/f x -> done\n\
      link folder outside\n\
      list folder -> /folder/f \n\

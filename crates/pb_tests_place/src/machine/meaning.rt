@@ -8,7 +8,8 @@ use pb_place_types::{PathText, Place};
 use std::alloc::Global;
 use std::test::Fail;
 
-/// What stands. `ws/src` leads to `real/src`, `root` to `ws`, `ws/lost` nowhere, and `ws/here` to its own folder.
+/// The links. `ws/src` leads to `real/src`, `root` to `ws`, `ws/lost` nowhere, and `ws/here` to its
+/// own folder.
 const BEFORE: &str = "mkdir -p ws/deep real/src/sub; ln -s ../real/src ws/src; ln -s ws root; \
      ln -s none ws/lost; ln -s . ws/here";
 
@@ -32,7 +33,7 @@ static MEANINGS: &[(&str, &str, &str)] = &[
     ("ws", "here/here/deep/../x", "/ws/here/here/x"),
 ];
 
-/// What a text means from a folder.
+/// Returns what a text means from a folder.
 fn meaning_of<P: Place>(
     alloc: Global,
     place: &P,

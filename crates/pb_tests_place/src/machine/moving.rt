@@ -1,4 +1,4 @@
-//! What moves while a child is at work, as the machine tells it.
+//! What has moved while a child was running, as the machine reports it.
 
 use crate::machine::commands::{Asked, command, shell};
 use crate::machine::folders::{finish, fresh};
@@ -8,12 +8,13 @@ use pb_place_types::{Command, PathText, Place};
 use std::alloc::{AllocError, Global};
 use std::test::Fail;
 
-/// What stands before a child is spawned. `no/target` is the target folder of each command, and `other` has the tag of
-/// one.
+/// What exists before a child is spawned. `no/target` is the target folder of each command, and
+/// `other` has the tag of a target folder.
 const BEFORE: &str = "mkdir -p src/deep no/target other; echo old > src/a; echo old > b; \
      ln -s b to_b; ln -s src to_src; echo '# This is a target folder of pb_tool.' > other/CACHEDIR.TAG";
 
-/// What a child does, the path that is watched, and what has moved then. A name is one of a path in the test's folder.
+/// What a child does, the path that is watched, and what has moved then. Each name is a path
+/// relative to the test's folder.
 static SCENES: &[(&str, &str, &str)] = &[
     ("true", "src/a", "still"),
     ("true", "", "still"),
@@ -72,7 +73,7 @@ fn run_asked<P: Place>(
     ran
 }
 
-/// Says what has moved: its first path in a test's folder.
+/// Returns what has moved: its first path in a test's folder.
 fn moved_text<P: Place>(
     alloc: Global,
     place: &P,
@@ -93,7 +94,7 @@ fn moved_text<P: Place>(
     }
 }
 
-/// Runs a command, watches a path, and says what has moved.
+/// Runs a command, watches a path, and returns what has moved.
 fn watch<P: Place>(
     alloc: Global,
     place: &mut P,
@@ -107,7 +108,7 @@ fn watch<P: Place>(
     Ok(moved_text(alloc, place, root, still)?)
 }
 
-/// Runs a child that does something, watches a path, and says what has moved.
+/// Runs a child that does something, watches a path, and returns what has moved.
 fn watch_asked<P: Place>(
     alloc: Global,
     place: &mut P,
@@ -115,7 +116,7 @@ fn watch_asked<P: Place>(
     does: &str,
     name: &str,
 ) -> Result<String, Fail> {
-    // Later than the clock of a file system can tell from the spawn.
+    // The pause is long enough that the clock of a file system can tell the change from the spawn.
     let told = format!(in alloc; "sleep 0.05; {does}")?;
     let asked: Asked = ("/bin/sh", told.as_str(), "", "no/target/out", &[]);
     let command = command(alloc, root, &asked)?;
@@ -125,7 +126,7 @@ fn watch_asked<P: Place>(
     said
 }
 
-/// What has moved in a scene.
+/// Returns what has moved in a scene.
 fn moved_in_scene<P: Place>(
     alloc: Global,
     place: &mut P,

@@ -37,9 +37,9 @@ fn try_texts(
     Ok(())
 }
 
-/// Children: the program, what the shell is told, the folder in which it starts and its output
-/// folder, of which the last may be missing; and what is reported of each, without the test's
-/// folder.
+/// For each child: the program, the script for the shell, the folder in which the child starts, and
+/// its output folder, which may be missing. Then what is reported about the child, without the
+/// test's folder.
 const CHILDREN: &str = "/bin/sh|exit 3|.|out/a -> ~\
      /bin/sh|kill -9 $$|.|out/a -> the child of a was ended by signal 9;~\
      /bin/sh|kill $$ -> the child of -vV was ended by signal 15;~\
@@ -50,7 +50,7 @@ const CHILDREN: &str = "/bin/sh|exit 3|.|out/a -> ~\
      /bin/sh|exit 0|.|out/a/f -> cannot make the folder /out/a/f: File exists;~\
      /bin/sh|exit 0|.|out/a/f/g -> cannot make the folder /out/a/f/g: Not a directory;";
 
-/// The child that a text requests.
+/// Returns the child that a text requests.
 fn asked_of(text: &str) -> Asked {
     let (program, rest) = text.split_once('|').unwrap_or((text, ""));
     let (told, folders) = rest.split_once('|').unwrap_or((rest, ""));
@@ -58,7 +58,7 @@ fn asked_of(text: &str) -> Asked {
     (program, told, folder, out, &[])
 }
 
-/// The key of a child: the name of its output folder, or `-vV` if it has none.
+/// Returns the key of a child: the name of its output folder, or `-vV` if it has none.
 fn key_of<'a>(asked: &Asked<'a>) -> &'a str {
     if asked.3.is_empty() {
         return "-vV";
@@ -102,7 +102,7 @@ fn children_that_fail(rt: HostRuntime) -> Result<(), Fail> {
     try_children(&rt, &root)
 }
 
-/// What is told to a shell without an output folder, and what is reported of its answer.
+/// The script for a shell without an output folder, and what is reported about its answer.
 const QUERIES: &[(&str, &str)] = &[
     ("exit 0", "/bin/sh -c exit 0 ended with status 0;"),
     (
@@ -119,7 +119,7 @@ const QUERIES: &[(&str, &str)] = &[
     ),
 ];
 
-/// Asks a shell, and tries what is reported of its answer.
+/// Queries a shell, and tries what is reported about its answer.
 fn try_query(rt: &HostRuntime, root: &PathText, told: &str, wanted: &str) -> Result<(), Fail> {
     let alloc = rt.alloc();
     let command = command(alloc, root, &shell(told))?;
@@ -144,8 +144,8 @@ fn answers_without_an_output_folder(rt: HostRuntime) -> Result<(), Fail> {
     Ok(())
 }
 
-/// Children: an output folder in the target folder `t`, what the shell is told, and what is reported of the links that
-/// it leaves there.
+/// For each child: an output folder in the target folder `t`, the script for the shell, and what is
+/// reported about the links that the child leaves there.
 const LINKS: &[(&str, &str, &str)] = &[
     (
         "t/a.run",
@@ -196,7 +196,7 @@ fn links_out_of_the_target_folder(rt: HostRuntime) -> Result<(), Fail> {
     Ok(())
 }
 
-/// Steps of which the last fails, and the report on it.
+/// Steps, the last of which fails, and the report on it.
 const CALLS: &[(&str, &str)] = &[
     ("write f x -> done\nread f -> x", ""),
     ("write f/g x -> Write", "cannot write /f/g: File exists;"),

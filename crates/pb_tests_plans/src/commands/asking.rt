@@ -16,17 +16,17 @@ use std::test::Fail;
 /// What a case has besides its questions.
 #[derive(Drop)]
 pub struct ProjectCase<'a> {
-    /// What its words ask for.
+    /// What the words of the case request.
     pub setup: &'a Setup,
     /// The project.
     pub project: &'a Project,
-    /// What its runs have said.
+    /// What the runs of the case have printed.
     pub done: &'a [Option<Directives>],
     /// Its files.
     pub memory: &'a Memory<Silent>,
 }
 
-/// The words that begin with a mark; `%` is taken off.
+/// Returns the words that begin with a mark; `%` is taken off.
 fn words_with(alloc: Global, words: &str, mark: &str) -> Result<Items<Text>, AllocError> {
     let mut found = Items::new(alloc);
     for word in words.split(' ') {
@@ -38,7 +38,7 @@ fn words_with(alloc: Global, words: &str, mark: &str) -> Result<Items<Text>, All
     Ok(found)
 }
 
-/// A setup with these flags of the compiler and this runner.
+/// Returns a setup with these flags of the compiler and this runner.
 fn setup_with(alloc: Global, flags: Items<Text>, runner: Items<Text>) -> Result<Setup, AllocError> {
     let tool = Text::from_str(alloc, "tool")?;
     let rustc = Text::from_str(alloc, "rustc")?;
@@ -52,19 +52,20 @@ fn setup_with(alloc: Global, flags: Items<Text>, runner: Items<Text>) -> Result<
     })
 }
 
-/// The setup that words ask for: `-FLAG` for the compiler's flags and `%WORD` for the runner.
+/// Returns the setup that words request: `-FLAG` is a flag of the compiler, and `%WORD` is a word
+/// of the runner.
 pub fn setup_of(alloc: Global, words: &str) -> Result<Setup, AllocError> {
     let flags = words_with(alloc, words, "-")?;
     let runner = words_with(alloc, words, "%")?;
     setup_with(alloc, flags, runner)
 }
 
-/// The command of a unit.
+/// Returns the command of a unit.
 fn command_in(alloc: Global, case: &ProjectCase, unit: &Planned) -> Result<Command, AllocError> {
     command(alloc, case.setup, case.project, unit, case.done)
 }
 
-/// What a unit has printed, by its file in `/said`.
+/// Returns what a unit has printed, by its file in `/said`.
 fn output_of(alloc: Global, case: &ProjectCase, unit: &Planned) -> Result<Bytes, Fail> {
     match file_of(alloc, case.memory, "/said", unit)? {
         Some(bytes) => Ok(bytes),
@@ -72,7 +73,7 @@ fn output_of(alloc: Global, case: &ProjectCase, unit: &Planned) -> Result<Bytes,
     }
 }
 
-/// The end of a unit's child with this status and its output.
+/// Returns the end of a unit's child with this status and its output.
 fn end_of(alloc: Global, case: &ProjectCase, unit: &Planned, status: i32) -> Result<Ended, Fail> {
     let stdout = output_of(alloc, case, unit)?;
     let stderr = Bytes::from_slice(alloc, b"")?;
@@ -83,7 +84,7 @@ fn end_of(alloc: Global, case: &ProjectCase, unit: &Planned, status: i32) -> Res
     })
 }
 
-/// Puts what such an end gives, with this dep-info.
+/// Puts what such an end results in, with this dep-info.
 fn put_judged(
     alloc: Global,
     case: &ProjectCase,
@@ -100,7 +101,7 @@ fn put_judged(
     Ok(())
 }
 
-/// Puts what an answer of this status gives. The dep-info is the unit's file in `/info`.
+/// Puts what a reply with this status results in. The dep-info is the unit's file in `/info`.
 fn put_end(
     alloc: Global,
     case: &ProjectCase,
@@ -129,7 +130,8 @@ fn put_part_of(
     Ok(())
 }
 
-/// Puts the answer to a question about a unit: also the file that it makes, its dep-info, and the name of its crate.
+/// Puts the answer to a question about a unit: also the file that it makes, its dep-info, and the
+/// name of its crate.
 pub fn put_asked(
     alloc: Global,
     case: &ProjectCase,

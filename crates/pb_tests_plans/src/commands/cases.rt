@@ -1,6 +1,9 @@
-//! Files, each behind a line `@ PATH`, and after a line `---` questions about units, each with the answer that
-//! the rules give. The first line has a name and words: `+FEATURE`, `-FLAG` for the compiler, `%WORD`
-//! for the runner, and at the end `@PROFILE`. A file `/said/KEY` is what a run has printed, `/info/KEY` the dep-info of a compile.
+//! Cases about units. A case has files, each after a line `@ PATH`, and a line `---`. After this
+//! line come questions about units, each with the answer that the rules require.
+//!
+//! The first line of a case has a name and words: `+FEATURE`, `-FLAG` for the compiler, `%WORD` for
+//! the runner, and at the end `@PROFILE`. A file `/said/KEY` contains what a run has printed. A
+//! file `/info/KEY` contains the dep-info of a compile.
 
 /// The cases.
 pub const CASES: &str = r#"=== [commands.compile] a library

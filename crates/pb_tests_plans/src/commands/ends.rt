@@ -13,7 +13,7 @@ use pb_unit::Planned;
 use std::alloc::{AllocError, Global};
 use std::test::Fail;
 
-/// So many bytes behind a first part.
+/// Returns some bytes, followed by this number of equal bytes.
 fn of_bytes(alloc: Global, start: &[u8], byte: u8, count: usize) -> Result<Bytes, AllocError> {
     let mut made = Vec::from_slice(alloc, start)?;
     for _ in 0..count {
@@ -22,7 +22,7 @@ fn of_bytes(alloc: Global, start: &[u8], byte: u8, count: usize) -> Result<Bytes
     Ok(Bytes::new(made))
 }
 
-/// An end with streams of these lengths.
+/// Returns an end with streams of these lengths.
 fn end_with(alloc: Global, status: i32, stdout: usize, stderr: usize) -> Result<Ended, AllocError> {
     let stdout = of_bytes(alloc, b"", b'x', stdout)?;
     let stderr = of_bytes(alloc, b"", b'x', stderr)?;
@@ -33,7 +33,7 @@ fn end_with(alloc: Global, status: i32, stdout: usize, stderr: usize) -> Result<
     })
 }
 
-/// Whether an end of these lengths is told to be too long.
+/// Returns whether an end with streams of these lengths is reported as too long.
 fn is_too_long(alloc: Global, stdout: usize, stderr: usize) -> Result<bool, AllocError> {
     let end = end_with(alloc, 1, stdout, stderr)?;
     let fault = ended_fault(&end);
@@ -43,7 +43,7 @@ fn is_too_long(alloc: Global, stdout: usize, stderr: usize) -> Result<bool, Allo
     Ok(is_too_long)
 }
 
-/// Whether an end with two streams of this length is good.
+/// Returns whether an end with two streams of this length is good.
 fn is_good(alloc: Global, length: usize) -> Result<bool, AllocError> {
     let end = end_with(alloc, 0, length, length)?;
     let fault = ended_fault(&end);
@@ -53,7 +53,7 @@ fn is_good(alloc: Global, length: usize) -> Result<bool, AllocError> {
     Ok(is_good)
 }
 
-/// Whether an end of this status is told by it.
+/// Returns whether the fault of an end with this status contains the status.
 fn has_status(alloc: Global, status: i32) -> Result<bool, AllocError> {
     let end = end_with(alloc, status, 0, 0)?;
     let fault = ended_fault(&end);
@@ -79,7 +79,7 @@ fn long_streams(rt: HostRuntime) -> Result<(), Fail> {
 /// A library.
 const LIBRARY: &str = "@ /w/Cargo.toml\npackage.name = \"a\"\n@ /w/src/lib.rs\n";
 
-/// The project of one library that is put at a place, or none.
+/// Returns the project of one library that is put at a place, or none.
 fn library_at(alloc: Global, memory: &mut Memory<Silent>) -> Result<Option<Project>, Fail> {
     put_files(alloc, memory, LIBRARY)?;
     let options = options_of(alloc, "")?;
@@ -88,13 +88,13 @@ fn library_at(alloc: Global, memory: &mut Memory<Silent>) -> Result<Option<Proje
     project
 }
 
-/// The query of a compiler in that project.
+/// Returns the query of a compiler in that project.
 fn query_of(alloc: Global, project: &Project) -> Result<Command, AllocError> {
     let rustc = Text::from_str(alloc, "my rustc")?;
     query(alloc, &rustc, &project.workspace)
 }
 
-/// Whether a command asks for the version and nothing else.
+/// Returns whether a command requests the version and nothing else.
 fn is_query(alloc: Global, command: &Command) -> bool {
     let mut shown = Shown::new(alloc);
     put_texts(&mut shown, command.words.as_slice());
@@ -105,7 +105,7 @@ fn is_query(alloc: Global, command: &Command) -> bool {
         && command.toolchain.as_slice().is_empty()
 }
 
-/// Whether the query does.
+/// Returns whether the query requests the version and nothing else.
 fn asks_version(alloc: Global, project: &Project) -> Result<bool, AllocError> {
     let command = query_of(alloc, project)?;
     let is_query = is_query(alloc, &command);
@@ -113,7 +113,7 @@ fn asks_version(alloc: Global, project: &Project) -> Result<bool, AllocError> {
     Ok(is_query)
 }
 
-/// What dep-info gives of a command for a unit, which ended well.
+/// Returns what dep-info results in, for the command of a unit whose child ended well.
 fn informed_by(
     alloc: Global,
     project: &Project,
@@ -130,7 +130,8 @@ fn informed_by(
     shown.whole()
 }
 
-/// What dep-info of a rule with a word of so many bytes gives for a unit.
+/// Returns what dep-info results in for a unit, if the dep-info has a rule with a word of this
+/// number of bytes.
 fn informed_of(
     alloc: Global,
     project: &Project,
@@ -144,7 +145,7 @@ fn informed_of(
     told
 }
 
-/// The same for the first unit of a project.
+/// Returns the same for the first unit of a project.
 fn first_unit_info(alloc: Global, project: &Project, count: usize) -> Result<String, AllocError> {
     match project.plan.units().first() {
         Some(unit) => informed_of(alloc, project, unit, count),
@@ -152,19 +153,20 @@ fn first_unit_info(alloc: Global, project: &Project, count: usize) -> Result<Str
     }
 }
 
-/// Whether the longest dep-info is read.
+/// Returns whether the longest dep-info is read.
 fn reads_the_longest(alloc: Global, project: &Project) -> Result<bool, AllocError> {
     let told = first_unit_info(alloc, project, 4_194_300)?;
     Ok(told.as_str().len() == 4_194_303)
 }
 
-/// Whether dep-info that is longer is refused.
+/// Returns whether dep-info that is longer is refused.
 fn refuses_longer(alloc: Global, project: &Project) -> Result<bool, AllocError> {
     let told = first_unit_info(alloc, project, 4_194_301)?;
     Ok(told.as_str() == "NoDepInfo")
 }
 
-/// What is wrong in a project of one library: the query, the longest dep-info, or one that is longer.
+/// Returns what is wrong in a project of one library: the query, the longest dep-info, or one that
+/// is longer.
 fn wrong_in(alloc: Global, project: &Project) -> Result<&'static str, AllocError> {
     if !asks_version(alloc, project)? {
         return Ok("query");
@@ -179,7 +181,7 @@ fn wrong_in(alloc: Global, project: &Project) -> Result<&'static str, AllocError
     })
 }
 
-/// The same of one that is put at a place.
+/// Returns the same for a project whose files are put at a place.
 fn wrong_at(alloc: Global, memory: &mut Memory<Silent>) -> Result<&'static str, Fail> {
     match library_at(alloc, memory)? {
         Some(project) => {
@@ -191,7 +193,7 @@ fn wrong_at(alloc: Global, memory: &mut Memory<Silent>) -> Result<&'static str, 
     }
 }
 
-/// The same at a place of its own.
+/// Returns the same at a fresh place.
 fn wrong(alloc: Global) -> Result<&'static str, Fail> {
     let mut memory = Memory::new(alloc, Silent);
     let wrong = wrong_at(alloc, &mut memory);

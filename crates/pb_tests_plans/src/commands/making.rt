@@ -13,7 +13,7 @@ use pb_workspace_types::{Options, SelectedWorkspace, SettledWorkspace};
 use std::alloc::{AllocError, Global};
 use std::test::Fail;
 
-/// The bytes of the file of a unit in a folder, or none where it is not there.
+/// Returns the bytes of the file of a unit in a folder, or none if it does not exist.
 pub fn file_of(
     alloc: Global,
     memory: &Memory<Silent>,
@@ -25,12 +25,12 @@ pub fn file_of(
     Ok(memory.file(alloc, &path)?)
 }
 
-/// The profile that words ask for, at their end.
+/// Returns the profile that words request, at their end.
 fn profile_in(words: &str) -> &str {
     words.split('@').nth(1).unwrap_or("dev")
 }
 
-/// The features that words ask for, each behind a `+`.
+/// Returns the features that words request, each after a `+`.
 fn features_in(alloc: Global, words: &str) -> Result<Items<Text>, AllocError> {
     let mut features = Items::new(alloc);
     for word in words.split(' ') {
@@ -41,7 +41,8 @@ fn features_in(alloc: Global, words: &str) -> Result<Items<Text>, AllocError> {
     Ok(features)
 }
 
-/// A build of all members, with what words ask for: `+FEATURE`, and `@PROFILE` at the end.
+/// Returns the options of a build of all members, with what words request: `+FEATURE`, and
+/// `@PROFILE` at the end.
 pub fn options_of(alloc: Global, words: &str) -> Result<Options, Fail> {
     let features = features_in(alloc, words)?;
     let profile = Text::from_str(alloc, profile_in(words))?;
@@ -54,7 +55,7 @@ pub fn options_of(alloc: Global, words: &str) -> Result<Options, Fail> {
     })
 }
 
-/// What is on of what is selected, and the plan of it, or none where these are refused.
+/// Returns what is on in a selection, and its plan, or none if the selection is refused.
 fn plan_of(
     alloc: Global,
     chosen: &SelectedWorkspace<'_>,
@@ -70,7 +71,7 @@ fn plan_of(
     }
 }
 
-/// The same of what options select of a workspace.
+/// Returns the same for what options select of a workspace.
 fn parts_of(
     alloc: Global,
     workspace: &SettledWorkspace,
@@ -82,7 +83,7 @@ fn parts_of(
     parts
 }
 
-/// The project of a workspace, or none where what is asked for is refused.
+/// Returns the project of a workspace, or none if the request is refused.
 fn planned_project(
     alloc: Global,
     workspace: SettledWorkspace,
@@ -108,7 +109,7 @@ fn planned_project(
     }
 }
 
-/// The project at `/w`, whose target folder is `/w/target`, or none where it is refused.
+/// Returns the project at `/w`, whose target folder is `/w/target`, or none if it is refused.
 pub fn project_of(
     alloc: Global,
     memory: &mut Memory<Silent>,
@@ -120,7 +121,8 @@ pub fn project_of(
     }
 }
 
-/// What the run of a unit has said, by the file of its key in `/said`; none for a compile.
+/// Returns what the run of a unit has printed: the file with the unit's key in `/said`. Returns
+/// none for a compile.
 fn said_of(
     alloc: Global,
     memory: &Memory<Silent>,
@@ -135,7 +137,7 @@ fn said_of(
     }
 }
 
-/// What all runs have said, by place.
+/// Returns what all runs have printed, by the indices of the units.
 pub fn done_of(
     alloc: Global,
     memory: &Memory<Silent>,

@@ -8,7 +8,7 @@ use pb_place_types::{Command, PathText};
 use pb_record::InputName;
 use pb_tests_files::Shown;
 
-/// Puts the words behind the one that says what a panic does.
+/// Puts the words after the word that says what a panic does.
 fn put_tail(out: &mut Shown, words: &[Text]) {
     let mut before = "";
     let mut behind = false;
@@ -41,7 +41,7 @@ fn put_pairs(out: &mut Shown, pairs: &[(Text, Text)]) {
     }
 }
 
-/// Puts the value of a name, or `-` where it is not set.
+/// Puts the value of a name, or `-` if it is not set.
 fn put_pair(out: &mut Shown, pairs: &[(Text, Text)], wanted: &str) {
     for (name, value) in pairs {
         if name.as_str() == wanted {
@@ -59,7 +59,8 @@ pub fn put_path(out: &mut Shown, path: &Option<PathText>) {
     }
 }
 
-/// Puts the program of a command, its folders, and what it reads behind a bar.
+/// Puts the program of a command and its folders, and after a bar the folders that the child may
+/// read.
 pub fn put_rest(out: &mut Shown, command: &Command) {
     out.put(&[command.program.as_str(), " ", command.folder.as_str(), " "]);
     put_path(out, &command.out);
@@ -90,8 +91,8 @@ fn put_count(out: &mut Shown, directives: &Option<Directives>) {
     }
 }
 
-/// Puts what a good answer gives: how many directives there are, and the inputs, each a path or the name of a variable
-/// behind a `$`.
+/// Puts what a good answer contains: how many directives there are, and the inputs. An input is a
+/// path, or the name of a variable after a `$`.
 fn put_good(out: &mut Shown, answer: &CheckedReply) {
     put_count(out, &answer.directives);
     for input in answer.inputs.as_slice() {
@@ -102,7 +103,7 @@ fn put_good(out: &mut Shown, answer: &CheckedReply) {
     }
 }
 
-/// Puts what an answer gives, or its fault by its name.
+/// Puts what an answer contains, or the name of its fault.
 pub fn put_answer(out: &mut Shown, answer: &Result<CheckedReply, UnitFault>) {
     match answer {
         Ok(answer) => put_good(out, answer),

@@ -1,4 +1,4 @@
-//! Commands, by a table of files with what is asked and answered.
+//! Commands, by a table of files with questions and answers.
 
 use crate::asking::assert_cases;
 use crate::commands::asking::{ProjectCase, put_asked, setup_of};
@@ -11,7 +11,7 @@ use pb_unit::Planned;
 use std::alloc::Global;
 use std::test::Fail;
 
-/// The unit of a key.
+/// Returns the unit of a key.
 fn unit_of<'a>(units: &'a [Planned], key: &str) -> Option<&'a Planned> {
     units.iter().find(|unit| unit.key.as_str() == key)
 }
@@ -49,7 +49,7 @@ fn put_answers_of(
     put
 }
 
-/// Puts the files of a case in a place, and gives its project, or none where it is refused.
+/// Puts the files of a case in a place, and returns its project, or none if the project is refused.
 fn project_in(
     alloc: Global,
     memory: &mut Memory<Silent>,

@@ -1,6 +1,6 @@
-//! Workspaces: files, each behind a line `@ PATH`, and after a line `---` what the loader answers, written by hand
-//! from the rules. Behind a colon in the first line stand words of selections: a name for `-p`, `*` for all
-//! members, `-` where nothing is named.
+//! Workspaces, written by hand from the rules. A case has files, each after a line `@ PATH`, and a
+//! line `---`. After this line comes what the loader answers. After a colon in the first line come
+//! words for selections: a name for `-p`, `*` for all members, `-` if nothing is named.
 
 pub mod checked;
 pub mod found;

@@ -23,7 +23,7 @@ fn put_selected(out: &mut Shown, answer: &Result<SelectedWorkspace<'_>, LoadFaul
     }
 }
 
-/// Puts the selection that a word stands for.
+/// Puts the selection that a word requests.
 fn put_selection(
     alloc: Global,
     workspace: &SettledWorkspace,
@@ -38,7 +38,7 @@ fn put_selection(
     Ok(())
 }
 
-/// Puts a line for each word that stands for a selection: `WORD =` and what is selected.
+/// Puts a line for each word that requests a selection: `WORD =` and what is selected.
 fn put_selections(
     alloc: Global,
     workspace: &SettledWorkspace,
@@ -54,7 +54,7 @@ fn put_selections(
     Ok(())
 }
 
-/// Puts an answer, with a line for each word that stands for a selection in it.
+/// Puts an answer, with a line for each selection that the words request.
 fn put_loaded(
     alloc: Global,
     answer: &Result<SettledWorkspace, LoadFault>,
@@ -117,7 +117,7 @@ fn put_many(alloc: Global, memory: &mut Memory<Silent>, count: usize) -> Result<
     Ok(())
 }
 
-/// How many packages an answer has; none where these are too many.
+/// Returns how many packages an answer has, or 0 if there are too many.
 fn count_in(answer: &Result<SettledWorkspace, LoadFault>) -> usize {
     match answer {
         Ok(found) => found.get().packages.len(),
@@ -126,8 +126,8 @@ fn count_in(answer: &Result<SettledWorkspace, LoadFault>) -> usize {
     }
 }
 
-/// How many packages are loaded of a root and so many members that are put at a place, how many calls of the place
-/// failed, and how many children were started.
+/// Puts a root and this number of members at a place, and loads the workspace. Returns how many
+/// packages were loaded, how many calls of the place failed, and how many children were started.
 fn count_loaded_at(
     alloc: Global,
     memory: &mut Memory<Silent>,
@@ -140,7 +140,7 @@ fn count_loaded_at(
     Ok((count, memory.failures(), memory.starts()))
 }
 
-/// The same at a place of its own.
+/// Returns the same at a fresh place.
 fn count_loaded(alloc: Global, count: usize) -> Result<(usize, u64, u64), Fail> {
     let mut memory = Memory::new(alloc, Silent);
     let counted = count_loaded_at(alloc, &mut memory, count);
@@ -152,7 +152,7 @@ fn count_loaded(alloc: Global, count: usize) -> Result<(usize, u64, u64), Fail> 
 const TWO_MANIFESTS: &str =
     "@ /w/Cargo.toml\npackage.name = \"a\"\n@ /w/other.toml\npackage.name = \"a\"\n";
 
-/// Whether the loader finds no manifest at a path.
+/// Returns whether the loader finds no manifest at a path.
 fn finds_none(
     alloc: Global,
     memory: &mut Memory<Silent>,
@@ -167,7 +167,8 @@ fn finds_none(
     Ok(is_none)
 }
 
-/// Manifests and target folders, and whether there is no manifest there, of the package of `TWO_MANIFESTS`.
+/// Paths of manifests with target folders, and whether the loader finds no manifest there in the
+/// files of `TWO_MANIFESTS`.
 static ROOTS: &[(&str, &str, bool)] = &[
     ("/w/Cargo.toml", "/w/target", false),
     ("/w/other.toml", "/w/target", true),
@@ -176,7 +177,7 @@ static ROOTS: &[(&str, &str, bool)] = &[
     ("/v/Cargo.toml", "/w/target", true),
 ];
 
-/// How many of them are so, up to the first that is not.
+/// Returns how many of these cases are right, up to the first that is wrong.
 fn count_roots(alloc: Global, memory: &mut Memory<Silent>) -> Result<usize, PathFault> {
     put_files(alloc, memory, TWO_MANIFESTS)?;
     for (count, case) in ROOTS.iter().enumerate() {
@@ -188,7 +189,7 @@ fn count_roots(alloc: Global, memory: &mut Memory<Silent>) -> Result<usize, Path
     Ok(ROOTS.len())
 }
 
-/// The same at a place of its own.
+/// Returns the same at a fresh place.
 fn count_own_roots(alloc: Global) -> Result<usize, PathFault> {
     let mut memory = Memory::new(alloc, Silent);
     let count = count_roots(alloc, &mut memory);

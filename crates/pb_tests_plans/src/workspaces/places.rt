@@ -1,6 +1,6 @@
-//! Each key of a profile at each place, with the places before it and without: manifests and questions as in
-//! `profiles`.
-//! Neighbouring places set each key to values that differ.
+//! Each key of a profile at each place, once with the places before it and once without. Manifests
+//! and questions have the form of `profiles`. Neighbouring places set each key to values that
+//! differ.
 
 /// The cases.
 pub const PLACES: &str = r#"=== [settings.places] each key at each place

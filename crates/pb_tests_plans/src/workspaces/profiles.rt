@@ -1,6 +1,7 @@
-//! Profiles: manifests, and below `---` questions with the answers that the rules give: the settings of a package of
-//! this name under a profile, a member or not, with the role of the target or of the host. An answer is
-//! opt-level, debug, debug-assertions, overflow-checks, lto, panic, codegen-units, rpath and strip.
+//! Profiles. A case has a manifest, and after a line `---` questions with the answers that the
+//! rules require. A question is about the settings of a package of this name under a profile, a
+//! member or not, in the role of the target or of the host. An answer lists opt-level, debug,
+//! debug-assertions, overflow-checks, lto, panic, codegen-units, rpath and strip.
 
 /// The cases.
 pub const PROFILES: &str =

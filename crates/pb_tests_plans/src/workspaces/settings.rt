@@ -16,7 +16,7 @@ use std::alloc::Global;
 use std::mem;
 use std::test::Fail;
 
-/// No description for people.
+/// Returns an empty description for people.
 fn nothing_to_people(alloc: Global) -> About {
     About {
         authors: nothing(alloc),
@@ -30,18 +30,18 @@ fn nothing_to_people(alloc: Global) -> About {
     }
 }
 
-/// The empty text.
+/// Returns the empty text.
 fn nothing(alloc: Global) -> Text {
     Text::new(String::new(alloc))
 }
 
-/// The version that a text says.
+/// Returns the version in a text.
 fn version_of(alloc: Global, text: &str) -> Result<Version, ManifestFault> {
     let text = Text::from_str(alloc, text)?;
     Version::read(alloc, text)
 }
 
-/// A package that has a name and nothing more.
+/// Returns a package that has a name and nothing more.
 fn package_named(alloc: Global, name: &str, is_member: bool) -> Result<Package, Fail> {
     let name = Text::from_str(alloc, name)?;
     let version = version_of(alloc, "0.1.0")?;
@@ -65,7 +65,7 @@ fn package_named(alloc: Global, name: &str, is_member: bool) -> Result<Package, 
     })
 }
 
-/// The profiles that a manifest says.
+/// Returns the profiles in a manifest.
 fn profiles_of(alloc: Global, manifest: &str) -> Result<Items<Profile>, ManifestFault> {
     let mut read = read_manifest(alloc, manifest.as_bytes())?;
     let profiles = mem::replace(&mut read.profiles, Items::new(alloc));
@@ -73,7 +73,7 @@ fn profiles_of(alloc: Global, manifest: &str) -> Result<Items<Profile>, Manifest
     Ok(profiles)
 }
 
-/// A workspace whose root manifest says these profiles.
+/// Returns a workspace whose root manifest has these profiles.
 fn workspace_of(alloc: Global, manifest: &str) -> Result<Workspace, Fail> {
     let root = PathText::parse(alloc, "/w")?;
     let target = PathText::parse(alloc, "/w/target")?;
@@ -111,7 +111,7 @@ fn put_settings(out: &mut Shown, settings: &Settings) {
     }
 }
 
-/// The side of a word.
+/// Returns the side of a word.
 fn side_of(word: &str) -> Side {
     if word == "host" {
         Side::Host

@@ -68,7 +68,7 @@ fn edition_text(edition: Edition) -> &'static str {
     }
 }
 
-/// Puts a word where it holds.
+/// Puts a word if it is true.
 fn put_word(out: &mut Shown, word: &str, holds: bool) {
     if holds {
         out.put(&[word]);

@@ -1,10 +1,10 @@
-//! A plain account of a flight, which goes through all units each time.
+//! A plain version of a flight, which goes through all units each time.
 
 use pb_data::{Bytes, Items};
 use std::alloc::{AllocError, Global};
 use std::test::Fail;
 
-/// Where a unit stands.
+/// The state of a unit.
 #[derive(Clone, Copy, PartialEq, Eq)]
 pub enum Standing {
     Untouched,
@@ -13,7 +13,7 @@ pub enum Standing {
     Bad,
 }
 
-/// A unit: what it needs, where it stands, and what it said.
+/// A unit: what it needs, its state, and its lines.
 #[derive(Drop)]
 pub struct Unit {
     pub needs: Items<usize>,
@@ -21,7 +21,7 @@ pub struct Unit {
     pub lines: Bytes,
 }
 
-/// Where the unit at a place stands.
+/// Returns the state of the unit at an index.
 pub fn standing_at(units: &[Unit], place: usize) -> Standing {
     match units.get(place) {
         Some(unit) => unit.standing,
@@ -29,7 +29,7 @@ pub fn standing_at(units: &[Unit], place: usize) -> Standing {
     }
 }
 
-/// Whether a unit has not begun and all that it needs is good.
+/// Returns whether a unit has not begun and all that it needs is good.
 fn is_open(units: &[Unit], unit: &Unit) -> bool {
     unit.standing == Standing::Untouched
         && unit
@@ -39,7 +39,7 @@ fn is_open(units: &[Unit], unit: &Unit) -> bool {
             .all(|need| standing_at(units, *need) == Standing::Good)
 }
 
-/// The units that may begin.
+/// Returns the units that may begin.
 pub fn ready(alloc: Global, units: &[Unit]) -> Result<Vec<usize>, Fail> {
     let mut found = Vec::new(alloc);
     for (place, unit) in units.iter().enumerate() {
@@ -53,7 +53,7 @@ pub fn ready(alloc: Global, units: &[Unit]) -> Result<Vec<usize>, Fail> {
     Ok(found)
 }
 
-/// The units in flight, in plan order.
+/// Returns the units in flight, in plan order.
 pub fn units_in_flight(alloc: Global, units: &[Unit]) -> Result<Vec<usize>, Fail> {
     let mut found = Vec::new(alloc);
     for (place, unit) in units.iter().enumerate() {
@@ -64,7 +64,7 @@ pub fn units_in_flight(alloc: Global, units: &[Unit]) -> Result<Vec<usize>, Fail
     Ok(found)
 }
 
-/// The lines that are due.
+/// Returns the lines that are due.
 pub fn due(alloc: Global, units: &[Unit]) -> Result<Vec<u8>, AllocError> {
     let mut lines = Vec::new(alloc);
     for unit in units {
@@ -79,7 +79,7 @@ pub fn due(alloc: Global, units: &[Unit]) -> Result<Vec<u8>, AllocError> {
     Ok(lines)
 }
 
-/// The place of the bad unit that is told.
+/// Returns the index of the bad unit that is reported.
 pub fn first_bad(units: &[Unit]) -> Option<usize> {
     let mut told = None;
     for (place, unit) in units.iter().enumerate() {
@@ -93,7 +93,7 @@ pub fn first_bad(units: &[Unit]) -> Option<usize> {
     told
 }
 
-/// Whether all units are good, or the first that is not is bad.
+/// Returns whether all units are good, or the first unit that is not good is bad.
 pub fn is_finished(units: &[Unit]) -> bool {
     units.iter().all(|unit| unit.standing == Standing::Good) || first_bad(units).is_some()
 }

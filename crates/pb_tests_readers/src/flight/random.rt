@@ -1,4 +1,4 @@
-//! Random lawful steps on random plans, beside the plain account.
+//! Random lawful steps on random plans, compared with the plain version.
 
 use crate::dice::Dice;
 use crate::flight::plain::{Standing, Unit, due, first_bad, is_finished, ready, units_in_flight};
@@ -8,7 +8,7 @@ use pb_run_flight::{Answer, Flight};
 use std::alloc::{AllocError, Global};
 use std::test::Fail;
 
-/// Some of the units before one, some of them twice.
+/// Returns up to three units before a unit, at random. The same unit may occur twice.
 fn some_needs(alloc: Global, dice: &mut Dice, unit: usize) -> Result<Items<usize>, AllocError> {
     let mut needs = Items::new(alloc);
     for _ in 0..dice.below(4) {
@@ -19,7 +19,7 @@ fn some_needs(alloc: Global, dice: &mut Dice, unit: usize) -> Result<Items<usize
     Ok(needs)
 }
 
-/// A random plan.
+/// Returns a random plan.
 fn some_units(alloc: Global, dice: &mut Dice) -> Result<Vec<Unit>, Fail> {
     let mut units = Vec::new(alloc);
     let count = dice.below(12);
@@ -33,7 +33,7 @@ fn some_units(alloc: Global, dice: &mut Dice) -> Result<Vec<Unit>, Fail> {
     Ok(units)
 }
 
-/// A flight of these units.
+/// Returns a flight of these units.
 fn flight_of(alloc: Global, units: &[Unit]) -> Result<Flight<u8>, Fail> {
     let mut needs = Items::new(alloc);
     for unit in units {
@@ -60,7 +60,7 @@ fn begin_one(
     Ok(begin(alloc, flight, one)?)
 }
 
-/// Answers a unit with this line. Whether it was in flight.
+/// Answers a unit with this line. Returns whether it was in flight.
 fn answer(
     alloc: Global,
     flight: &mut Flight<u8>,
@@ -77,7 +77,7 @@ fn answer(
     Ok(true)
 }
 
-/// Notes the same in the plain account.
+/// Notes the same in the plain version.
 fn note(
     alloc: Global,
     units: &mut Vec<Unit>,
@@ -114,7 +114,7 @@ fn answer_one(
     Ok(answer(alloc, flight, one, is_bad, line.as_str())?)
 }
 
-/// Whether the flight says what the plain account says.
+/// Returns whether the flight agrees with the plain version.
 fn agrees(alloc: Global, flight: &Flight<u8>, units: &[Unit]) -> Result<bool, Fail> {
     let found = flight.ready(alloc)?;
     Ok(
@@ -124,7 +124,7 @@ fn agrees(alloc: Global, flight: &Flight<u8>, units: &[Unit]) -> Result<bool, Fa
     )
 }
 
-/// Hands out, and whether all that was handed out is what is due.
+/// Hands out lines. Returns whether all lines that were ever handed out are the lines that are due.
 fn emits_due(
     alloc: Global,
     flight: &mut Flight<u8>,
@@ -136,7 +136,7 @@ fn emits_due(
     Ok(all.as_slice() == due(alloc, units)?.as_slice())
 }
 
-/// One random step. Whether it went as it should.
+/// Takes one random step. Returns whether it went as it should.
 fn step(
     alloc: Global,
     dice: &mut Dice,
@@ -154,7 +154,7 @@ fn step(
     emits_due(alloc, flight, units.as_slice(), all)
 }
 
-/// Random steps. Whether the two agree after each.
+/// Takes random steps. Returns whether the two versions agree after each step.
 fn fly(
     alloc: Global,
     dice: &mut Dice,
@@ -171,7 +171,7 @@ fn fly(
     emits_due(alloc, flight, units.as_slice(), &mut all)
 }
 
-/// Random steps on a random plan.
+/// Takes random steps on a random plan. Returns whether all went as they should.
 fn round(alloc: Global, dice: &mut Dice) -> Result<bool, Fail> {
     let mut units = some_units(alloc, dice)?;
     let mut flight = flight_of(alloc, units.as_slice())?;

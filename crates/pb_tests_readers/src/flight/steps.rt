@@ -13,13 +13,14 @@ enum Act {
     Bad(usize),
 }
 
-/// The plan of a package r with a library and a script, which needs a package x as a dependency and as a build
-/// dependency; x has a library and a script. In plan order: the script of x for the host and for the target, its runs,
-/// its libraries, the script of r, its run, its library. Each entry is what the unit needs.
+/// The plan of a package r with a library and a script, which needs a package x as a dependency and
+/// as a build dependency; x has a library and a script. In plan order: the script of x for the host
+/// and for the target, its runs, its libraries, the script of r, its run, its library. Each entry
+/// is what the unit needs.
 static PLAN: &[&[usize]] = &[&[], &[], &[0], &[1], &[2], &[3], &[4], &[6], &[5, 7]];
 
-/// Steps, with what may begin after each and what is handed out then. The script of r may begin only once the library
-/// of x for the host is good.
+/// Steps, with what may begin after each and what is handed out then. The script of r may begin
+/// only once the library of x for the host is good.
 static STEPS: &[(Act, &str, &str)] = &[
     (Act::Begin(0), "1 ", ""),
     (Act::Begin(1), "", ""),
@@ -41,8 +42,8 @@ static STEPS: &[(Act, &str, &str)] = &[
     (Act::Good(8), "", "8 "),
 ];
 
-/// Steps in which two units are bad, the later one in plan order first in time: after it only earlier ones may begin,
-/// and no line of it is handed out.
+/// Steps in which two units are bad. The one that is later in plan order answers first. After its
+/// answer only units before it may begin, and its lines are not handed out.
 static BAD_STEPS: &[(Act, &str, &str)] = &[
     (Act::Begin(1), "0 ", ""),
     (Act::Good(1), "0 3 ", ""),
@@ -54,7 +55,7 @@ static BAD_STEPS: &[(Act, &str, &str)] = &[
     (Act::Bad(2), "", "2 "),
 ];
 
-/// What units need.
+/// Returns what units need.
 fn needs_of(alloc: Global, plan: &[&[usize]]) -> Result<Items<Items<usize>>, AllocError> {
     let mut needs = Items::new(alloc);
     for unit in plan {
@@ -63,7 +64,7 @@ fn needs_of(alloc: Global, plan: &[&[usize]]) -> Result<Items<Items<usize>>, All
     Ok(needs)
 }
 
-/// The answer of a unit whose line is its number.
+/// Returns the answer of a unit whose line is its number.
 fn answer_of(alloc: Global, unit: usize, is_bad: bool) -> Result<Answer<u8>, AllocError> {
     let line = format!(in alloc; "{unit} ")?;
     Ok(Answer {
@@ -72,7 +73,7 @@ fn answer_of(alloc: Global, unit: usize, is_bad: bool) -> Result<Answer<u8>, All
     })
 }
 
-/// Answers a unit, if it flies.
+/// Answers a unit, if it is in flight.
 fn answer(
     alloc: Global,
     flight: &mut Flight<u8>,
@@ -105,7 +106,7 @@ fn take_step(alloc: Global, flight: &mut Flight<u8>, act: Act) -> Result<bool, A
     }
 }
 
-/// Whether these are ready, with a space after each.
+/// Returns whether these are ready, with a space after each.
 fn has_ready(alloc: Global, flight: &Flight<u8>, wanted: &str) -> Result<bool, AllocError> {
     let ready = flight.ready(alloc)?;
     let mut shown = Shown::new(alloc);
@@ -116,13 +117,13 @@ fn has_ready(alloc: Global, flight: &Flight<u8>, wanted: &str) -> Result<bool, A
     Ok(shown.says(wanted))
 }
 
-/// Whether these lines are handed out.
+/// Returns whether these lines are handed out.
 fn hands_out(alloc: Global, flight: &mut Flight<u8>, wanted: &str) -> Result<bool, AllocError> {
     let bytes = flight.emit(alloc)?;
     Ok(bytes.as_slice() == wanted.as_bytes())
 }
 
-/// How many steps went as they should, up to the first that did not.
+/// Returns how many steps went as they should, up to the first that did not.
 fn follow(
     alloc: Global,
     flight: &mut Flight<u8>,
@@ -138,7 +139,8 @@ fn follow(
     Ok(steps.len())
 }
 
-/// How many steps on the plan went as they should; none where it does not end with this bad unit.
+/// Returns how many steps on the plan went as they should. Returns none if the plan does not end
+/// with this bad unit.
 fn flown(
     alloc: Global,
     steps: &[(Act, &str, &str)],

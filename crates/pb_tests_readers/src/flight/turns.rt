@@ -2,13 +2,13 @@
 
 use pb_run_flight::{First, Jobs, Last, Pick, Step, Turn, laws};
 
-/// Whether the first and the last of three are picked.
+/// Returns whether the first and the last of three are picked.
 fn pick_ends() -> bool {
     let ready: &[usize] = &[4, 6, 9];
     First {}.pick(ready) == 0 && Last {}.pick(ready) == 2
 }
 
-/// Whether a step is this one.
+/// Returns whether a step is this one.
 fn is_step(step: Step, begins: bool, wanted: usize) -> bool {
     match step {
         Step::Begin(place) => begins && place == wanted,
@@ -16,7 +16,7 @@ fn is_step(step: Step, begins: bool, wanted: usize) -> bool {
     }
 }
 
-/// Whether two jobs, the last first, make the turns that they are to make.
+/// Returns whether a turn makes the expected steps with two jobs and a pick of the last unit.
 fn two_jobs() -> bool {
     let ready: &[usize] = &[4, 6];
     let mut two = Jobs {
@@ -29,7 +29,7 @@ fn two_jobs() -> bool {
         && is_step(two.turn(&[], &[1]), false, 0)
 }
 
-/// Whether no job is one.
+/// Returns whether no job is one.
 fn no_job() -> bool {
     let ready: &[usize] = &[4, 6];
     let mut none = Jobs {
@@ -39,7 +39,7 @@ fn no_job() -> bool {
     is_step(none.turn(ready, &[]), true, 0) && is_step(none.turn(ready, &[1]), false, 0)
 }
 
-/// Each law, called once.
+/// Calls each law once.
 fn laws_hold() {
     laws::ready_is_exact::<u8>();
     laws::reached_is_good::<u8>();

@@ -1,4 +1,5 @@
-//! Manifests and what each says, from The Cargo Book and this project's own choices, by subject.
+//! Manifests and what each manifest means, by The Cargo Book and this project's own choices, sorted
+//! by subject.
 
 pub mod dependencies;
 pub mod features;

@@ -1,4 +1,4 @@
-//! A manifest in one line: what is written, and defaults only where a rule gives one.
+//! A manifest in one line: what is written, and defaults only if a rule defines one.
 
 use pb_data::{Items, Text};
 use pb_manifest_types::{
@@ -37,7 +37,7 @@ pub fn put_manifest(out: &mut Shown, manifest: &Manifest) {
     }
 }
 
-/// Puts a name and a value, where there is one.
+/// Puts a name and a value, if there is one.
 fn put_value<T: Debug>(out: &mut Shown, name: &str, value: &Option<T>) {
     if let Some(value) = value {
         out.put(&[" ", name, "="]);

@@ -4,7 +4,7 @@ use pb_message::diagnostics;
 use pb_tests_files::{Shown, holds};
 use std::alloc::{AllocError, Global};
 
-/// Whether these are the diagnostics of a standard error, each with `;` behind it.
+/// Returns whether these are the diagnostics of a standard error, each with `;` after it.
 fn finds(alloc: Global, stderr: &[u8], wanted: &str) -> Result<bool, AllocError> {
     let found = diagnostics(alloc, stderr)?;
     let mut all = Shown::new(alloc);
@@ -12,7 +12,7 @@ fn finds(alloc: Global, stderr: &[u8], wanted: &str) -> Result<bool, AllocError>
     Ok(all.says(wanted))
 }
 
-/// What stands on standard error, and its diagnostics, each with `;` behind it.
+/// The bytes of standard error, and the diagnostics in them, each with `;` after it.
 static OBJECTS_ALONE: &[(&[u8], &str)] = &[
     (b"", ""),
     (b"{}", "{};"),

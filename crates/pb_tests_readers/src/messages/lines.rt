@@ -10,14 +10,14 @@ use pb_place_types::{Over, PathFault, PathText};
 use std::alloc::Global;
 use std::test::Fail;
 
-/// Whether a text is one line, the wanted one of this number.
+/// Returns whether a text is one line, and is the wanted line with this number.
 fn is_line(text: &str, number: usize) -> bool {
     text.ends_with('\n')
         && text.lines().count() == 1
         && text.lines().next() == WANTED.lines().nth(number)
 }
 
-/// Whether the line of a message is the wanted one of this number.
+/// Returns whether the line of a message is the wanted line with this number.
 fn says(
     alloc: Global,
     subject: &Subject,
@@ -32,17 +32,17 @@ fn says(
 /// What a line is about: a target of the package a.
 #[derive(Clone, Copy)]
 enum About {
-    /// The library in `/w`, of which no type is written.
+    /// The library in `/w`, for which no crate type is written.
     Own,
     /// The library in `/w/a`, of two types.
     OfTwoTypes,
-    /// The binary in `/w/x-a`, which wants a feature.
+    /// The binary in `/w/x-a`, which requires a feature.
     Binary,
     /// The build script in `/w`.
     Script,
 }
 
-/// A binary that wants a feature.
+/// Returns a binary that requires a feature.
 fn binary(alloc: Global) -> Result<Target, Fail> {
     let name = text(alloc, "go-on")?;
     let source = PathText::parse(alloc, "/w/src/bin/go-on.rs")?;
@@ -50,13 +50,13 @@ fn binary(alloc: Global) -> Result<Target, Fail> {
     Ok(Target::binary(alloc, name, source, Edition::E2018, required)?)
 }
 
-/// A build script.
+/// Returns a build script.
 fn script(alloc: Global) -> Result<Target, Fail> {
     let source = PathText::parse(alloc, "/w/build.rs")?;
     Ok(Target::script(alloc, source, Edition::E2015)?)
 }
 
-/// The target that a line is about.
+/// Returns the target that a line is about.
 fn target(alloc: Global, about: About) -> Result<Target, Fail> {
     match about {
         About::Own => library(alloc, &[]),
@@ -66,7 +66,7 @@ fn target(alloc: Global, about: About) -> Result<Target, Fail> {
     }
 }
 
-/// The folder of its package.
+/// Returns the folder of its package.
 fn folder_of(about: About) -> &'static str {
     match about {
         About::Own | About::Script => "/w",
@@ -75,14 +75,14 @@ fn folder_of(about: About) -> &'static str {
     }
 }
 
-/// The folder and the manifest of its package.
+/// Returns the folder and the manifest of its package.
 fn paths_of(alloc: Global, about: About) -> Result<(PathText, PathText), PathFault> {
     let folder = PathText::parse(alloc, folder_of(about))?;
     let manifest = folder.join(alloc, "Cargo.toml")?;
     Ok((folder, manifest))
 }
 
-/// The package of version 0.1.0 with this target, in its folder.
+/// Returns the package of version 0.1.0 with this target, in its folder.
 fn package(alloc: Global, about: About) -> Result<Subject, Fail> {
     let target = target(alloc, about)?;
     let named = with_next(target, Text::from_str(alloc, "a"))?;
@@ -98,20 +98,21 @@ fn package(alloc: Global, about: About) -> Result<Subject, Fail> {
     })
 }
 
-/// What a line tells.
+/// What a line reports.
 #[derive(Clone, Copy)]
 enum Told {
-    /// The level, what there is for debuggers, the features, the file, and whether it can be executed.
+    /// The level, what there is for debuggers, the features, the file, and whether it can be
+    /// executed.
     Artifact(Word, Word, &'static str, &'static str, bool),
     /// A diagnostic of the compiler.
     Diagnostic(&'static str),
-    /// What a script gave: lists, and the value of a variable.
+    /// What a script passes to the compiler: lists, and the value of a variable.
     Executed(&'static str, &'static str),
     /// A note of a script.
     Note(Level, &'static str),
 }
 
-/// The message that tells it.
+/// Returns the message that reports this.
 fn message(alloc: Global, told: Told) -> Result<Message, Fail> {
     match told {
         Told::Artifact(level, debug, features, file, is_executable) => {
@@ -123,7 +124,7 @@ fn message(alloc: Global, told: Told) -> Result<Message, Fail> {
     }
 }
 
-/// Whether the line about a target, with this message, is the wanted one of this number.
+/// Returns whether the line about a target, with this message, is the wanted line with this number.
 fn is_told(
     alloc: Global,
     about: About,
@@ -137,7 +138,7 @@ fn is_told(
     says
 }
 
-/// Whether the line about a target, with what is told of it, is the wanted one of this number.
+/// Returns whether the line that reports this about a target is the wanted line with this number.
 fn is_modelled(
     alloc: Global,
     about: About,
@@ -151,7 +152,7 @@ fn is_modelled(
     is_modelled
 }
 
-/// What each of the wanted lines is about, whether that is fresh, and what is told of it.
+/// For each wanted line: its target, whether it is fresh, and what it reports.
 static LINES: &[(About, bool, Told)] = &[
     (
         About::Own,
@@ -200,14 +201,14 @@ static LINES: &[(About, bool, Told)] = &[
     (About::Own, false, Told::Note(Level::Error, "e \"q\"")),
 ];
 
-/// Adds a warning, and what a script gave.
+/// Adds a warning, and what a script passes to the compiler.
 fn add_two(alloc: Global, messages: &mut Items<Message>) -> Result<(), Fail> {
     messages.push(message(alloc, Told::Note(Level::Warning, "w"))?)?;
     messages.push(message(alloc, Told::Executed("", ""))?)?;
     Ok(())
 }
 
-/// The lines of messages about the library in `/w`.
+/// Returns the lines of messages about the library in `/w`.
 fn own_lines(alloc: Global, messages: &[Message]) -> Result<Text, Fail> {
     let subject = package(alloc, About::Own)?;
     let lines = lines_of(alloc, &subject, false, messages);
@@ -215,7 +216,7 @@ fn own_lines(alloc: Global, messages: &[Message]) -> Result<Text, Fail> {
     Ok(lines?)
 }
 
-/// The lines of both.
+/// Returns the lines of both.
 fn two_lines(alloc: Global) -> Result<Text, Fail> {
     let mut messages = Items::new(alloc);
     let lines = match add_two(alloc, &mut messages) {
@@ -226,7 +227,7 @@ fn two_lines(alloc: Global) -> Result<Text, Fail> {
     lines
 }
 
-/// Whether a sink that takes all takes these lines.
+/// Returns whether a sink that takes all takes these lines.
 fn are_written(alloc: Global, lines: &str) -> bool {
     let mut taken: Vec<u8> = Vec::new(alloc);
     let mut sink = Over::new(&mut taken);
@@ -234,13 +235,13 @@ fn are_written(alloc: Global, lines: &str) -> bool {
     wrote.is_ok() && taken.as_slice() == lines.as_bytes()
 }
 
-/// Whether such a sink takes both lines.
+/// Returns whether a sink that takes everything takes both lines.
 fn both_are_written(alloc: Global) -> Result<bool, Fail> {
     let lines = two_lines(alloc)?;
     Ok(are_written(alloc, lines.as_str()))
 }
 
-/// Whether a last line is the wanted one of this number.
+/// Returns whether a last line is the wanted line with this number.
 fn ends(success: bool, number: usize) -> bool {
     let line = finish_line(success);
     line.ends_with('\n') && line.lines().next() == WANTED.lines().nth(number)

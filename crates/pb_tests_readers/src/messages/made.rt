@@ -10,19 +10,19 @@ use pb_profile_keys::COUNT;
 use std::alloc::{AllocError, Global};
 use std::test::Fail;
 
-/// A text.
+/// Returns a text.
 pub fn text(alloc: Global, text: &str) -> Result<Text, Fail> {
     Ok(Text::from_str(alloc, text)?)
 }
 
-/// The library at `/w/src/lib.rs`.
+/// Returns the library at `/w/src/lib.rs`.
 pub fn library(alloc: Global, types: &[CrateType]) -> Result<Target, Fail> {
     let name = text(alloc, "a")?;
     let source = PathText::parse(alloc, "/w/src/lib.rs")?;
     Ok(Target::library(alloc, types, name, source, Edition::E2021)?)
 }
 
-/// The built-in settings of `dev`, with this level and this much for debuggers.
+/// Returns the built-in settings of `dev`, with this level and this much for debuggers.
 pub fn settings(opt_level: Word, debug: Word) -> Settings {
     let mut values = [Setting::Truth(false); COUNT];
     for key in &ProfileKey::ALL {
@@ -33,7 +33,7 @@ pub fn settings(opt_level: Word, debug: Word) -> Settings {
     Settings::along_keys(values)
 }
 
-/// A file that was made.
+/// Returns a file that was made.
 pub fn artifact(
     alloc: Global,
     settings: Settings,
@@ -51,7 +51,8 @@ pub fn artifact(
     }))
 }
 
-/// The variable `A` with a value and an empty variable `B`; neither for an empty value.
+/// Returns the variable `A` with a value and an empty variable `B`. If the value is empty, returns
+/// no variable.
 fn variables(alloc: Global, value: &str) -> Result<Items<(Text, Text)>, AllocError> {
     let mut made = Items::new(alloc);
     if !value.is_empty() {
@@ -61,7 +62,7 @@ fn variables(alloc: Global, value: &str) -> Result<Items<(Text, Text)>, AllocErr
     Ok(made)
 }
 
-/// Three lists of the same words.
+/// Returns three lists of the same words.
 fn three_lists(
     alloc: Global,
     words: &str,
@@ -71,7 +72,8 @@ fn three_lists(
     with_next(two, texts_of(alloc, words))
 }
 
-/// What a script gave: libraries, folders and conditions, one variable and an empty one, and its folder.
+/// Returns what a script passes to the compiler: libraries, folders and conditions, one variable
+/// and an empty one, and its folder.
 pub fn script_message(alloc: Global, lists: &str, value: &str) -> Result<Message, Fail> {
     let lists = three_lists(alloc, lists)?;
     let given = with_next(lists, variables(alloc, value))?;

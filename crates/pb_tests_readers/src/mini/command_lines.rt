@@ -1,4 +1,4 @@
-//! Command lines that say a compile or a run, and such as say none.
+//! Command lines that request a compile or a run, and command lines that request neither.
 
 use super::worlds::{answer_in, answers};
 use std::alloc::Global;
@@ -12,7 +12,7 @@ type Case = (
     &'static [u8],
 );
 
-/// Words where each source and image is `print x`, and what they are answered.
+/// Arguments, and the replies to them. Each source and image is `print x`.
 static COMMAND_LINES: &[Case] = &[
     ("-vV", 0, b"mini 0.1.0\nhost: mini-unknown-none\n", b"", b""),
     (
@@ -91,7 +91,7 @@ static COMMAND_LINES: &[Case] = &[
     ),
 ];
 
-/// Words that say no compile and no run, one command line a line.
+/// Arguments that request neither a compile nor a run, one command line on each line.
 const BAD_WORDS: &str = "\n\
      -vV|-vV\n\
      --version\n\
@@ -134,13 +134,13 @@ const NO_IMAGES: &str = "--run|/none\n\
      --run|\n\
      --run|/i\0";
 
-/// Whether words are refused with this on standard error.
+/// Returns whether words are refused with this on standard error.
 fn is_refused(alloc: Global, words: &str, stderr: &[u8]) -> bool {
     let reply = answer_in(alloc, words, "/s", b"print x");
     answers(alloc, reply, 2, b"", stderr, b"")
 }
 
-/// Whether words are answered so.
+/// Returns whether the reply to arguments is the one of the case.
 fn is_right(alloc: Global, case: &Case) -> bool {
     let (words, status, stdout, stderr, files) = *case;
     let reply = answer_in(alloc, words, "/s", b"print x");

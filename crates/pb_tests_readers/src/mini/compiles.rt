@@ -1,4 +1,5 @@
-//! Worked compiles with their bytes, prefixes of words and sources, and the small compiler as a child.
+//! Worked compiles with their bytes, prefixes of words and sources, and the small compiler as a
+//! child.
 
 use super::views::{Broken, Files};
 use super::worlds::{Case, answer_in, answers, words_of, world};
@@ -9,8 +10,8 @@ use pb_place_types::{Child, Command, PathText, Reply, View, ViewFault};
 use pb_tests_files::holds;
 use std::alloc::Global;
 
-/// Words of a compile of `/w/src/lib.rs` in the order of a whole build, with a bar between them. The first ten say
-/// all that is needed.
+/// The arguments of a compile of `/w/src/lib.rs`, in the order of a whole build, with a bar between
+/// them. The first ten arguments are enough for a compile.
 pub const BUILD_WORDS: &str =
     "--crate-name|a|--edition=2021|/w/src/lib.rs|--error-format=json|--crate-type|lib|--emit=dep-info,link|--out-dir|/w/target/debug/a.target.lib|-C|opt-level=0|-C|debuginfo=2|-C|debug-assertions=on|-C|overflow-checks=on|-C|codegen-units=256|-C|panic=unwind|--check-cfg|cfg(feature, values())";
 
@@ -29,7 +30,7 @@ print x~Warn x@1@{"level":"error","message":"unknown line","line":2}~@a.d=/w/tar
 printx@1@{"level":"error","message":"unknown line","line":1}~@a.d=/w/target/debug/a.target.lib/liba.rlib: /w/src/lib.rs~|
 #~#~#~#~#~#~#~#~#~#~#~warn #x@0@{"level":"warning","message":"#x","line":12}~@liba.rlib=mini lib a~|a.d=/w/target/debug/a.target.lib/liba.rlib: /w/src/lib.rs~|"##;
 
-/// The same of texts that such a line cannot say.
+/// More sources and their compiles, with texts that a line of `SOURCES` cannot contain.
 pub static ODD_SOURCES: &[Case] = &[
     (
         b"\n#\nwarn\n\nprint x\r\nwarn  y ",
@@ -75,7 +76,8 @@ pub static ODD_SOURCES: &[Case] = &[
     ),
 ];
 
-/// Whether the first of `BUILD_WORDS` say a compile where they are whole, and are refused where they are not.
+/// Returns whether a prefix of `BUILD_WORDS` is accepted if it is a whole command line, and refused
+/// otherwise.
 fn is_judged(alloc: Global, first: &[Text], view: &Files) -> Result<bool, ViewFault> {
     let reply = answer(alloc, first, &[], view)?;
     let status = reply.status;
@@ -84,7 +86,8 @@ fn is_judged(alloc: Global, first: &[Text], view: &Files) -> Result<bool, ViewFa
     Ok(status == if is_whole { 0 } else { 2 })
 }
 
-/// How many first words are judged so, but for all of them, up to the first that are not.
+/// Returns the length of the first prefix that is judged wrongly, or the number of all arguments.
+/// The arguments as a whole are not a prefix here.
 fn count_judged(alloc: Global, words: &[Text], view: &Files) -> Result<usize, ViewFault> {
     for count in 0..words.len() {
         if !is_judged(alloc, &words[..count], view)? {
@@ -94,7 +97,7 @@ fn count_judged(alloc: Global, words: &[Text], view: &Files) -> Result<usize, Vi
     Ok(words.len())
 }
 
-/// The same of `BUILD_WORDS`, with an empty source.
+/// Returns the same for `BUILD_WORDS`, with an empty source.
 fn count_prefixes(alloc: Global) -> Result<usize, ViewFault> {
     let words = words_of(alloc, BUILD_WORDS)?;
     let (words, view) = with_next(words, world(alloc, "/w/src/lib.rs", b""))?;
@@ -103,7 +106,8 @@ fn count_prefixes(alloc: Global) -> Result<usize, ViewFault> {
     count
 }
 
-/// Whether a reply is that of a compile that ended, with or without an error, and left dep-info last.
+/// Returns whether a reply is that of a compile that ended, with or without an error, and left
+/// dep-info last.
 fn has_dep_info(reply: &Reply) -> bool {
     match reply.files.as_slice().last() {
         Some(file) => file.0.as_str() == "a.d" && (reply.status == 0 || reply.status == 1),
@@ -111,7 +115,7 @@ fn has_dep_info(reply: &Reply) -> bool {
     }
 }
 
-/// Whether the compile of a source ends so.
+/// Returns whether the compile of a source ends in this way.
 fn ends_with_dep_info(alloc: Global, source: &[u8]) -> Result<bool, ViewFault> {
     let reply = answer_in(alloc, BUILD_WORDS, "/w/src/lib.rs", source)?;
     let has_dep_info = has_dep_info(&reply);
@@ -119,7 +123,7 @@ fn ends_with_dep_info(alloc: Global, source: &[u8]) -> Result<bool, ViewFault> {
     Ok(has_dep_info)
 }
 
-/// The reply of any child to a compile of `/s` into `/o`.
+/// Returns the reply of any child to a compile of `/s` into `/o`.
 fn reply_of<C: Child, V: View>(alloc: Global, child: &C, view: &V) -> Result<Reply, ViewFault> {
     let command = compile(alloc)?;
     let reply = child.reply(alloc, &command, view);
@@ -127,7 +131,7 @@ fn reply_of<C: Child, V: View>(alloc: Global, child: &C, view: &V) -> Result<Rep
     reply
 }
 
-/// The compile of `/s` into `/o`.
+/// Returns the compile of `/s` into `/o`.
 fn compile(alloc: Global) -> Result<Command, ViewFault> {
     let words = words_of(alloc, "--crate-name|a|--crate-type|lib|--out-dir|/o|/s")?;
     let words = with_next(words, Text::from_str(alloc, "mini"))?;
@@ -145,7 +149,7 @@ fn compile(alloc: Global) -> Result<Command, ViewFault> {
     })
 }
 
-/// The root as a path.
+/// Returns the root as a path.
 fn root(alloc: Global) -> Result<PathText, ViewFault> {
     match PathText::parse(alloc, "/") {
         Ok(path) => Ok(path),
@@ -153,7 +157,7 @@ fn root(alloc: Global) -> Result<PathText, ViewFault> {
     }
 }
 
-/// Whether the small compiler as a child warns as its source says.
+/// Returns whether the small compiler, as a child, warns as its source requests.
 fn child_warns(alloc: Global) -> Result<bool, ViewFault> {
     let view = world(alloc, "/s", b"warn w")?;
     let reply = reply_of(alloc, &Mini, &view);
@@ -164,7 +168,7 @@ fn child_warns(alloc: Global) -> Result<bool, ViewFault> {
     Ok(answers(alloc, reply, 0, b"", stderr, files))
 }
 
-/// Whether the small compiler as a child fails where its view fails.
+/// Returns whether the small compiler, as a child, fails if its view fails.
 fn child_fails(alloc: Global) -> bool {
     let answer = reply_of(alloc, &Mini, &Broken);
     let fails = matches!(answer, Err(ViewFault::Failed));

@@ -1,4 +1,4 @@
-//! What the small compiler tells of its files and variables, read as the builder reads it.
+//! What the small compiler reports about its files and variables, read as the builder reads it.
 
 use super::worlds::answer_in;
 use crate::directives::is_modelled;
@@ -9,8 +9,8 @@ use std::alloc::Global;
 /// Words of a compile into a folder whose name needs care.
 const WORDS: &str = "--crate-name|c|--crate-type|lib|--out-dir|/o: p/q #$|--cfg|x|/w/s";
 
-/// A source, and what its dep-info says: the paths and then the variables, each with `;` after it, or which line no
-/// reader takes.
+/// A source, and what its dep-info names: the paths and then the variables, each with `;` after it;
+/// or the line that no reader accepts.
 static SOURCES: &[(&[u8], &str)] = &[
     (b"print x", "/w/s; "),
     (b"include a b", "/w/s;/w/a b; "),
@@ -43,7 +43,7 @@ static SOURCES: &[(&[u8], &str)] = &[
     (b"env FEED", "BadValue 3"),
 ];
 
-/// Whether this is read in a reply's last file, which is its dep-info.
+/// Returns whether this is read in a reply's last file, which is its dep-info.
 fn has_told(alloc: Global, reply: &Reply, wanted: &str) -> bool {
     match reply.files.as_slice().last() {
         Some(file) => file.0.as_str() == "c.d" && is_modelled(alloc, file.1.as_slice(), wanted),
@@ -51,7 +51,7 @@ fn has_told(alloc: Global, reply: &Reply, wanted: &str) -> bool {
     }
 }
 
-/// Whether this is read in the dep-info of a source.
+/// Returns whether this is read in the dep-info of a source.
 fn is_read(alloc: Global, source: &[u8], wanted: &str) -> Result<bool, ViewFault> {
     let reply = answer_in(alloc, WORDS, "/w/s", source)?;
     let has_told = has_told(alloc, &reply, wanted);

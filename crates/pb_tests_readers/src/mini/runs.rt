@@ -68,7 +68,7 @@ print a~exit 1/~print b@2@a~@
 print a~exit 2147483648~print b@2@a~@
 exit@2@@"#;
 
-/// The same of texts that such a line cannot say.
+/// More images and their runs, with texts that a line of `RUNS` cannot contain.
 pub static ODD_RUNS: &[Case] = &[
     (b"print x\r\n", 0, b"x\r\n", b""),
     (b"print \xff\n\xffprint b\nprint c\n", 0, b"c\n", b""),

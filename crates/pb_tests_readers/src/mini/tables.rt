@@ -1,4 +1,4 @@
-//! All sources and images, with what is asked of them.
+//! All sources and images, with the wanted replies.
 
 use super::compiles::{BUILD_WORDS, ODD_SOURCES, SOURCES};
 use super::runs::{ODD_RUNS, RUNS};
@@ -9,14 +9,14 @@ use pb_tests_files::holds;
 use std::alloc::{AllocError, Global};
 use std::process::Abort;
 
-/// Whether the compile of a case does this.
+/// Returns whether the compile of a case does this.
 fn compiles_so(alloc: Global, words: &str, path: &str, case: &Case) -> bool {
     let (source, status, stderr, files) = *case;
     let reply = answer_in(alloc, words, path, source);
     answers(alloc, reply, status, b"", stderr, files)
 }
 
-/// The same of the case of a line.
+/// Returns the same for the case in a line.
 fn line_compiles_so(
     alloc: Global,
     words: &str,
@@ -27,7 +27,7 @@ fn line_compiles_so(
     Ok(compiles_so(alloc, words, path, &case_of(text.as_str())))
 }
 
-/// Asserts what each compile of a table does, which speaks on standard error.
+/// Asserts what each compile of a table does. A compile writes only to standard error.
 fn assert_compiles(
     rt: &impl Abort,
     alloc: Global,
@@ -44,14 +44,14 @@ fn assert_compiles(
     }
 }
 
-/// Whether the run of a case does this: it speaks on standard output.
+/// Returns whether the run of a case does this: it speaks on standard output.
 fn runs_so(alloc: Global, case: &Case) -> bool {
     let (image, status, stdout, files) = *case;
     let reply = answer_in(alloc, "--run|/i", "/i", image);
     answers(alloc, reply, status, stdout, b"", files)
 }
 
-/// The same of the case of a line.
+/// Returns the same for the case in a line.
 fn line_runs_so(alloc: Global, line: &str) -> Result<bool, AllocError> {
     let text = text_of(alloc, line)?;
     Ok(runs_so(alloc, &case_of(text.as_str())))

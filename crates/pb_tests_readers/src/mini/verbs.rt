@@ -51,7 +51,7 @@ include $/x@1@{"level":"error","message":"no file $/x","line":1}~@c.d=/o/libc.rl
 include $VAR/$VAR@1@{"level":"error","message":"no file $VAR/$VAR","line":1}~@c.d=/o/libc.rlib: /w/s /v/$VAR~# env-dep:VAR=/v~|
 include one~include $VAR/x~include two~include one~include $VAR/x@0@@libc.rlib=mini lib c~| a~| b~| v x~| a~| b~| a~| b~| v x~|c.d=/o/libc.rlib: /w/s /w/one /v/x /w/two~# env-dep:VAR=/v~|"#;
 
-/// The same of texts that such a line cannot say.
+/// More lines with `include`, with texts that a line of `INCLUDES` cannot contain.
 pub static ODD_INCLUDES: &[Case] = &[
     (
         b"include cr",

@@ -9,7 +9,8 @@ use pb_data::{Bytes, Items, Text, TryCopy};
 use pb_place_types::{PathText, View, ViewFault};
 use std::alloc::{AllocError, Global};
 
-/// Files by their paths and variables by their names, of two with one name the first.
+/// Files by their paths and variables by their names. If two have the same name, the first one
+/// counts.
 #[derive(Drop)]
 pub struct Files {
     /// The paths and the bytes.
@@ -18,7 +19,7 @@ pub struct Files {
     pub variables: Items<(Text, Text)>,
 }
 
-/// The bytes of the first file at a path.
+/// Returns the bytes of the first file at a path.
 fn file_at(alloc: Global, files: &[(Text, Bytes)], path: &str) -> Result<Option<Bytes>, AllocError>
     ensures { IfOk result (λ found. found ≡ finite.find (slice_cmp nat_cmp) path.now files.now) }
 {
@@ -31,7 +32,7 @@ fn file_at(alloc: Global, files: &[(Text, Bytes)], path: &str) -> Result<Option<
     Ok(None)
 }
 
-/// The value of the first variable of a name.
+/// Returns the value of the first variable of a name.
 fn value_of(
     alloc: Global,
     variables: &[(Text, Text)],

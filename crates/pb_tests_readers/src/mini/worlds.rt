@@ -1,4 +1,4 @@
-//! One world of files, variables and pairs, in which compiles and runs are asked for.
+//! One world of files, variables and pairs, for compiles and runs.
 
 use super::views::Files;
 use crate::texts::add_pair;
@@ -8,7 +8,7 @@ use pb_place_types::{Reply, ViewFault};
 use pb_tests_files::holds;
 use std::alloc::{AllocError, Global};
 
-/// Files by their paths, behind one more of each case.
+/// Files by their paths. Each case adds one file before them.
 static FILES: &[(&str, &[u8])] = &[
     ("/w/one", b"a\nb"),
     ("/w/two", b"a\nb\n"),
@@ -48,7 +48,7 @@ static PAIRS: &[(&str, &str)] = &[
     ("CARGO_MANIFEST_DIR", "/w"),
 ];
 
-/// The words between the bars of a text; the empty text has none.
+/// Returns the words between the bars of a text; the empty text has none.
 pub fn words_of(alloc: Global, text: &str) -> Result<Items<Text>, AllocError> {
     let mut words = Items::new(alloc);
     if text.is_empty() {
@@ -72,7 +72,7 @@ fn add_file(
     inside.push((path, bytes))
 }
 
-/// The files of the world, behind one file more.
+/// Returns one file, and after it the files of the world.
 fn files(alloc: Global, path: &str, bytes: &[u8]) -> Result<Items<(Text, Bytes)>, AllocError> {
     let mut inside = Items::new(alloc);
     add_file(alloc, &mut inside, path, bytes)?;
@@ -82,14 +82,14 @@ fn files(alloc: Global, path: &str, bytes: &[u8]) -> Result<Items<(Text, Bytes)>
     Ok(inside)
 }
 
-/// The world with one file more.
+/// Returns the world with one file more.
 pub fn world(alloc: Global, path: &str, bytes: &[u8]) -> Result<Files, AllocError> {
     let inside = files(alloc, path, bytes)?;
     let (inside, variables) = with_next(inside, texts(alloc, VARIABLES))?;
     Ok(Files { inside, variables })
 }
 
-/// Names and values as texts.
+/// Returns names and values as texts.
 fn texts(alloc: Global, entries: &[(&str, &str)]) -> Result<Items<(Text, Text)>, AllocError> {
     let mut made = Items::new(alloc);
     for entry in entries {
@@ -98,7 +98,7 @@ fn texts(alloc: Global, entries: &[(&str, &str)]) -> Result<Items<(Text, Text)>,
     Ok(made)
 }
 
-/// The answer to words in the world with one file more.
+/// Returns the answer to words in the world with one file more.
 pub fn answer_in(alloc: Global, words: &str, path: &str, bytes: &[u8]) -> Result<Reply, ViewFault> {
     let words = words_of(alloc, words)?;
     let asked = with_next(words, texts(alloc, PAIRS))?;
@@ -108,7 +108,7 @@ pub fn answer_in(alloc: Global, words: &str, path: &str, bytes: &[u8]) -> Result
     answer
 }
 
-/// The files of a reply: of each its name, `=`, its bytes and a bar.
+/// Returns the files of a reply: of each its name, `=`, its bytes and a bar.
 fn files_text(alloc: Global, reply: &Reply) -> Result<Vec<u8>, AllocError> {
     let mut text = Vec::new(alloc);
     for file in reply.files.as_slice() {
@@ -120,13 +120,13 @@ fn files_text(alloc: Global, reply: &Reply) -> Result<Vec<u8>, AllocError> {
     Ok(text)
 }
 
-/// Whether a reply has these files, as `files_text` writes them.
+/// Returns whether a reply has these files, as `files_text` writes them.
 fn has_files(alloc: Global, reply: &Reply, files: &[u8]) -> Result<bool, AllocError> {
     let found = files_text(alloc, reply)?;
     Ok(found.as_slice() == files)
 }
 
-/// Whether a reply has this; the files as `files_text` writes them.
+/// Returns whether a reply has this; the files as `files_text` writes them.
 fn has(
     alloc: Global,
     reply: &Reply,
@@ -141,7 +141,7 @@ fn has(
         && holds(has_files(alloc, reply, files))
 }
 
-/// Whether a reply came, and has this; the files as `files_text` writes them.
+/// Returns whether a reply came, and has this; the files as `files_text` writes them.
 pub fn answers(
     alloc: Global,
     reply: Result<Reply, ViewFault>,
@@ -164,16 +164,16 @@ pub fn answers(
 pub const WORDS: &str =
     "--crate-name|c|--crate-type|lib|--out-dir|/o|--cfg|on|--cfg|feature=\"f\"|--cfg||--extern|q=/l/q|--extern|q=/l/p|--extern|gone=/l/gone|--extern|bare|--extern|bare=/l/p|--extern|rel=l/q|--extern|=/l/p|--extern|eq=/l/a=b|/w/s";
 
-/// A source or an image, the status of its compile or run, what that says, and its files. Most stand as lines, with `@`
-/// between these and `~` for each line feed.
+/// A source or an image, the status of its compile or run, what the compile or run prints, and its
+/// files. Most cases are lines, with `@` between these parts and `~` for each line feed.
 pub type Case<'a> = (&'a [u8], i32, &'a [u8], &'a [u8]);
 
-/// The text of a line.
+/// Returns the text of a line.
 pub fn text_of(alloc: Global, line: &str) -> Result<String, AllocError> {
     line.replace(alloc, "~", "\n")
 }
 
-/// The case that such a text says.
+/// Returns the case in such a text.
 pub fn case_of(text: &str) -> Case {
     let mut parts = text.split('@');
     (

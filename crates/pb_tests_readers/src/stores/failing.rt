@@ -9,8 +9,8 @@ use pb_tests_files::{Shown, Untold};
 use std::alloc::Global;
 use std::test::Fail;
 
-/// Makes a call with the call of the place of this number failing, and adds its fault and what differs then, by a store
-/// that is opened again. Whether a call failed.
+/// Makes a call of the store in which the call of the place with this number fails. Adds the fault,
+/// and what differs then for a store that is opened again. Returns whether a call failed.
 fn fail_at(
     alloc: Global,
     place: &mut Untold<Mini>,
@@ -36,7 +36,7 @@ fn fail_at(
     Ok(true)
 }
 
-/// The same after a first step in a fresh place.
+/// Does the same after a first step in a fresh place.
 fn try_at(
     alloc: Global,
     first: &str,
@@ -99,7 +99,7 @@ static TRIALS: &[(&str, &str, &str)] = &[
     ),
 ];
 
-/// Whether the faults are these, where each call of the place fails in turn, until none does.
+/// Returns whether the faults are these, if each call of the place fails in turn, until none does.
 fn fails_so(alloc: Global, first: &str, verb: &str, told: &str) -> Result<bool, Fail> {
     let mut out = Shown::new(alloc);
     for number in 1..100u64 {

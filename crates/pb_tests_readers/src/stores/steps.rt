@@ -1,4 +1,4 @@
-//! Steps in words: files and variables that change, calls of the store, and what they tell.
+//! Steps in words: files and variables that change, calls of the store, and what they report.
 
 ghost use Rattle.std.specs.Prelude.{◌≡◌, true, Some};
 ghost use Rattle.pb_record.specs.Sorted.{are_sorted};
@@ -17,7 +17,7 @@ use std::alloc::Global;
 use std::mem;
 use std::test::Fail;
 
-/// The store of the profile folder of a place.
+/// Returns the store of the profile folder of a place.
 fn open_store(alloc: Global, place: &mut Untold<Mini>) -> Result<Store, Fail> {
     let folder = PathText::parse(alloc, "/t/debug")?;
     Ok(Store::open(alloc, place, folder)?)
@@ -29,7 +29,7 @@ pub fn begin(alloc: Global, place: &mut Untold<Mini>) -> Result<Store, Fail> {
     open_store(alloc, place)
 }
 
-/// Puts what opening the store told: the next number, where one is left.
+/// Puts what the opening of the store reported: the next number, if a number is left.
 fn put_opened(out: &mut Shown, answer: &Result<Store, OpenFault>) {
     match answer {
         Ok(store) => match store.next {
@@ -43,7 +43,7 @@ fn put_opened(out: &mut Shown, answer: &Result<Store, OpenFault>) {
     }
 }
 
-/// What opening the store tells.
+/// Opens the store, and puts what the opening reports.
 fn tell_open(alloc: Global, place: &mut Untold<Mini>, out: &mut Shown) -> Result<(), Fail> {
     let folder = PathText::parse(alloc, "/t/debug")?;
     let answer = Store::open(alloc, place, folder);
@@ -138,7 +138,7 @@ fn tell_replay(
     Ok(())
 }
 
-/// Puts what an answer tells: this where it is good.
+/// Puts what an answer reports: this text if the answer is good.
 fn put_done(out: &mut Shown, answer: &Result<(), StoreFault>, good: &str) {
     match answer {
         Ok(()) => out.put(&[good]),
@@ -146,7 +146,7 @@ fn put_done(out: &mut Shown, answer: &Result<(), StoreFault>, good: &str) {
     }
 }
 
-/// Puts what dropping a record told.
+/// Puts what the dropping of a record reported.
 fn put_dropped(out: &mut Shown, answer: &Result<u64, StoreFault>) {
     match answer {
         Ok(number) => {
@@ -157,7 +157,7 @@ fn put_dropped(out: &mut Shown, answer: &Result<u64, StoreFault>) {
     }
 }
 
-/// What dropping the unit's record tells.
+/// Drops the unit's record, and puts what this reports.
 fn tell_drop(
     alloc: Global,
     place: &mut Untold<Mini>,
@@ -171,7 +171,7 @@ fn tell_drop(
     Ok(())
 }
 
-/// What keeping the record of a command tells.
+/// Keeps the record of a command, and puts what this reports.
 fn tell_kept(
     alloc: Global,
     place: &mut Untold<Mini>,
@@ -203,7 +203,7 @@ fn tell_kept(
     Ok(())
 }
 
-/// What keeping the unit's record tells.
+/// Keeps the unit's record, and puts what this reports.
 fn tell_keep(
     alloc: Global,
     place: &mut Untold<Mini>,
@@ -219,7 +219,7 @@ fn tell_keep(
     told
 }
 
-/// What migrating the unit's record tells.
+/// Migrates the unit's record, and puts what this reports.
 fn tell_migrate(
     alloc: Global,
     place: &mut Untold<Mini>,
@@ -259,7 +259,8 @@ fn copy_file(alloc: Global, place: &mut Memory<Mini>, path: &str, other: &str) -
     put_file(alloc, place, other, text.as_str())
 }
 
-/// Changes the world in words; an unknown word changes nothing. Whether the word is one of a change.
+/// Changes the world in words; an unknown word changes nothing. Returns whether the word is one of
+/// a change.
 fn change(
     alloc: Global,
     place: &mut Memory<Mini>,
@@ -281,8 +282,8 @@ fn change(
     Ok(true)
 }
 
-/// Opens the store again: it contains the run numbers of the records, and they are not those of a world that was edited, or
-/// behind a call that failed. Its next number stays.
+/// Opens the store again. The run numbers in a store are wrong after an edit of the world, and
+/// after a failed call. The store's next number stays.
 pub fn open_again(alloc: Global, place: &mut Untold<Mini>, store: &mut Store) -> Result<(), Fail> {
     let Store {
         folder,
@@ -294,7 +295,8 @@ pub fn open_again(alloc: Global, place: &mut Untold<Mini>, store: &mut Store) ->
     Ok(())
 }
 
-/// Puts what a call of the store tells, in words. Whether the word is one of a call. `spent` leaves the store no number.
+/// Makes a call of the store, in words, and puts what it reports. Returns whether the word names a
+/// call. After `spent`, the store has no number left.
 pub fn call(
     alloc: Global,
     place: &mut Untold<Mini>,
@@ -321,7 +323,7 @@ pub fn call(
     Ok(true)
 }
 
-/// One step, with `, ` behind what a call tells.
+/// Takes one step. Puts `, ` after what a call reports.
 pub fn step(
     alloc: Global,
     place: &mut Untold<Mini>,

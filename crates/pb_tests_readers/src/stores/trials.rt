@@ -1,4 +1,4 @@
-//! Trials: steps on a profile folder, and what they tell.
+//! Trials: steps on a profile folder, and what they report.
 
 use crate::stores::steps::{begin, step};
 use pb_mini::Mini;
@@ -8,7 +8,8 @@ use pb_tests_files::{Shown, Untold};
 use std::alloc::Global;
 use std::test::Fail;
 
-/// Whether the steps of a line, which has `~` for each line feed, tell what it says with the store of a place.
+/// Returns whether the steps of a line, with the store of a place, report what the line contains.
+/// In the line, `~` means a line feed.
 fn tells_with(
     alloc: Global,
     place: &mut Untold<Mini>,
@@ -24,7 +25,8 @@ fn tells_with(
     Ok(out.says(told))
 }
 
-/// The same on a fresh profile folder at a place of their own. A step `open` opens a store beside the one of the trial.
+/// Returns the same for a fresh profile folder at a fresh place. A step `open` opens a second store
+/// beside the trial's store.
 fn is_right(alloc: Global, line: &str) -> Result<bool, Fail> {
     let mut place = Untold {
         inside: Memory::new(alloc, Mini),
@@ -94,7 +96,8 @@ first~file /t/debug/b.target.lib/c/d~differs -> `b.target.lib` was built again,
 first~gone /t/debug/b.target.lib~differs -> `b.target.lib` was built again, 
 first~file /w/a fm~file /t/debug/b.target.lib/b.lib C~differs A B~differs~file /w/a fn~differs -> the variable `A` that its command sets has changed, `/w/a` has changed, `b.target.lib` was built again, "#;
 
-/// The next number, of folders with records of both formats and with names that are no records.
+/// The next number of folders. The folders have records of both formats, and files whose names are
+/// not names of records.
 const NEXT_NUMBERS: &str = r#"open -> next 8, 
 gone /t/debug/a.target.lib.record~open -> next 4, 
 gone /t~open -> next 1, 
@@ -114,7 +117,7 @@ edit /t/debug/a.target.lib.record _7_ _18446744073709551615_~open -> spent,
 edit /t/debug/a.target.lib.record lib_3_ lib_18446744073709551615_~open -> spent, 
 drop~drop~open -> dropped 8, dropped 9, next 4, "#;
 
-/// Records that are dropped, kept, given again and migrated.
+/// Records that are dropped, kept, replayed and migrated.
 const KEPT: &str = r#"replay -> out err 0, 
 first~replay -> out err 0, 
 file /w/a fm~replay -> out err 0, 
@@ -141,7 +144,7 @@ spent~first~migrate~differs~open -> no run number is left, same, next 4,
 spent~migrate~differs -> migrated, same, 
 spent~gone /t~migrate -> migrated, "#;
 
-/// All trials, one a line: steps, and what they tell.
+/// All trials, one on each line: steps, and what they report.
 static TRIALS: &[&str] = &[DIFFERENCES, NEXT_NUMBERS, KEPT, WITHOUT_NUMBER];
 
 /// Rules: `records.numbers`, `records.differs`.

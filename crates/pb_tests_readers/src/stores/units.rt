@@ -12,14 +12,14 @@ use pb_store::Key;
 use std::alloc::{AllocError, Global};
 use std::test::Fail;
 
-/// The key of the unit.
+/// Returns the key of the unit.
 #[tactic(auto, unfolding(pb_store_soundness::specs::Records::is_key))]
 pub fn own_key(alloc: Global) -> Result<Key, AllocError> {
     let text = Text::from_str(alloc, "a.target.lib")?;
     Ok(Key::new(text))
 }
 
-/// The keys of the units that it needs.
+/// Returns the keys of the units that it needs.
 #[tactic(auto, unfolding(pb_store_soundness::specs::Records::is_key))]
 pub fn needs(alloc: Global) -> Result<Items<Text>, AllocError>
     ensures { IfOk result (λ needs. All (λ key. is_key key ≡ true) needs) }
@@ -33,7 +33,7 @@ pub fn needs(alloc: Global) -> Result<Items<Text>, AllocError>
 /// Its inputs: paths, and variables.
 static INPUTS: &[&str] = &["/w/a", "/w/d", "V", "U"];
 
-/// The names of its inputs.
+/// Returns the names of its inputs.
 pub fn input_names(alloc: Global) -> Result<Items<InputName>, PathFault> {
     let mut names = Items::new(alloc);
     for input in INPUTS {
@@ -46,7 +46,7 @@ pub fn input_names(alloc: Global) -> Result<Items<InputName>, PathFault> {
     Ok(names)
 }
 
-/// How its child ended.
+/// Returns how its child ended.
 pub fn end_of_child(alloc: Global) -> Result<Ended, AllocError> {
     let stdout = Bytes::from_slice(alloc, b"out")?;
     let stderr = Bytes::from_slice(alloc, b"err")?;
@@ -57,7 +57,7 @@ pub fn end_of_child(alloc: Global) -> Result<Ended, AllocError> {
     })
 }
 
-/// What was asked, by the text of a record.
+/// Returns what was requested, from the text of a record.
 fn asked_in(alloc: Global, text: &str) -> Result<RecordedCommand, Fail> {
     match read_record(alloc, text.as_bytes())? {
         Some(kept) => {
@@ -80,7 +80,7 @@ fn asked_in(alloc: Global, text: &str) -> Result<RecordedCommand, Fail> {
     }
 }
 
-/// The unit's command with something put in place of something in its record.
+/// Returns the unit's command after one text in its record is replaced by another.
 pub fn command_with(alloc: Global, old: &str, new: &str) -> Result<Command, Fail> {
     let text = replace_once(alloc, OWN, old, new)?;
     let asked = asked_in(alloc, text.as_str());
@@ -88,7 +88,7 @@ pub fn command_with(alloc: Global, old: &str, new: &str) -> Result<Command, Fail
     Ok(asked?.into_command())
 }
 
-/// What was asked, as a command that writes into this folder.
+/// Returns what was requested, as a command that writes into this folder.
 fn with_out(asked: RecordedCommand, out: PathText) -> Command
     ensures out { result.out ≡ Some out }
     ensures sorted { are_sorted result.pairs ≡ true }
@@ -105,7 +105,7 @@ fn with_out(asked: RecordedCommand, out: PathText) -> Command
     }
 }
 
-/// The output folder of a unit.
+/// Returns the output folder of a unit.
 fn out_path(alloc: Global, folder: &PathText, key: &Key) -> Result<PathText, Fail>
     ensures { IfOk result (λ path. path ≡ out_of folder.now key.now) }
 {
@@ -115,7 +115,7 @@ fn out_path(alloc: Global, folder: &PathText, key: &Key) -> Result<PathText, Fai
     Ok(path?)
 }
 
-/// The unit's command, which writes into its folder.
+/// Returns the unit's command, which writes into its folder.
 pub fn own_command(alloc: Global, folder: &PathText, key: &Key) -> Result<Command, Fail>
     ensures out { IfOk result (λ c. c.out ≡ Some (out_of folder.now key.now)) }
     ensures sorted { IfOk result (λ c. are_sorted c.pairs ≡ true) }

@@ -12,7 +12,7 @@ use std::test::Fail;
 pub const OWN: &str =
     "record 2\n7\n12\na.target.lib\n5\nrustc\n1\n2\n-C\n2\n/w\n1\n1\nA\n1\n1\n21\n/t/debug/a.target.lib\n2\n/t\n3\nx\ny\n1\n21\n/t/debug/b.target.lib\n4\nf\n4\n/w/a\n2\nfn\nt\n4\n/w/d\n1\n1\nx\n1\n1\nv\n1\nV\n1\n1\nv\nv\n1\nU\n0\n1\n12\nb.target.lib\n3\n3\nout\n3\nerr\nend\n";
 
-/// The same as format 1.
+/// The same record in format 1.
 const FIRST: &str =
     "record 1\n12\na.target.lib\n5\nrustc\n1\n2\n-C\n2\n/w\n1\n1\nA\n1\n1\n21\n/t/debug/a.target.lib\n2\n/t\n3\nx\ny\n1\n21\n/t/debug/b.target.lib\n4\nf\n4\n/w/a\n2\nfn\nt\n4\n/w/d\n1\n1\nx\n1\n1\nv\n1\nV\n1\n1\nv\nv\n1\nU\n0\n1\n12\nb.target.lib\n1\n5\nb.lib\n1\nB\n3\nout\n3\nerr\nend\n";
 
@@ -43,7 +43,7 @@ pub fn put_file(
     Ok(put?)
 }
 
-/// Puts the record of format 1 in the place of the unit's.
+/// Replaces the unit's record by the record of format 1.
 pub fn put_first(alloc: Global, place: &mut Memory<Mini>) -> Result<(), Fail> {
     put_file(alloc, place, "/t/debug/a.target.lib.record", FIRST)
 }
@@ -58,7 +58,7 @@ pub fn prepare(alloc: Global, place: &mut Memory<Mini>) -> Result<(), Fail> {
     Ok(())
 }
 
-/// Removes what stands at a path.
+/// Removes what is at a path.
 pub fn take_away(alloc: Global, place: &mut Memory<Mini>, path: &str) -> Result<(), Fail> {
     let path = PathText::parse(alloc, path)?;
     let removed = place.remove(alloc, &path);
@@ -66,7 +66,7 @@ pub fn take_away(alloc: Global, place: &mut Memory<Mini>, path: &str) -> Result<
     Ok(removed?)
 }
 
-/// A file as a text of its own; `none` where there is none.
+/// Returns a file as a text of its own; `none` if there is none.
 fn copy_text(alloc: Global, found: &Option<Bytes>) -> Result<String, AllocError> {
     let text = match found {
         Some(bytes) => str::from_utf8(bytes.as_slice()).unwrap_or("wrong"),
@@ -75,7 +75,7 @@ fn copy_text(alloc: Global, found: &Option<Bytes>) -> Result<String, AllocError>
     String::from_str(alloc, text)
 }
 
-/// The text of a file.
+/// Returns the text of a file.
 pub fn text_at(alloc: Global, place: &Memory<Mini>, path: &str) -> Result<String, Fail> {
     let path = PathText::parse(alloc, path)?;
     let file = place.file(alloc, &path);
@@ -86,7 +86,8 @@ pub fn text_at(alloc: Global, place: &Memory<Mini>, path: &str) -> Result<String
     Ok(text?)
 }
 
-/// A text with something put in place of something in it, once, where it stands there. In both, `_` is a line feed.
+/// Returns a text in which one text is replaced by another, once, if it occurs. In both texts, `_`
+/// means a line feed.
 pub fn replace_once(alloc: Global, text: &str, old: &str, new: &str) -> Result<String, AllocError> {
     let old = old.replace(alloc, "_", "\n")?;
     let new = new.replace(alloc, "_", "\n")?;

@@ -1,5 +1,6 @@
-//! Mistakes in one manifest: files, each behind a line `@ PATH`, and after a line `---` the whole standard error. Words
-//! behind a colon in the first line are arguments of `pb_tool build`.
+//! Mistakes in one manifest. A case has files, each after a line `@ PATH`, and a line `---`. After
+//! this line comes the whole standard error. Words after a colon in the first line are arguments of
+//! `pb_tool build`.
 
 /// The cases.
 pub const CASES: &str = r#"=== [manifest.order] a comma is missing

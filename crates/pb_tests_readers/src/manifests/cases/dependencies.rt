@@ -1,4 +1,5 @@
-//! The tables of dependencies (The Cargo Book, Specifying Dependencies). A case is a line `=== [RULE] NAME`, a manifest, and after a line `---` the answer.
+//! The tables of dependencies (The Cargo Book, Specifying Dependencies). A case is a line `===
+//! [RULE] NAME`, a manifest, and after a line `---` the answer.
 
 /// The cases.
 pub const DEPENDENCIES: &str = r#"=== [dependencies.path] entries of both tables

@@ -1,4 +1,5 @@
-//! `[features]` (The Cargo Book, Features). A case is a line `=== [RULE] NAME`, a manifest, and after a line `---` the answer.
+//! `[features]` (The Cargo Book, Features). A case is a line `=== [RULE] NAME`, a manifest, and
+//! after a line `---` the answer.
 
 /// The cases.
 pub const FEATURES: &str = r#"=== [features.item] every form of an item, and the letters of names

@@ -1,4 +1,5 @@
-//! Manifests with two mistakes: the order in which they are read. A case is a line `=== [RULE] NAME`, a manifest, and after a line `---` the answer.
+//! Manifests with two mistakes: the order in which they are read. A case is a line `=== [RULE]
+//! NAME`, a manifest, and after a line `---` the answer.
 
 /// The cases.
 pub const ORDERS: &str = r#"=== [manifest.order] an old resolver comes before all tables

@@ -1,4 +1,5 @@
-//! Whole documents and `[package]` (The Cargo Book, Manifest Format). A case is a line `=== [RULE] NAME`, a manifest, and after a line `---` the answer.
+//! Whole documents and `[package]` (The Cargo Book, Manifest Format). A case is a line `=== [RULE]
+//! NAME`, a manifest, and after a line `---` the answer.
 
 /// The cases.
 pub const PACKAGE: &str = r#"=== [package.name] a name alone

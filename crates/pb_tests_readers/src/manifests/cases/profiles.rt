@@ -1,4 +1,5 @@
-//! `[profile]` (The Cargo Book, Profiles). A case is a line `=== [RULE] NAME`, a manifest, and after a line `---` the answer.
+//! `[profile]` (The Cargo Book, Profiles). A case is a line `=== [RULE] NAME`, a manifest, and
+//! after a line `---` the answer.
 
 /// The cases.
 pub const PROFILES: &str = r#"=== [profile.values] every key, and keys that no rule names

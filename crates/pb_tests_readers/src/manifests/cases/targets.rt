@@ -1,4 +1,5 @@
-//! `[lib]` and `[[bin]]` (The Cargo Book, Cargo Targets). A case is a line `=== [RULE] NAME`, a manifest, and after a line `---` the answer.
+//! `[lib]` and `[[bin]]` (The Cargo Book, Cargo Targets). A case is a line `=== [RULE] NAME`, a
+//! manifest, and after a line `---` the answer.
 
 /// The cases.
 pub const TARGETS: &str = r#"=== [lib.crate-type] an empty table

@@ -1,4 +1,5 @@
-//! `[workspace]`, and the order of the last tables (The Cargo Book, Workspaces). A case is a line `=== [RULE] NAME`, a manifest, and after a line `---` the answer.
+//! `[workspace]`, and the order of the last tables (The Cargo Book, Workspaces). A case is a line
+//! `=== [RULE] NAME`, a manifest, and after a line `---` the answer.
 
 /// The cases.
 pub const WORKSPACE: &str = r#"=== [package.present] a workspace without a package
