@@ -2,7 +2,6 @@
 
 ghost use Rattle.std.specs.Prelude.{◌≡◌, true, IfOk, Some};
 ghost use Rattle.pb_record.specs.Sorted.{are_sorted};
-ghost use Rattle.pb_store_soundness.specs.Records.{out_of};
 
 use pb_data::{Bytes, Items, Text, TryCopy};
 use pb_mini::Mini;
@@ -43,16 +42,6 @@ out
 
 end
 ";
-
-/// Returns the folder in which the child of a unit writes.
-fn out_folder(alloc: Global, folder: &PathText, key: &Key) -> Result<PathText, Fail>
-    ensures { IfOk result (λ path. path ≡ out_of folder.now key.now) }
-{
-    let relative = RelativePath::of(key.as_text().copy(alloc)?).ok_or("no path")?;
-    let path = folder.below(alloc, &relative);
-    drop(relative);
-    Ok(path?)
-}
 
 /// Returns a command that writes into a folder.
 fn command_into(alloc: Global, out: PathText) -> Result<Command, PathFault>
@@ -98,7 +87,8 @@ fn keep<P: Place>(alloc: Global, place: &mut P, key: &Key) -> Result<(), Fail> {
     let folder = PathText::parse(alloc, FOLDER)?;
     let mut store = Store::open(alloc, place, folder)?;
     let number = store.drop_record(alloc, place, key)?;
-    let out = out_folder(alloc, &store.folder, key)?;
+    let relative = RelativePath::of(key.as_text().copy(alloc)?).ok_or("no path")?;
+    let out = store.folder.below(alloc, &relative)?;
     let command = command_into(alloc, out)?;
     let ended = end_of_child(alloc)?;
     store.keep(alloc, place, key, number, &command, &[], &[], &ended)?;
