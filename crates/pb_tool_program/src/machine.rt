@@ -30,8 +30,8 @@ fn folder(rt: &HostRuntime) -> io::Result<PathText> {
     }
 }
 
-/// Returns whether the variable `NO_COLOR` says that programs use no colours. This is so if the
-/// variable is set and not empty.
+/// Returns whether the variable `NO_COLOR` is set and not empty. Such a variable requests programs
+/// not to use colours.
 fn has_no_color(rt: &HostRuntime) -> bool {
     match env::var(rt, "NO_COLOR") {
         Ok(value) => !value.is_empty(),
