@@ -51,7 +51,7 @@ fn out_of_memory(rt: &HostRuntime) -> u8 {
     FAILED
 }
 
-/// Returns a time in seconds, as `31 s`; below ten seconds with tenths.
+/// Returns a time in seconds, such as `31 s`. A time below ten seconds has tenths.
 fn seconds(rt: &HostRuntime, time: Duration) -> io::Result<String> {
     let whole = time.as_secs();
     let text = if whole < 10 {
