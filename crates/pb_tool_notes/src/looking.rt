@@ -77,7 +77,7 @@ fn wants_script(page: &Page) -> bool {
     }
 }
 
-/// Adds a package, if it links a native library and has no build script.
+/// Adds a note on a package, if the package links a native library and has no build script.
 fn tell_script<P: Place>(
     alloc: Global,
     place: &mut P,
@@ -103,7 +103,7 @@ fn tell_script<P: Place>(
     Ok(())
 }
 
-/// Adds each package that links a native library and has no build script.
+/// Adds a note on each package that links a native library and has no build script.
 fn tell_scripts<P: Place>(
     alloc: Global,
     place: &mut P,
@@ -227,7 +227,7 @@ fn tell_plan<P: Place + Remembering>(
     }
 }
 
-/// Adds each key of the manifests that nothing reads.
+/// Adds a note on each key of the manifests that nothing reads.
 fn tell_all_unused(alloc: Global, notes: &mut Notes, pages: &Pages) -> Result<(), AllocError> {
     for page in pages.pages.as_slice() {
         if let Some(table) = &page.table {
@@ -237,7 +237,8 @@ fn tell_all_unused(alloc: Global, notes: &mut Notes, pages: &Pages) -> Result<()
     Ok(())
 }
 
-/// Adds that a workspace in a folder above lists the root package, if this package is built alone.
+/// If the root package is built alone, and a workspace in a folder above lists it, adds a note that
+/// says so.
 fn tell_root_above<P: Place + Remembering>(
     alloc: Global,
     place: &mut P,
@@ -270,9 +271,9 @@ fn tell_passed_over<P: Place + Remembering>(
 
 /// Returns notes on a workspace that the loader refuses, or in which nothing is selected.
 ///
-/// Each of the four functions that return notes only reads manifests again, lists folders, and
-/// checks whether files exist. If a call fails or memory runs out, the function returns the notes
-/// that it has so far.
+/// Four functions return notes. They only read manifests again, list folders, and check whether
+/// files exist. If a call fails or memory runs out, the function returns the notes that it has made
+/// so far.
 pub fn notes_on_load<P: Place + Remembering>(
     alloc: Global,
     place: &mut P,

@@ -7,7 +7,7 @@ use pb_tool_notes_pages::{
 use std::alloc::{AllocError, Global};
 use toml::{Table, Value};
 
-/// Adds each value of a table, if the value is not allowed at its key.
+/// Adds a note on each value of a table, if the value is not allowed at its key.
 fn tell_values(
     alloc: Global,
     notes: &mut Notes,
@@ -40,7 +40,7 @@ fn is_of_profiles(kind: Kind) -> bool {
     )
 }
 
-/// Adds each value outside `[profile]` that is not allowed at its key.
+/// Adds a note on each value outside `[profile]` that is not allowed at its key.
 pub fn tell_bad_kinds(
     alloc: Global,
     notes: &mut Notes,
@@ -81,7 +81,7 @@ fn wrong_with(name: &str, profile: &Table) -> &'static str {
     ""
 }
 
-/// Adds each custom profile that is not allowed.
+/// Adds a note on each custom profile that is not allowed.
 fn tell_profiles(
     alloc: Global,
     notes: &mut Notes,
@@ -101,8 +101,8 @@ fn tell_profiles(
     Ok(())
 }
 
-/// Adds each value of `[profile]` that is not allowed at its key, and each custom profile that is
-/// not allowed.
+/// Adds a note on each value of `[profile]` that is not allowed at its key, and on each custom
+/// profile that is not allowed.
 pub fn tell_bad_profiles(
     alloc: Global,
     notes: &mut Notes,

@@ -1,5 +1,5 @@
-//! Notes on one manifest. They say which rules are broken by its text, its keys or their values, and which
-//! keys are never read.
+//! Notes on one manifest. They say which rules its text, its keys or their values break, and which
+//! keys nothing reads.
 #![tactic(auto)]
 
 mod kinds;

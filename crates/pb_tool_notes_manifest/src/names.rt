@@ -10,7 +10,7 @@ use toml::{Table, Value};
 /// The characters that a name may have.
 const NAME: &str = "ASCII letters, digits, - and _";
 
-/// Adds a name, if it is not allowed.
+/// Adds a note on a name, if the name is not allowed.
 fn tell_name(
     alloc: Global,
     notes: &mut Notes,
@@ -43,7 +43,7 @@ fn tell_own_name(
     tell_name(alloc, notes, page, spot, "name", is_right, NAME)
 }
 
-/// Adds each key of dependency entries, if the key is not an allowed name.
+/// Adds a note on each key of dependency entries, if the key is not an allowed name.
 fn tell_entry_keys(
     alloc: Global,
     notes: &mut Notes,
@@ -66,7 +66,7 @@ fn tell_entry_keys(
     Ok(())
 }
 
-/// Adds each name of a table, if the name is not allowed.
+/// Adds a note on each name of a table, if the name is not allowed.
 fn tell_names_of(
     alloc: Global,
     notes: &mut Notes,
@@ -98,7 +98,7 @@ fn tell_names_of(
     }
 }
 
-/// Adds each name that is not allowed.
+/// Adds a note on each name that is not allowed.
 pub fn tell_bad_names(
     alloc: Global,
     notes: &mut Notes,
@@ -160,7 +160,7 @@ fn tell_version(
     Ok(())
 }
 
-/// Adds that a text at a key is not a requirement, if the text is refused.
+/// Adds a note on the text at a key, if the text is not a valid requirement.
 fn tell_requirement(
     alloc: Global,
     notes: &mut Notes,
@@ -176,7 +176,7 @@ fn tell_requirement(
     Ok(())
 }
 
-/// Adds each entry that is only a requirement and is refused.
+/// Adds a note on each entry that is only a requirement, if this requirement is refused.
 fn tell_requirements(
     alloc: Global,
     notes: &mut Notes,
@@ -191,7 +191,7 @@ fn tell_requirements(
     Ok(())
 }
 
-/// Adds each version of a manifest that cannot be read.
+/// Adds a note on each version in a manifest, if the version cannot be read.
 pub fn tell_bad_versions(
     alloc: Global,
     notes: &mut Notes,
@@ -226,7 +226,7 @@ fn is_item(text: &str) -> bool {
     }
 }
 
-/// Adds each item of a feature, if the item has none of the four forms.
+/// Adds a note on each item of a feature, if the item has none of the four forms.
 fn tell_items(
     alloc: Global,
     notes: &mut Notes,
@@ -247,7 +247,7 @@ fn tell_items(
     Ok(())
 }
 
-/// Adds each feature whose name or items cannot be read.
+/// Adds a note on each feature whose name or items cannot be read.
 pub fn tell_bad_features(
     alloc: Global,
     notes: &mut Notes,

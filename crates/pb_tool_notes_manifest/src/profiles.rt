@@ -23,7 +23,7 @@ fn is_among(name: &str, names: &[&str]) -> bool {
     names.iter().any(|one| *one == name)
 }
 
-/// Adds each `inherits` that names no profile.
+/// Adds a note on each `inherits` that names no profile.
 fn tell_inherits(
     alloc: Global,
     notes: &mut Notes,
@@ -52,7 +52,7 @@ fn tell_inherits(
     Ok(())
 }
 
-/// Adds which profile is missing.
+/// Adds a note that says which profile is missing.
 pub fn tell_no_profile(
     alloc: Global,
     notes: &mut Notes,
@@ -79,7 +79,8 @@ fn inherits_of<'a>(profiles: &'a Table, name: &str) -> &'a str {
 /// The greatest number of profiles on a path through `inherits`.
 const LONGEST_WAY: usize = 32;
 
-/// Adds the path through `inherits` from a profile, until a profile repeats.
+/// Adds a note with the names on the path from a profile through `inherits`, until a profile
+/// repeats.
 pub fn tell_inherits_cycle(
     alloc: Global,
     notes: &mut Notes,
@@ -107,7 +108,7 @@ pub fn tell_inherits_cycle(
     tell_page(alloc, notes, page, text.as_str())
 }
 
-/// Adds each key of an override, if no override may set this key.
+/// Adds a note on each key of an override, if no override may set this key.
 pub fn tell_not_in_override(
     alloc: Global,
     notes: &mut Notes,

@@ -27,7 +27,7 @@ fn start_of(fault: &toml::de::Error) -> usize {
     }
 }
 
-/// Adds the position at which TOML's reader stops, and the reader's message.
+/// Adds a note with the position at which TOML's reader stops, and with the reader's message.
 fn tell_reader(alloc: Global, notes: &mut Notes, page: &Page) -> Result<(), AllocError> {
     let text = page.text();
     let fault = match toml::table_from_str(alloc, text) {
@@ -51,7 +51,7 @@ fn tell_reader(alloc: Global, notes: &mut Notes, page: &Page) -> Result<(), Allo
     )
 }
 
-/// Adds the position at which a manifest is not TOML.
+/// Adds a note with the position at which a manifest is not TOML.
 pub fn tell_not_toml(alloc: Global, notes: &mut Notes, page: &Page) -> Result<(), AllocError> {
     match str::from_utf8(page.bytes.as_slice()) {
         Ok(_) => tell_reader(alloc, notes, page),
@@ -72,7 +72,7 @@ pub fn tell_not_toml(alloc: Global, notes: &mut Notes, page: &Page) -> Result<()
     }
 }
 
-/// Adds how large a manifest is.
+/// Adds a note that says how large a manifest is.
 pub fn tell_too_large(alloc: Global, notes: &mut Notes, page: &Page) -> Result<(), AllocError> {
     let text = format!(in alloc; "it has more than {MAX_MANIFEST_BYTES} bytes")?;
     tell_page(alloc, notes, page, text.as_str())

@@ -24,7 +24,7 @@ fn wrong_source(value: &Value) -> &'static str {
     ""
 }
 
-/// Adds each entry whose source is not supported.
+/// Adds a note on each entry whose source is not supported.
 pub fn tell_sources(
     alloc: Global,
     notes: &mut Notes,
@@ -44,7 +44,7 @@ pub fn tell_sources(
     Ok(())
 }
 
-/// Adds each table that is not supported.
+/// Adds a note on each table that is not supported.
 pub fn tell_tables(
     alloc: Global,
     notes: &mut Notes,
@@ -59,7 +59,7 @@ pub fn tell_tables(
     Ok(())
 }
 
-/// Adds where resolver 1 is requested.
+/// Adds a note that says where resolver 1 is requested.
 pub fn tell_resolver(
     alloc: Global,
     notes: &mut Notes,
@@ -83,7 +83,7 @@ pub fn tell_resolver(
     Ok(())
 }
 
-/// Adds each unsupported crate type of a list.
+/// Adds a note on each unsupported crate type of a list.
 fn tell_types(
     alloc: Global,
     notes: &mut Notes,
@@ -101,7 +101,7 @@ fn tell_types(
     Ok(())
 }
 
-/// Adds each crate type that is not supported.
+/// Adds a note on each crate type that is not supported.
 pub fn tell_crate_types(
     alloc: Global,
     notes: &mut Notes,
@@ -139,7 +139,7 @@ fn keys_of(alloc: Global, rows: &'static str) -> Result<Vec<&'static str>, Alloc
     Ok(keys)
 }
 
-/// Adds each key of a table, if nothing reads this key.
+/// Adds a note on each key of a table, if nothing reads this key.
 fn tell_unread(
     alloc: Global,
     notes: &mut Notes,
@@ -168,7 +168,7 @@ fn tell_unread(
     Ok(())
 }
 
-/// Adds each key that nothing reads.
+/// Adds a note on each key that nothing reads.
 pub fn tell_unused(
     alloc: Global,
     notes: &mut Notes,

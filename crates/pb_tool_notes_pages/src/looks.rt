@@ -19,8 +19,8 @@ fn read<P: Place>(
     place.read_first(alloc, path, MAX_MANIFEST_BYTES + 1)
 }
 
-/// Returns the bytes of a manifest, as `read` does. If the place remembers the manifest, returns what
-/// the place remembers, and makes no call.
+/// Returns the bytes of a manifest, as `read` does. If the place remembers the manifest, returns
+/// what the place remembers and makes no call.
 pub(crate) fn recall_or_read<P: Place + Remembering>(
     alloc: Global,
     place: &mut P,

@@ -71,7 +71,7 @@ fn plain_text(alloc: Global, text: &str) -> Result<String, AllocError> {
     Ok(out)
 }
 
-/// Returns whether a text contains no control character below the blank.
+/// Returns whether all bytes of a text are greater than 31. So the text has no line feed.
 fn is_plain(text: &str) -> bool
     ensures { IsTrue result ↔ All IsPlain text.now }
 {
@@ -120,8 +120,8 @@ impl Notes {
         self.more = self.more.saturating_add(1);
     }
 
-    /// Adds a text, if it has no line feed and there are fewer than nine. If memory runs out, the
-    /// text is left out.
+    /// Adds a text, if it has no line feed and there are fewer than nine texts. If memory runs out,
+    /// the text is left out.
     fn push(&mut self, text: String) {
         if self.inside.len() < MOST_NOTES && is_plain(text.as_str()) {
             let _ = self.inside.push(Text::new(text));

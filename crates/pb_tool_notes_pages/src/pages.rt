@@ -23,7 +23,7 @@ const MOST_ASKS: usize = 1024;
 pub struct Pages {
     /// The manifests, the root's first.
     pub pages: Vec<Page>,
-    /// Who asks for which manifest.
+    /// Which manifest asks for which other manifest.
     pub asks: Vec<Ask>,
 }
 
@@ -94,7 +94,7 @@ fn read_at<P: Place + Remembering>(
     }
 }
 
-/// Returns the path of the nth ask, if there are that many.
+/// Returns the path of the nth ask, if there are so many asks.
 fn path_of(alloc: Global, pages: &Pages, number: usize) -> Result<Option<PathText>, AllocError> {
     match pages.asks.get(number) {
         Some(ask) => Ok(Some(ask.path.copy(alloc)?)),
@@ -122,7 +122,7 @@ fn read_all<P: Place + Remembering>(
     Ok(())
 }
 
-/// Adds that the root asks for the folders of its members.
+/// Adds an ask of the root for the manifest in each of these folders of members.
 fn push_members(
     alloc: Global,
     pages: &mut Pages,

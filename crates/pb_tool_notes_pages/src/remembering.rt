@@ -6,8 +6,8 @@ use pb_place_types::PathText;
 /// A place that can remember what its calls returned. A second look asks the place first, and makes
 /// a call only for what the place does not remember.
 ///
-/// Contracts promise nothing about what a place remembers: notes alone are made from it, and notes
-/// are words for people. These calls use no memory, and are not counted.
+/// Contracts promise nothing about what a place remembers: only notes are made from it, and notes
+/// are for people. These calls use no memory, and are not counted.
 pub trait Remembering {
     /// Returns the whole text of a file, if the place has read the file and remembers its text.
     fn remembered_text(&self, path: &PathText) -> Option<&Bytes>;

@@ -22,7 +22,7 @@ fn lists(alloc: Global, page: &Page, folder: &PathText) -> Result<bool, AllocErr
     Ok(false)
 }
 
-/// Adds that a manifest above lists a package, if the manifest lists it.
+/// If a manifest above lists a package, adds a note that says so.
 fn tell_if_listed(
     alloc: Global,
     notes: &mut Notes,
@@ -54,7 +54,8 @@ fn manifest_in<P: Place + Remembering>(
     }
 }
 
-/// Adds that a workspace above lists a package, if the package's manifest has no `[workspace]`.
+/// If the root manifest has no `[workspace]`, adds a note for each workspace in a folder above that
+/// lists its package.
 pub fn tell_above<P: Place + Remembering>(
     alloc: Global,
     place: &mut P,

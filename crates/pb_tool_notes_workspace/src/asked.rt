@@ -7,7 +7,7 @@ use pb_place_types::{PathText, Place, PlaceFault};
 use pb_tool_notes_pages::{Ask, Notes, Pages, Role, folders_in, is_file, near, tell_key};
 use std::alloc::{AllocError, Global};
 
-/// Adds what names a manifest.
+/// Adds a note on what names a manifest.
 fn tell_ask(
     alloc: Global,
     notes: &mut Notes,
@@ -50,7 +50,7 @@ fn near_among(alloc: Global, name: &str, folders: &[PathText]) -> Result<String,
     near(alloc, name, names.as_slice())
 }
 
-/// Returns the folders beside a folder, which are in the same parent folder.
+/// Returns the other folders in the folder that contains a folder.
 fn folders_beside<P: Place>(
     alloc: Global,
     place: &mut P,
@@ -78,7 +78,7 @@ fn near_folder<P: Place>(
     }
 }
 
-/// Adds that a path is a folder with a manifest in it, if this is so.
+/// If a path is a folder with a manifest in it, adds a note that says so.
 fn tell_folder<P: Place>(
     alloc: Global,
     place: &mut P,
@@ -97,7 +97,7 @@ fn tell_folder<P: Place>(
     Ok(())
 }
 
-/// Adds what names a missing manifest.
+/// Adds notes on what names a missing manifest.
 pub fn tell_missing<P: Place>(
     alloc: Global,
     place: &mut P,

@@ -18,7 +18,7 @@ struct Step<'a> {
     before: usize,
 }
 
-/// Returns whether a step after the very first has a name.
+/// Returns whether one of the steps has this name. The first step does not count.
 fn is_reached(steps: &[Step], name: &str) -> bool {
     match steps.split_first() {
         Some((_, rest)) => rest.iter().any(|step| step.name == name),
@@ -89,7 +89,7 @@ fn tell_way(alloc: Global, notes: &mut Notes, names: &[&str]) -> Result<(), Allo
     notes.say(alloc, text.as_str())
 }
 
-/// Returns the number of the first step after the very first that has a name.
+/// Returns the number of the first step with this name. Step 0 does not count.
 fn step_of(steps: &[Step], name: &str) -> Option<usize> {
     for (number, step) in steps.iter().enumerate() {
         if number > 0 && step.name == name {

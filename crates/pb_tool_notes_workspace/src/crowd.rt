@@ -17,7 +17,7 @@ fn members_in(pages: &Pages) -> usize {
         .count()
 }
 
-/// Adds how many packages the root names, if a workspace has too many.
+/// Adds a note for a workspace of too many packages: how many packages the root names.
 ///
 /// Errors: out of memory.
 pub fn tell_too_many(alloc: Global, notes: &mut Notes, pages: &Pages) -> Result<(), AllocError> {
@@ -89,8 +89,8 @@ fn count_all<'a, P: Place>(
     Ok(counted)
 }
 
-/// Adds how many binaries the packages have, and which package has the most, if a plan has too many
-/// units.
+/// Adds a note for a plan of too many units: how many binaries the packages have, and which package
+/// has the most.
 ///
 /// Errors: those of its calls; out of memory.
 pub fn tell_too_many_units<P: Place>(

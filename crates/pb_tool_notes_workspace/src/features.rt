@@ -222,7 +222,7 @@ fn tell_items(
     Ok(())
 }
 
-/// Adds each item of a feature that names something missing.
+/// Adds a note on each item of a feature, if the item names something missing.
 pub fn tell_all_items(alloc: Global, notes: &mut Notes, pages: &Pages) -> Result<(), AllocError> {
     for page in pages.pages.as_slice() {
         if let Some(features) = page.table_at("features") {
@@ -242,7 +242,7 @@ fn entry_of<'a>(page: &'a Page, ask: &Ask) -> Option<&'a Value> {
     }
 }
 
-/// Adds each feature that an entry names and that the entry's package does not have.
+/// Adds a note on each feature that an entry names and that the entry's package does not have.
 fn tell_entry(
     alloc: Global,
     notes: &mut Notes,
@@ -274,7 +274,7 @@ fn tell_entry(
     Ok(())
 }
 
-/// Adds, for all entries, each feature that the entry's package does not have.
+/// For all entries, adds a note on each feature that the entry's package does not have.
 pub fn tell_entries(alloc: Global, notes: &mut Notes, pages: &Pages) -> Result<(), AllocError> {
     for ask in pages.asks.as_slice() {
         if let (Some(page), Some(to)) = (pages.at(ask.by.as_str()), pages.at(ask.path.as_str())) {
@@ -297,7 +297,7 @@ fn all_features(alloc: Global, pages: &Pages) -> Result<Vec<&str>, AllocError> {
     Ok(names)
 }
 
-/// Adds which package has a requested feature, or that no package has it.
+/// Adds a note that says which package has a requested feature, or that no package has the feature.
 fn tell_asked(
     alloc: Global,
     notes: &mut Notes,
@@ -319,7 +319,7 @@ fn tell_asked(
     notes.say(alloc, text.as_str())
 }
 
-/// Adds what is wrong with a requested feature of one package.
+/// Adds a note that says what is wrong with a requested feature of one package.
 fn tell_asked_of(
     alloc: Global,
     notes: &mut Notes,

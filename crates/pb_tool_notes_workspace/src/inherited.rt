@@ -30,7 +30,7 @@ fn gives_entry(root: &Page, key: &str) -> bool {
         .is_some()
 }
 
-/// Adds each key that a package inherits and the root does not have.
+/// Adds a note on each key that a package inherits and the root does not have.
 fn tell_keys(
     alloc: Global,
     notes: &mut Notes,
@@ -51,7 +51,7 @@ fn tell_keys(
     Ok(())
 }
 
-/// Adds each entry of a table that a package inherits and the root does not have.
+/// Adds a note on each entry of a table that a package inherits and the root does not have.
 fn tell_entries(
     alloc: Global,
     notes: &mut Notes,
@@ -75,7 +75,7 @@ fn tell_entries(
     Ok(())
 }
 
-/// Adds each key and entry that a package inherits and the root does not have.
+/// Adds a note on each key and entry that a package inherits and the root does not have.
 fn tell_page(alloc: Global, notes: &mut Notes, root: &Page, page: &Page) -> Result<(), AllocError> {
     if let Some(keys) = page.table_at("package") {
         tell_keys(alloc, notes, root, page, keys)?;
@@ -84,7 +84,8 @@ fn tell_page(alloc: Global, notes: &mut Notes, root: &Page, page: &Page) -> Resu
     tell_entries(alloc, notes, root, page, "build-dependencies")
 }
 
-/// Adds each key that a package inherits from the workspace, if the workspace does not have it.
+/// Adds a note on each key that a package inherits from the workspace, if the workspace does not
+/// have this key.
 pub fn tell_no_inherited(
     alloc: Global,
     notes: &mut Notes,
@@ -106,8 +107,8 @@ pub fn tell_no_inherited(
     Ok(())
 }
 
-/// Adds each entry that inherits an entry of the workspace, if the source of that entry is not
-/// supported.
+/// Adds a note on each entry that inherits an entry of the workspace, if the source of the
+/// workspace's entry is not supported.
 pub fn tell_taken_sources(
     alloc: Global,
     notes: &mut Notes,

@@ -69,7 +69,7 @@ fn tell_entry(
     }
 }
 
-/// Adds each entry that names a package of another version.
+/// Adds a note on each entry that names a package of another version.
 pub fn tell_versions(alloc: Global, notes: &mut Notes, pages: &Pages) -> Result<(), AllocError> {
     for ask in pages.asks.as_slice() {
         if let Some(page) = pages.at(ask.path.as_str()) {
@@ -88,7 +88,7 @@ pub fn tell_versions(alloc: Global, notes: &mut Notes, pages: &Pages) -> Result<
     Ok(())
 }
 
-/// Adds each entry that names a package of another name.
+/// Adds a note on each entry that names a package of another name.
 pub fn tell_names(alloc: Global, notes: &mut Notes, pages: &Pages) -> Result<(), AllocError> {
     for ask in pages.asks.as_slice() {
         if let Some(page) = pages.at(ask.path.as_str()) {
@@ -105,7 +105,8 @@ pub fn tell_names(alloc: Global, notes: &mut Notes, pages: &Pages) -> Result<(),
     Ok(())
 }
 
-/// Adds each other manifest that has the same text at a key of `[package]` as this manifest.
+/// Adds a note on each other manifest that has the same text at a key of `[package]` as this
+/// manifest.
 fn tell_twins(
     alloc: Global,
     notes: &mut Notes,
@@ -126,7 +127,7 @@ fn tell_twins(
     Ok(())
 }
 
-/// Adds each pair of manifests that have the same text at a key of `[package]`.
+/// Adds a note on each pair of manifests that have the same text at a key of `[package]`.
 pub fn tell_same(
     alloc: Global,
     notes: &mut Notes,
@@ -160,7 +161,7 @@ fn first_named(binaries: &[Value], name: &str) -> usize {
     0
 }
 
-/// Adds each binary of a list that has the name of an earlier binary.
+/// Adds a note on each binary of a list that has the name of an earlier binary.
 fn tell_same_names(
     alloc: Global,
     notes: &mut Notes,
@@ -192,7 +193,7 @@ fn binaries_of(table: &Table) -> &[Value] {
     }
 }
 
-/// Adds each `[[bin]]` that has the name of an earlier `[[bin]]`.
+/// Adds a note on each `[[bin]]` that has the name of an earlier `[[bin]]`.
 pub fn tell_same_binaries(
     alloc: Global,
     notes: &mut Notes,

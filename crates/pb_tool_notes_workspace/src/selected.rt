@@ -30,7 +30,7 @@ fn is_among(name: &str, names: &[&str]) -> bool {
     names.iter().any(|one| *one == name)
 }
 
-/// Adds each name of `-p` that is not the name of a package.
+/// Adds a note on each name of `-p` that is not the name of a package.
 fn tell_requested(
     alloc: Global,
     notes: &mut Notes,
@@ -61,7 +61,7 @@ fn is_known(alloc: Global, asks: &[Ask], root: &PathText, written: &str) -> bool
     }
 }
 
-/// Adds each folder of `default-members` in which no manifest was read.
+/// Adds a note on each folder of `default-members` in which no manifest was read.
 fn tell_defaults(
     alloc: Global,
     notes: &mut Notes,
@@ -87,7 +87,7 @@ fn tell_defaults(
     Ok(())
 }
 
-/// Adds which requested package is not a member.
+/// Adds notes that say which requested packages are not members.
 pub fn tell_no_package(
     alloc: Global,
     notes: &mut Notes,
@@ -139,7 +139,7 @@ fn required_by(alloc: Global, binary: &Table) -> Result<String, AllocError> {
     }
 }
 
-/// Adds each `[[bin]]` of this name, if the `[[bin]]` requires features.
+/// Adds a note on each `[[bin]]` of this name, if the `[[bin]]` requires features.
 fn tell_required(
     alloc: Global,
     notes: &mut Notes,
@@ -238,7 +238,7 @@ fn is_met(
     Ok(false)
 }
 
-/// Adds each pattern of `members` that matches no package.
+/// Adds a note on each pattern of `members` that matches no package.
 pub fn tell_patterns(alloc: Global, notes: &mut Notes, pages: &Pages) -> Result<(), AllocError> {
     let Some(root) = pages.root() else {
         return Ok(());
@@ -262,7 +262,7 @@ fn count_of(pages: &Pages) -> usize {
         .count()
 }
 
-/// Adds why there is nothing to build.
+/// Adds notes that say why there is nothing to build.
 pub fn tell_nothing<P: Place>(
     alloc: Global,
     place: &mut P,

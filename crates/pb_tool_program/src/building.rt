@@ -78,8 +78,8 @@ fn moved_notes(alloc: Global, moved: &[Moved]) -> Result<String, AllocError>
     Ok(notes)
 }
 
-/// Writes what was changed during a build. If memory runs out for that, it writes a line that needs
-/// no memory.
+/// Writes what was changed during a build. If memory runs out, writes a line that needs no memory
+/// instead.
 fn mark<E: Out>(alloc: Global, err: &mut E, moved: &[Moved])
     ensures { TellsOr moved_lost (moved_notes moved.now) (E.heard err.old) (E.heard err.new) }
 {
@@ -112,7 +112,7 @@ fn tell_waiting<E: Out>(err: &mut E)
     let _ = write_all(err, b"note: another build has the target folder: waiting\n");
 }
 
-/// Takes a folder. If another build has it, this writes a line and waits.
+/// Takes a folder. If another build has the folder, writes a line and waits.
 pub(crate) fn take<P: Place, G: Guard<P, E>, E: Out>(
     guard: &mut G,
     place: &P,
@@ -128,7 +128,7 @@ pub(crate) fn take<P: Place, G: Guard<P, E>, E: Out>(
     }
 }
 
-/// Takes the target folder of a build's plan. If there is no plan, it requests no folder.
+/// Takes the target folder of a build's plan. If there is no plan, no folder is requested.
 fn hold<P: Place, G: Guard<P, E>, E: Out>(
     guard: &mut G,
     place: &P,
@@ -144,8 +144,8 @@ fn hold<P: Place, G: Guard<P, E>, E: Out>(
     }
 }
 
-/// Writes why a build failed, if its status is not 0. If memory runs out for that, it writes a line
-/// that needs no memory.
+/// Writes why a build failed, if its status is not 0. If memory runs out, writes a line that needs
+/// no memory instead.
 fn tell<E: Out>(alloc: Global, err: &mut E, status: u8, answer: &Result<Summary, BuildFault>)
     ensures { TellsWhy status answer.now (E.heard err.old) (E.heard err.new) }
 {
@@ -178,7 +178,7 @@ fn units_if(explain: bool, plan: &Result<BuildPlan, BuildFault>) -> Option<usize
 }
 
 /// Writes what the child of a build's bad unit printed, except what the message lines contain. If
-/// memory runs out for that, it writes a line that needs no memory.
+/// memory runs out, writes a line that needs no memory instead.
 fn repeat_to<E: Out>(alloc: Global, err: &mut E, answer: &Result<Summary, BuildFault>)
     ensures { TellsSaid answer.now (E.heard err.old) (E.heard err.new) }
 {
@@ -198,8 +198,8 @@ fn repeat_to<E: Out>(alloc: Global, err: &mut E, answer: &Result<Summary, BuildF
     };
 }
 
-/// Writes the detail of a build that failed. If memory runs out for that, it writes a line that
-/// needs no memory.
+/// Writes the detail of a build that failed. If memory runs out, writes a line that needs no memory
+/// instead.
 fn tell_detail<E: Out>(
     alloc: Global,
     err: &mut E,
@@ -249,8 +249,8 @@ pub(crate) fn look<P: Place + Remembering>(
     }
 }
 
-/// Writes the notes of a second look, if there are any. If memory runs out for them, it writes a
-/// line that needs no memory.
+/// Writes the notes of a second look, if there are any. If memory runs out, writes a line that
+/// needs no memory instead.
 fn tell_notes<E: Out>(alloc: Global, err: &mut E, notes: &Notes)
     ensures { TellsOr look_lost (lines_of notes.now) (E.heard err.old) (E.heard err.new) }
 {
@@ -299,7 +299,7 @@ pub(crate) fn conclude<E: Out>(
 /// - What the child of a bad unit printed, except what the message lines contain.
 /// - The sentence of the fault. If a compiler failed and its messages were not rendered, also where
 ///   these messages are.
-/// - What the place reports of a fault of the outside.
+/// - What the place reports of a fault of the outside world.
 /// - The notes of a second look.
 /// - For a build that failed or was refused, `error: ` and its result line.
 ///
@@ -332,7 +332,7 @@ pub fn build_options<P: Noting + Reporting + Remembering, G: Guard<P, E>, O: Out
     let units = units_if(explain, &plan);
     let answer = build_watched(alloc, place, out, line, options, plan);
     let notes = look(alloc, place, options, &answer);
-    // For the proof: they are at most ten lines.
+    // For the proof: the notes are at most ten lines.
     notes.texts();
     mark(alloc, err, place.moved_paths());
     let report = reports_of(place, &answer);

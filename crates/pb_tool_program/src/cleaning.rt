@@ -60,8 +60,8 @@ fn nothing_told(alloc: Global, wanted: Wanted, folder: &PathText) -> Result<Stri
     Ok(text)
 }
 
-/// Writes that a folder contains nothing that is wanted. If memory runs out for that, it writes a
-/// line that needs no memory.
+/// Writes that a folder contains nothing that is wanted. If memory runs out, writes a line that
+/// needs no memory instead.
 fn tell_nothing<E: Out>(alloc: Global, err: &mut E, wanted: Wanted, folder: &PathText)
     ensures { Tells (nothing_told wanted folder.now) (E.heard err.old) (E.heard err.new)
         ⊎ Tells why_lost (E.heard err.old) (E.heard err.new) }
@@ -75,7 +75,7 @@ fn tell_nothing<E: Out>(alloc: Global, err: &mut E, wanted: Wanted, folder: &Pat
     };
 }
 
-/// Returns the fault of a build that has the same name as the fault of a removal.
+/// Returns the fault of a removal as a build's fault. Both faults have the same name.
 fn build_fault_of(fault: CleanFault) -> BuildFault
     ensures { result ≡ build_fault_of fault }
 {
@@ -134,7 +134,7 @@ fn tell_end<P: Place + Reporting, E: Out>(
     }
 }
 
-/// Takes the target folder of what was chosen. If nothing was chosen, it requests no folder.
+/// Takes the target folder of what was chosen. If nothing was chosen, no folder is requested.
 fn hold_found<P: Place, G: Guard<P, E>, E: Out>(
     guard: &mut G,
     place: &P,

@@ -1,4 +1,4 @@
-//! Writes why a build started what it started.
+//! Writes why a build started the children of its units.
 
 ghost use Rattle.std.specs.Prelude.{◌≡◌};
 ghost use Rattle.pb_tool_program.specs.Building.{TellsNoted, TellsReasons, TellsStarted, TellsSummary, reasons_lost};
@@ -18,8 +18,8 @@ fn tell_lost<E: Out>(err: &mut E)
     let _ = write_all(err, b"note: there is no memory to show the reasons\n");
 }
 
-/// Writes why the children of these units were started. If memory runs out for that, it writes a
-/// line that needs no memory.
+/// Writes why the children of these units were started. If memory runs out, writes a line that
+/// needs no memory instead.
 fn tell_reasons<E: Out>(
     alloc: Global,
     err: &mut E,
@@ -53,7 +53,7 @@ fn tell_summary<E: Out>(alloc: Global, err: &mut E, units: usize, summary: &Summ
     tell_reasons(alloc, err, keys, differences, details, kept, units)
 }
 
-/// Writes why a build with this number of units started its children, as this was noted.
+/// Writes why a build with this number of units started its children, by the notes of the place.
 fn tell_started<E: Out>(alloc: Global, err: &mut E, units: usize, noted: &Noted)
     ensures { TellsStarted units noted.now.started noted.now.differences noted.now.details
         noted.now.kept (E.heard err.old) (E.heard err.new) }
@@ -64,8 +64,8 @@ fn tell_started<E: Out>(alloc: Global, err: &mut E, units: usize, noted: &Noted)
     tell_reasons(alloc, err, keys, differences, details, noted.kept, units)
 }
 
-/// Writes why a build with this number of units started its children before its fault, as this was
-/// noted. If memory ran out for a note, it writes only the line that says so.
+/// Writes why a build with this number of units started its children before its fault, by the notes
+/// of the place. If memory ran out for a note, writes only the line that says so.
 fn tell_noted<E: Out>(alloc: Global, err: &mut E, units: usize, noted: &Noted)
     ensures { TellsNoted units noted.now (E.heard err.old) (E.heard err.new) }
 {

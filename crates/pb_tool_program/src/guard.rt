@@ -10,13 +10,13 @@ use pb_place_types::{Out, PathText, Place};
 /// the place, and what `err` has received at the moment of the call. So these contracts say when
 /// the call comes.
 pub trait Guard<P: Place, E: Out> {
-    /// How a folder is requested. The relation has the guard before, the folder, the place's
+    /// How a folder is requested. The relation is between the guard before, the folder, the place's
     /// counters, what `err` has received, whether another build has the folder, and the guard
     /// after.
     ghost asks: { Self → List ℕ → Counts → SinkState → Bool → Self → Type 0 };
 
-    /// How the guard waits for a folder. The relation has the guard before, the place's counters,
-    /// what `err` has received, and the guard after.
+    /// How the guard waits for a folder. The relation is between the guard before, the place's
+    /// counters, what `err` has received, and the guard after.
     ghost waits: { Self → Counts → SinkState → Self → Type 0 };
 
     /// Requests a folder, takes it if it is free, and returns whether another build has the folder.

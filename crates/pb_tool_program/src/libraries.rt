@@ -26,9 +26,9 @@ fn plan_notes(alloc: Global, plan: &BuildPlan) -> Result<String, AllocError>
     notes_of(alloc, packages, plan.project.without_library())
 }
 
-/// Writes which packages have no library although a dependency names them, by the build's plan. If
-/// there are no such packages, it writes nothing. If there is no plan, it writes nothing, and the
-/// build reports why. If memory runs out, it writes a line that needs no memory.
+/// Writes a line for each package of a build's plan that a dependency names and that has no
+/// library. If there is no such package, writes nothing. If there is no plan, writes nothing, since
+/// the build reports why. If memory runs out, writes a line that needs no memory instead.
 pub(crate) fn note<E: Out>(alloc: Global, err: &mut E, plan: &Result<BuildPlan, BuildFault>)
     ensures { NotesOf plan.now (E.heard err.old) (E.heard err.new) }
 {

@@ -30,8 +30,8 @@ fn folder(rt: &HostRuntime) -> io::Result<PathText> {
     }
 }
 
-/// Returns whether the variable `NO_COLOR` says that programs use no colours. This is so if the
-/// variable is set and not empty.
+/// Returns whether the variable `NO_COLOR` is set and not empty. Such a variable requests programs
+/// not to use colours.
 fn has_no_color(rt: &HostRuntime) -> bool {
     match env::var(rt, "NO_COLOR") {
         Ok(value) => !value.is_empty(),
@@ -51,7 +51,7 @@ fn out_of_memory(rt: &HostRuntime) -> u8 {
     FAILED
 }
 
-/// Returns a time in seconds, as `31 s`; below ten seconds with tenths.
+/// Returns a time in seconds, such as `31 s`. A time below ten seconds has tenths.
 fn seconds(rt: &HostRuntime, time: Duration) -> io::Result<String> {
     let whole = time.as_secs();
     let text = if whole < 10 {

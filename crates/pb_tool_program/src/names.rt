@@ -38,7 +38,8 @@ fn no_such_name(alloc: Global, page: &Page, name: &str) -> Result<String, AllocE
     Ok(text)
 }
 
-/// Writes that a page lacks this name, or that memory ran out for that, and returns the status.
+/// Writes that a page does not have this name, and returns the status. If memory runs out for the
+/// line, writes that instead.
 fn miss<E: Out>(alloc: Global, page: &Page, name: &str, err: &mut E) -> u8
     ensures { Unmeant (near_in page.now name.now) name.now result
         (E.heard err.old) (E.heard err.new) }
@@ -55,7 +56,7 @@ fn miss<E: Out>(alloc: Global, page: &Page, name: &str, err: &mut E) -> u8
     }
 }
 
-/// Prints what a name of a result line means, as in a page.
+/// Prints what a name of a result line means, as a page says it.
 pub(crate) fn mean<O: Out, E: Out>(
     alloc: Global,
     page: &Page,

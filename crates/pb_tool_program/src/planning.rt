@@ -92,7 +92,7 @@ pub(crate) fn fail<P: Place + Reporting + Remembering, E: Out>(
 {
     let answer = Err(fault);
     let notes = look(alloc, place, options, &answer);
-    // For the proof: they are at most ten lines.
+    // For the proof: the notes are at most ten lines.
     notes.texts();
     let report = reports_of(place, &answer);
     conclude(

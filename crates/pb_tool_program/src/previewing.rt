@@ -20,8 +20,8 @@ use pb_unit::Planned;
 use pb_workspace_types::Options;
 use std::alloc::Global;
 
-/// Writes what a build would do with the units of a project. If memory runs out for that, it writes
-/// a line that needs no memory.
+/// Writes what a build would do with the units of a project. If memory runs out, writes a line that
+/// needs no memory instead.
 fn tell_fates<E: Out>(alloc: Global, err: &mut E, units: &[Planned], fates: &[Fate])
     ensures { TellsFates units.now fates.now (E.heard err.old) (E.heard err.new) }
 {
@@ -34,7 +34,7 @@ fn tell_fates<E: Out>(alloc: Global, err: &mut E, units: &[Planned], fates: &[Fa
     };
 }
 
-/// Foresees which prepared units would be started, and writes this.
+/// Finds out which prepared units would be started, and writes what it found.
 ///
 /// Errors: those of `foresee`.
 fn look_at<P: Place, E: Out>(
@@ -66,8 +66,8 @@ fn look_at<P: Place, E: Out>(
     }
 }
 
-/// Prepares the units of a plan as a build prepares its units, foresees which units would be
-/// started, and writes this.
+/// Prepares the units of a plan as a build does, finds out which units would be started, and writes
+/// what it found.
 ///
 /// Errors: those of `prepare` and of `foresee`.
 fn look_ahead<P: Place, E: Out>(

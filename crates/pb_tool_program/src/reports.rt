@@ -10,8 +10,8 @@ use pb_place_host::Reporting;
 use pb_place_types::{Out, write_all};
 use std::alloc::{AllocError, Global};
 
-/// Returns what a place reports of a build that ended with a fault of the outside. After any other
-/// end, returns no text. The function makes no call of the outside.
+/// Returns what a place reports of a build that ended with a fault of the outside world. After any
+/// other end, returns no text. The function makes no call of the place.
 pub(crate) fn reports_of<'p, P: Reporting>(
     place: &'p P,
     answer: &Result<Summary, BuildFault>,
@@ -48,8 +48,8 @@ fn report_lines(alloc: Global, texts: &[Text]) -> Result<String, AllocError>
     Ok(lines)
 }
 
-/// Writes what a place reports of a fault, if anything. If memory runs out for that, it writes a
-/// line that needs no memory.
+/// Writes what a place reports of a fault, if anything. If memory runs out, writes a line that
+/// needs no memory instead.
 pub(crate) fn tell_report<E: Out>(alloc: Global, err: &mut E, texts: &[Text])
     ensures { TellsReport texts.now (E.heard err.old) (E.heard err.new) }
 {

@@ -197,8 +197,8 @@ fn copy_at<'a>(kept: &'a Record, folder: &str, path: &PathText) -> Option<&'a Te
 }
 
 impl Comparison {
-    /// Returns whether a call at a path below the folder of all units can belong to the comparison:
-    /// only a record of format 1 has other units compared, file by file.
+    /// Returns whether a call at a path below the folder of all units can belong to the comparison.
+    /// Other units are compared, file by file, only if the record has format 1.
     pub(crate) fn looks_at(&self, folder: &PathText, path: &PathText) -> bool {
         match &self.kept {
             Some(kept) => copy_at(kept, folder.as_str(), path).is_some(),
@@ -275,8 +275,8 @@ impl Comparison {
         };
         let detail = folder_detail(alloc, input, folder, paths)?;
         let seen = at_path(alloc, folder, detail)?;
-        // A path at which a file was recorded is listed only if no file is there. The list says
-        // more.
+        // If the record has a file at the path, a build lists the path only if no file is there.
+        // The list then shows more than the read did.
         if matches!(input, Input::File(_, _)) {
             self.found = None;
         }

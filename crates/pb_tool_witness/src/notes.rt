@@ -104,7 +104,8 @@ fn into_key(comparison: Comparison) -> Text {
     key
 }
 
-/// Adds a unit whose child was started. The key comes last: there is no key without its difference.
+/// Adds a unit whose child was started. The key is added last, so that there is no key without its
+/// difference.
 fn push_started(
     noted: &mut Noted,
     key: Text,
@@ -130,8 +131,8 @@ impl Notes {
         }
     }
 
-    /// Drops what was noted, and sets whether anything is noted from now on, and whether with the
-    /// values of all variables.
+    /// Drops what was noted. Sets whether anything is noted from now on, and whether the notes have
+    /// the values of all variables.
     pub(crate) fn switch(&mut self, alloc: Global, on: bool, values: bool)
         ensures { self.new.on ≡ on }
     {

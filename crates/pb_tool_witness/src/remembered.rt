@@ -9,7 +9,8 @@ use pb_place_types::PathText;
 use std::alloc::{AllocError, Global};
 use std::collections::BTreeMap;
 
-/// The most bytes of texts and paths that are remembered. The second look makes calls for the rest.
+/// The greatest number of bytes of texts and paths that are remembered. The second look makes calls
+/// for the rest.
 const MOST_BYTES: usize = 4_194_304;
 
 /// What a place remembers of a planning.

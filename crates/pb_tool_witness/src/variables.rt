@@ -1,5 +1,6 @@
-//! How a variable differs. Unless the values of all variables are requested, values are shown only
-//! of variables that the builder itself sets: the value of any other variable may be a secret.
+//! How a variable differs. Unless the values of all variables are requested, only values of
+//! variables that the builder itself sets are shown. The value of any other variable may be a
+//! secret.
 
 use crate::values::{values_detail, words_only};
 use pb_tool_reasons::Detail;
@@ -24,7 +25,7 @@ static OWN: &[&str] = &[
     "TARGET",
 ];
 
-/// How the names of the other variables that the builder sets begin.
+/// The beginnings of the names of the other variables that the builder sets.
 static OWN_FIRST: &[&str] = &["CARGO_FEATURE_", "CARGO_PKG_"];
 
 /// Returns whether the builder itself sets a variable of this name.
@@ -59,8 +60,9 @@ pub(crate) fn inherited_detail(
     }
 }
 
-/// Returns how a variable differs, if only one of two commands sets it or they set it to different
-/// texts. `values` says whether its values are shown even if the builder does not set it itself.
+/// Returns how a variable differs, if only one of two commands sets the variable, or the commands
+/// set it to different texts. If `values` is true, the values are shown even if the builder itself
+/// does not set the variable.
 pub(crate) fn variable_detail(
     alloc: Global,
     name: &str,
