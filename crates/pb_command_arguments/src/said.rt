@@ -284,7 +284,7 @@ fn push_binary_links(
     Ok(())
 }
 
-/// Adds the arguments of a library from the run of its package.
+/// Adds the arguments that a library gets from the run of its package.
 fn push_library_own(
     alloc: Global,
     words: &mut Items<Text>,
@@ -298,7 +298,7 @@ fn push_library_own(
     Ok(())
 }
 
-/// Adds the arguments of a binary from the run of its package.
+/// Adds the arguments that a binary gets from the run of its package.
 fn push_binary_own(
     alloc: Global,
     words: &mut Items<Text>,
@@ -315,7 +315,7 @@ fn push_binary_own(
     Ok(())
 }
 
-/// Adds the arguments of a unit from the run of its package.
+/// Adds the arguments that a unit gets from the run of its package.
 fn push_own(
     alloc: Global,
     words: &mut Items<Text>,

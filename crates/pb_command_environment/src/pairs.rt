@@ -181,7 +181,7 @@ fn set_run_at(
     Ok(())
 }
 
-/// Sets the variables of a compile from the run of its own package.
+/// Sets the variables that a compile gets from the run of its own package.
 fn set_own_run(
     alloc: Global,
     all: &mut TextMap,

@@ -11,7 +11,7 @@ ghost use Rattle.pb_command_laws.specs.Starts.{CompilesStart, RunsStart};
 ghost use Rattle.pb_command_laws.specs.Texts.{InfosAreRead, LinesAreTrimmed, OutputsAreRead};
 ghost use Rattle.pb_command_laws.specs.Variables.{CompilesHave, RunsHave};
 
-/// A law: the compiler's own option grammar reads the arguments of a compile back. The result lists
+/// A law: the arguments of a compile, as the compiler's own option grammar reads them. They list
 /// the crate, settings, conditions, folders and libraries of the compile, and then what the user's
 /// flags request.
 pub fn compiles_say()

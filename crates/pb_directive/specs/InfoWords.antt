@@ -15,9 +15,10 @@ abbrev pub IsValue : List ℕ → Type 0
 IsValue [] = Unit {0}
 IsValue (b ∷ value) = b ≡ 61
 
--- What a line without its carriage return names. An empty line names nothing. The line `#
--- env-dep:NAME` or `# env-dep:NAME=VALUE` names a variable. Any other line with `#` names nothing.
--- A rule names the words after its outputs; these words must have no byte 0.
+-- What a line of dep-info names, after a carriage return at its end was removed. An empty line
+-- names nothing. `# env-dep:NAME` or `# env-dep:NAME=VALUE` names a variable. Any other line that
+-- begins with `#` names nothing. A rule names the words after its outputs; these words must have no
+-- byte 0.
 pub data IsInfo (text : List ℕ) : Result DepInfo Problem → Type 0 where
   raw : (is : is_utf8 text ≡ false) → IsInfo text (Err problem.NotText)
   empty : (is : text ≡ []) → IsInfo text (Ok nothing)

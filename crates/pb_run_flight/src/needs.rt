@@ -8,7 +8,7 @@ use crate::flight::{State, is_good_at};
 use pb_data::Items;
 use std::alloc::{AllocError, Global};
 
-/// Adds a unit to the list of a unit that it needs.
+/// Adds `unit` to the list of `need`, which is a unit that `unit` needs.
 fn list_at(lists: &mut Vec<Items<usize>>, need: usize, unit: usize) -> Result<(), AllocError>
     ensures long { length lists.new.items ≡ length lists.old.items }
     ensures listed { OnOk result (need < length lists.old.items
@@ -23,7 +23,7 @@ fn list_at(lists: &mut Vec<Items<usize>>, need: usize, unit: usize) -> Result<()
     Ok(())
 }
 
-/// Adds a unit to the list of each unit that it needs.
+/// Adds `unit` to the lists of the units that `unit` needs.
 fn list_unit(lists: &mut Vec<Items<usize>>, unit: usize, needs: &[usize]) -> Result<(), AllocError>
     ensures long { length lists.new.items ≡ length lists.old.items }
     ensures listed { OnOk result
@@ -49,7 +49,7 @@ fn no_lists(alloc: Global, needs: &[Items<usize>]) -> Result<Vec<Items<usize>>, 
     Ok(lists)
 }
 
-/// Returns the list of the units that need each unit.
+/// Returns a list for each unit: the units that need this unit.
 pub fn needed_by(alloc: Global, needs: &[Items<usize>]) -> Result<Vec<Items<usize>>, AllocError>
     ensures long { IfOk result (λ lists. length lists.items ≡ length needs.now) }
     ensures listed { IfOk result (λ lists. AreListed needs.now (length needs.now) lists.items) }

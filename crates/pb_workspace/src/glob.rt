@@ -59,8 +59,7 @@ fn last_row(alloc: Global, before: &[u8]) -> Result<Row, AllocError>
     Ok(Row { empty: true, cells })
 }
 
-/// Returns the cells of the pattern that begins with `*` and continues as the pattern of these
-/// cells.
+/// Returns the cells of the pattern that consists of `*` and the pattern of the given cells.
 fn star_cells(alloc: Global, empty: bool, cells: &[Cell]) -> Result<Items<Cell>, AllocError>
     ensures { IfOk result (λ made. made ≡ star_cells empty cells.now) }
 {
@@ -76,8 +75,7 @@ fn star_cells(alloc: Global, empty: bool, cells: &[Cell]) -> Result<Items<Cell>,
     Ok(made)
 }
 
-/// Returns the cells of the pattern that begins with `?` and continues as the pattern of these
-/// cells.
+/// Returns the cells of the pattern that consists of `?` and the pattern of the given cells.
 fn one_cells(alloc: Global, empty: bool, cells: &[Cell]) -> Result<Items<Cell>, AllocError>
     ensures { IfOk result (λ made. made ≡ one_cells empty cells.now) }
 {
@@ -97,8 +95,7 @@ fn one_cells(alloc: Global, empty: bool, cells: &[Cell]) -> Result<Items<Cell>, 
     Ok(made)
 }
 
-/// Returns the cells of the pattern that begins with this byte and continues as the pattern of
-/// these cells.
+/// Returns the cells of the pattern that consists of this byte and the pattern of the given cells.
 fn byte_cells(
     alloc: Global,
     byte: u8,
@@ -119,8 +116,7 @@ fn byte_cells(
     Ok(made)
 }
 
-/// Returns the row of the pattern that begins with this byte and continues as the pattern of this
-/// row.
+/// Returns the row of the pattern that consists of this byte and the pattern of the given row.
 fn next_row(alloc: Global, byte: u8, row: &Row) -> Result<Row, AllocError>
     ensures { IfOk result (λ made. made ≡ stepped byte row.now) }
 {

@@ -23,21 +23,22 @@ use std::alloc::{AllocError, Global};
 pub struct Wanted {
     /// The name of the entry in the manifest.
     pub key: Text,
-    /// The table that contains it.
+    /// The table that contains the entry.
     pub kind: DependencyKind,
-    /// The folder of its package.
+    /// The folder of the entry's package.
     pub folder: PathText,
-    /// The name that its package must have.
+    /// The name that the entry's package must have.
     pub name: Text,
-    /// The requirement that its package's version must match.
+    /// The requirement that the version of the entry's package must match.
     pub version: Option<Requirement>,
     /// Whether the name at `package` differs from `key`. False if `package` is not written.
     pub renamed: bool,
     /// Whether the entry is left out unless something enables it.
     pub optional: bool,
-    /// Whether it turns on the feature `default` of its package, if this feature exists.
+    /// Whether the entry turns on the feature `default` of its package, if the package has this
+    /// feature.
     pub default_features: bool,
-    /// The features that it turns on.
+    /// The features that the entry turns on.
     pub features: Items<Text>,
 }
 
