@@ -113,7 +113,8 @@ pub record OnlyAsks {T : Type 0} (May : BuildFault → Starts → Starts → Typ
 abbrev pub variables_asked : List Call
 variables_asked = call.Variable (codes "RUSTC") ∷ call.Variable (codes "RUSTFLAGS") ∷ call.Variable (codes "CARGO_TARGET_DIR") ∷ []
 
--- the calls that plan a build: those that read its variables, and then those that read the workspace
+-- the calls that plan a build: those that read its variables, and then those that read the
+-- workspace
 abbrev pub plan_called : Options → World → List Call
 plan_called options w = variables_asked ++ looked_at options.manifest (environment_of options w.variables).target w
 
@@ -128,7 +129,8 @@ PlanStopsAt e calls old new = StopsAt e calls old new
 abbrev pub PlansInTurn : {T : Type 0} → Result T BuildFault → List Call → Counts → Counts → Type 0
 PlansInTurn result calls old new = MatchResult result (λ x. new ≡ past_calls calls old) (λ e. PlanStopsAt e calls old new)
 
--- How the query ended. The query starts a child by one call, even if the compiler then reports no host.
+-- How the query ended. The query starts a child by one call, even if the compiler then reports no
+-- host.
 abbrev pub AskEnds : BuildFault → Counts → Counts → Type 0
 AskEnds Toolchain old new = new ≡ past_call (one_start old)
 AskEnds e old new = SpawnEnds e old new

@@ -1,4 +1,5 @@
--- What the variables and the options say about a build before any file is read (The Cargo Book, Environment Variables).
+-- What the variables and the options say about a build before any file is read (The Cargo Book,
+-- Environment Variables).
 use Rattle.std.specs.Prelude.{ℕ, ◌==◌, if◌then◌else◌, codes, List, [], length, Option, Some, None, unwrap_or, Result, Ok, Err}
 use Rattle.std.specs.FinMap as finite
 use Rattle.pb_directive.specs.Directives as line
@@ -33,7 +34,8 @@ abbrev pub told_or : List ℕ → List ℕ → Option (List ℕ) → List ℕ
 told_or root other None = other
 told_or root other (Some text) = path_or other (joined root text)
 
--- the target folder: that of `--target-dir`, or else that of `CARGO_TARGET_DIR`, or else `target` in the root
+-- the target folder: that of `--target-dir`, or else that of `CARGO_TARGET_DIR`, or else `target`
+-- in the root
 abbrev pub target_of : List ℕ → Option (List ℕ) → Option (List ℕ) → List ℕ
 target_of root asked variable = told_or root (told_or root (below root (codes "target")) variable) asked
 

@@ -126,7 +126,8 @@ pub record GivesAll (premise : Premise) (child : Answers) (Schedule : Project �
   -- records have or name
   pub numbers : (after : Option ℕ) × NumbersGiven (LacksNumber flown.units.project old.world) flown.es (next_in (records_of options old.world.variables) old.world) after
   pub unnoted : (index : ℕ) → slice_get (states_in flown.units.project flown.es) index ≡ Some Untouched → slice_get flown.reasons index ≡ Some None
-  -- The summary and the lines are those of a clean build, but also say for which units a child was started.
+  -- The summary and the lines are those of a clean build, but also say for which units a child was
+  -- started.
   pub answer : summary ≡ summary_of flown.units.project flown.es flown.reasons (rows_for child options old.world flown.units)
   pub lines : Appends old.heard.taken new.heard.taken (said_from flown.units.project flown.es 0 (rows_for child options old.world flown.units))
   -- the output folder of each good unit contains exactly the files that the unit has in a clean

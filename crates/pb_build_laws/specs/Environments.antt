@@ -49,6 +49,7 @@ ToolchainsAreSaid = (child : Answers) (environment : Environment) (project : Pro
 abbrev pub host_in : List ℕ → Option (List ℕ)
 host_in line = if is_utf8 line && is_host line then Some (drop 6 line) else None
 
--- The compiler's host triple is the first host that a line names, or the empty text if no line names a host.
+-- The compiler's host triple is the first host that a line names, or the empty text if no line
+-- names a host.
 abbrev pub HostsComeFirst : Type 0
 HostsComeFirst = (toolchain : List ℕ) → triple_of toolchain ≡ unwrap_or (slice_get (filter_map host_in (lines_of toolchain)) 0) []

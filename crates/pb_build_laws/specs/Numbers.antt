@@ -33,7 +33,8 @@ numbers_at files path = if ends_as_record path then option_map_or (λ (r : Recor
 abbrev pub NextIsAbove : Type 0
 NextIsAbove = (folder : List ℕ) (w : World) → next_in folder w ≡ after (fold max 0 (flat_map (numbers_at w.files) (listed_directly folder w)))
 
--- A record counts for a key if and only if the record has this key, and its text is that of the key's file.
+-- A record counts for a key if and only if the record has this key, and its text is that of the
+-- key's file.
 abbrev pub RecordsCount : Type 0
 RecordsCount = (folder key : List ℕ) (files : Map) (r : Record)
     → (record_at reading folder files key ≡ Some r) ↔ ((text : List ℕ) × (finite.get files (place_of folder key) ≡ Some text) × (reading text ≡ Some r) × (r.key ≡ key) × (is_key key ≡ true))

@@ -1,4 +1,5 @@
--- Which faults come from outside the rules. Definitions of a build's answer do not have these faults.
+-- Which faults come from outside the rules. Definitions of a build's answer do not have these
+-- faults.
 use Rattle.std.specs.Prelude.{◌≡◌, Bool, true, false, Result, MatchResult, Ok, Err}
 use Rattle.pb_build_result.specs.declared.fault.BuildFault.{BuildFault}
 use Rattle.pb_build_result.specs.declared.fault.BuildFault.TheVariants.{Plan, Toolchain}

@@ -14,7 +14,8 @@ use Rattle.pb_build_session.specs.declared.step.SessionStep.TheVariants.{Build}
 abbrev pub both : Read (List SessionStep) → Read (List SessionStep) → Read (List SessionStep)
 both first second = first >>= (λ a. second >>= (λ b. Ok (a ++ b)))
 
--- if two lists of values are joined, the steps are those of the first list, followed by those of the second
+-- if two lists of values are joined, the steps are those of the first list, followed by those of
+-- the second
 abbrev pub StepsJoin : Type 0
 StepsJoin = (ds es : List Data) → steps_of (items_of (ds ++ es)) ≡ both (steps_of (items_of ds)) (steps_of (items_of es))
 

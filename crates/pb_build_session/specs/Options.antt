@@ -1,4 +1,5 @@
--- The options of a build in a session, which are an object. The keys of this object are our own choice.
+-- The options of a build in a session, which are an object. The keys of this object are our own
+-- choice.
 use Rattle.std.specs.Prelude.{ℕ, Bool, true, false, ◌&&◌, ◌||◌, if◌then◌else◌, codes, List, [], ◌∷◌, Option, Some, None, Ok, Err}
 use Rattle.std.specs.Str.{bytes_eq}
 use Rattle.serde_json.specs.Data.{Data, Items, no_items, item, Members, no_members, member}
@@ -105,7 +106,8 @@ options_of d = some_or BadForm (as_object d) >>= (λ ms. if are_known ms then op
 abbrev pub pick_of : Data → Read PickBy
 pick_of d = text_of d >>= pick_named
 
--- the choice of the unit that begins: the first of those that may begin, unless another choice is requested
+-- the choice of the unit that begins: the first of those that may begin, unless another choice is
+-- requested
 abbrev pub pick_or_first : Option Data → Read PickBy
 pick_or_first None = Ok First
 pick_or_first (Some d) = pick_of d

@@ -1,4 +1,5 @@
--- What a session file contains: a JSON list of objects with one key each. This form is our own choice.
+-- What a session file contains: a JSON list of objects with one key each. This form is our own
+-- choice.
 use Rattle.std.specs.Prelude.{ℕ, if◌then◌else◌, codes, List, [], ◌∷◌, Ok, Err}
 use Rattle.std.specs.Str.{bytes_eq, is_utf8}
 use Rattle.serde_json.specs.Data.{Data, Items, no_items, item}

@@ -1,4 +1,5 @@
--- How units answer, by replay or by a new child, and which calls of the place they make, event by event.
+-- How units answer, by replay or by a new child, and which calls of the place they make, event by
+-- event.
 use Rattle.std.specs.Prelude.{◌≡◌, ℕ, true, false, List, Option, Some, slice_get, ◌⊎◌, ◌∷◌, [], Bool, is_some, None, Result, Ok, Err, IsOk, IfErr, IfOk, IfSome}
 use Rattle.std.specs.FinMap as finite
 use Rattle.pb_build_result.specs.declared.bad_unit.BadUnit.{BadUnit}
@@ -162,7 +163,8 @@ pub record StopsBeginning (b : CallBasis) (index : ℕ) (fault : BuildFault) (w 
 
 -- A unit answers.
 
--- the reply of the child to the command of the unit at this index, given what the child sees of the world
+-- the reply of the child to the command of the unit at this index, given what the child sees of the
+-- world
 abbrev pub reply_by : CallBasis → ℕ → Planned → World → Reply
 reply_by b index u w = b.child (b.command index u) (b.sees index u w)
 

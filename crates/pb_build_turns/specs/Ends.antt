@@ -70,7 +70,8 @@ Dropped (ticket ∷ tickets) old new = (result : Result Ended StartFault) × IfE
 abbrev pub Drained : Counts → Counts → Type 0
 Drained old new = Dropped (map ticket_of_child old.starts.flying) old new
 
--- the units of a build context with their outcomes in a clean build, up to and including the first bad unit
+-- the units of a build context with their outcomes in a clean build, up to and including the first
+-- bad unit
 abbrev pub rows_in : BuildContext → List Row
 rows_in b = rows_of b.child b.setup b.project b.sources
 

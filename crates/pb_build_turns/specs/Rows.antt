@@ -1,4 +1,5 @@
--- The outcomes of a build's units, one after another in plan order, and what a build reports about the units.
+-- The outcomes of a build's units, one after another in plan order, and what a build reports about
+-- the units.
 use Rattle.std.specs.Prelude.{ℕ, suc, Bool, true, false, ◌==◌, ◌+◌, List, [], ◌∷◌, ◌++◌, length, take, Option, Some, None, if◌then◌else◌, slice_get, is_none}
 use Rattle.std.specs.List.{flat_map}
 use Rattle.pb_build_result.specs.declared.bad_unit.BadUnit.{BadUnit}
@@ -136,7 +137,8 @@ summary_of project es reasons rows = record {
   directives = directives_told rows;
 }
 
--- The same reports, made from the answers. These definitions also work over a place that is not modelled.
+-- The same reports, made from the answers. These definitions also work over a place that is not
+-- modelled.
 
 abbrev pub fault_of : State BadUnit → Option BadUnit
 fault_of Untouched = None

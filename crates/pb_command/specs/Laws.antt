@@ -25,7 +25,8 @@ abbrev pub LastValuesCount : Type 0
 LastValuesCount = (setup : Setup) (project : Project) (unit : Planned) (done : List (Option (List Directive))) (p : Package) (name : List ℕ)
     → value_at name (pairs_of setup project unit done p) ≡ last_value name (composed setup project unit done p)
 
--- Libraries are sorted by their names and then by their paths. This is so because a name has no byte 0.
+-- Libraries are sorted by their names and then by their paths. This is so because a name has no
+-- byte 0.
 abbrev pub LibrariesInOrder : Type 0
 LibrariesInOrder = (name other path next : List ℕ) → has_byte_0 name ≡ false → has_byte_0 other ≡ false
     → slice_cmp nat_cmp (extern_key name path) (extern_key other next) ≡ ordering_then (slice_cmp nat_cmp name other) (slice_cmp nat_cmp path next)

@@ -58,7 +58,8 @@ search_words unit done = flat_map (searched_words done) unit.reaches
 abbrev pub condition_words : List Directive → List (List ℕ)
 condition_words said = flat_map condition_word said ++ flat_map check_word said
 
--- the linker flags of a binary: those for all targets, those for all binaries, and those for this binary
+-- the linker flags of a binary: those for all targets, those for all binaries, and those for this
+-- binary
 abbrev pub argument_words : List ℕ → List Directive → List (List ℕ)
 argument_words name said = flat_map argument_word said ++ flat_map binaries_word said ++ flat_map (binary_word name) said
 

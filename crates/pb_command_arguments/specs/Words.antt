@@ -118,6 +118,7 @@ active_words project unit = flat_map feature_word (features_at project.features 
 unfoldable pub expected_words : List Feature → List (List ℕ)
 expected_words features = option (codes "--check-cfg") (expected_text features)
 
--- the options for the features that are on, followed by the option that names all features of the package
+-- the options for the features that are on, followed by the option that names all features of the
+-- package
 abbrev pub feature_words : Project → Planned → Package → List (List ℕ)
 feature_words project unit p = active_words project unit ++ expected_words p.features

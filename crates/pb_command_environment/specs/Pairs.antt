@@ -139,7 +139,8 @@ abbrev pub released_text : Result (List Seen) ProfileFault → List ℕ
 released_text (Ok line) = if is_released line then codes "release" else codes "debug"
 released_text (Err fault) = codes "debug"
 
--- `release` for the profile `release` and for each profile that inherits from it; `debug` for any other profile
+-- `release` for the profile `release` and for each profile that inherits from it; `debug` for any
+-- other profile
 abbrev pub profile_word : Project → List ℕ
 profile_word project = released_text (checked_line project.workspace.profiles project.profile)
 

@@ -40,7 +40,8 @@ pub data IsLibrary (project : Project) (unit : Planned) (p : Package) : List ℕ
 abbrev pub by_name : List ℕ × List ℕ → List ℕ × List ℕ → Ordering
 by_name a b = ordering_then (slice_cmp nat_cmp a.0 b.0) (slice_cmp nat_cmp a.1 b.1)
 
--- The libraries are exactly those of which `Is` is true, sorted by name and file, and each occurs once.
+-- The libraries are exactly those of which `Is` is true, sorted by name and file, and each occurs
+-- once.
 pub record AreLibraries (Is : List ℕ → List ℕ → Type 0) (libraries : List (List ℕ × List ℕ)) : Type 0 where
   pub order : IsStrictlySortedBy by_name libraries
   pub same : (library : List ℕ × List ℕ) → Contains libraries library ↔ Is library.0 library.1

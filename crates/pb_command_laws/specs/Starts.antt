@@ -1,4 +1,5 @@
--- What a command starts, in which folder, and what it may read (The Cargo Book, cargo build, Build Scripts).
+-- What a command starts, in which folder, and what it may read (The Cargo Book, cargo build, Build
+-- Scripts).
 use Rattle.std.specs.Prelude.{◌≡◌, ℕ, true, false, List, [], ◌∷◌, ◌++◌, map, Option, Some}
 use Rattle.std.specs.List.{filter_map}
 use Rattle.pb_directive.specs.declared.directive.Directive.{Directive}

@@ -96,7 +96,8 @@ source_by p Run = []
 abbrev pub file_in : List ℕ → List ℕ → Option (List ℕ)
 file_in folder name = if is_relative name then Some (below folder name) else None
 
--- the file to which a crate is compiled: `libC.rlib` for a library, and `C` for a binary or a script
+-- the file to which a crate is compiled: `libC.rlib` for a library, and `C` for a binary or a
+-- script
 abbrev pub file_by : What → List ℕ → List ℕ → Option (List ℕ)
 file_by Lib folder name = file_in folder (codes "lib" ++ name ++ codes ".rlib")
 file_by (Bin binary) folder name = file_in folder name

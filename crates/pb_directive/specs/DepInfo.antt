@@ -1,4 +1,5 @@
--- Which files and variables a compiler's dep-info names (The Cargo Book, "Build Cache", "Dep-Info Files").
+-- Which files and variables a compiler's dep-info names (The Cargo Book, "Build Cache", "Dep-Info
+-- Files").
 use Rattle.std.specs.Prelude.{◌≡◌, ◌≢◌, ℕ, ◌+◌, ◌==◌, ◌&&◌, not, Bool, true, List, [], ◌∷◌, ◌++◌, if◌then◌else◌, codes, filter, is_some, Option, Some, None, Result, Ok, Err, MatchResult}
 use Rattle.std.specs.List.{onto_first, before_first}
 use Rattle.std.specs.Str.Lines.{strip_carriage_return}
@@ -38,7 +39,8 @@ abbrev pub after_outputs : List ℕ → Option (List ℕ)
 after_outputs [] = None
 after_outputs (b ∷ bytes) = if (b == colon) && ends_outputs bytes then Some bytes else after_outputs bytes
 
--- The parts between spaces. The bytes `\ ` are a space inside a part, and any other `\` stands for itself.
+-- The parts between spaces. The bytes `\ ` are a space inside a part, and any other `\` stands for
+-- itself.
 abbrev pub parts_of : List ℕ → List (List ℕ)
 parts_of [] = [] ∷ []
 parts_of (b ∷ []) = if b == space then [] ∷ [] ∷ [] else (b ∷ []) ∷ []

@@ -1,4 +1,5 @@
--- What a build script's output means (The Cargo Book, "Build Scripts", "Outputs of the Build Script").
+-- What a build script's output means (The Cargo Book, "Build Scripts", "Outputs of the Build
+-- Script").
 use Rattle.std.specs.Prelude.{◌≡◌, ◌≢◌, ℕ, ◌+◌, ◌==◌, not, Bool, List, [], ◌∷◌, ◌++◌, if◌then◌else◌, codes, length, filter, Option, Some, None, Result, Ok, Err, MatchResult}
 use Rattle.std.specs.List.{slice_split}
 use Rattle.std.specs.Str.{bytes_eq}

@@ -12,7 +12,8 @@ use Rattle.pb_feature.specs.Faults.{package_fault}
 abbrev pub is_lesser : Package → Package → Bool
 is_lesser p q = is_lt (slice_cmp nat_cmp p.name q.name)
 
--- The package at this index has this fault. Of the first n packages, none with a lesser name has a fault.
+-- The package at this index has this fault. Of the first n packages, none with a lesser name has a
+-- fault.
 pub record IsFirstBelow (ps : List Package) (n index : ℕ) (fault : FeatureFault) : Type 0 where
   pub owner : Package
   pub package_at : slice_get ps index ≡ Some owner

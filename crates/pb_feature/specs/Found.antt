@@ -1,4 +1,5 @@
--- What an entry at an index yields, if there is such an entry. Only private functions need these definitions.
+-- What an entry at an index yields, if there is such an entry. Only private functions need these
+-- definitions.
 use Rattle.std.specs.Prelude.{ℕ, Bool, List, Option, Some, None, slice_get}
 use Rattle.pb_manifest_types.specs.declared.feature.FeatureItem.{FeatureItem}
 use Rattle.pb_manifest_types.specs.declared.feature.FeatureItem.TheVariants.{Own, Dependency, Of, OfEnabled}

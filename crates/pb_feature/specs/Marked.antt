@@ -1,4 +1,5 @@
--- How the resolved features are made from marked numbers. Only private functions need these definitions.
+-- How the resolved features are made from marked numbers. Only private functions need these
+-- definitions.
 use Rattle.std.specs.Prelude.{◌≡◌, ℕ, ◌+◌, ◌<◌, Bool, true, false, List, [], ◌∷◌, length, if◌then◌else◌}
 use Rattle.pb_manifest_types.specs.declared.feature.Feature.{Feature}
 use Rattle.pb_workspace_types.specs.declared.package.Side.{Side}

@@ -14,7 +14,8 @@ use Rattle.pb_workspace_types.specs.declared.package.Package.{Package}
 abbrev pub width_of : Package → ℕ
 width_of p = length p.features + length p.entries + 2
 
--- The numbers at which the rows of the packages begin. `end_from` is the number at which the last row ends.
+-- The numbers at which the rows of the packages begin. `end_from` is the number at which the last
+-- row ends.
 abbrev pub bases_from : ℕ → List Package → List ℕ
 bases_from base [] = []
 bases_from base (p ∷ ps) = base ∷ bases_from (base + width_of p) ps

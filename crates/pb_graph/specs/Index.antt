@@ -10,7 +10,8 @@ abbrev pub link_at : List Link → ℕ → Option Link
 link_at links zero = None
 link_at links (suc place) = slice_get links place
 
--- a link is read if it has the given number, or if the chain of `next` numbers from there comes to it
+-- a link is read if it has the given number, or if the chain of `next` numbers from there comes to
+-- it
 pub data IsRead (links : List Link) : ℕ → Link → Type 0 where
   at_once : (n : ℕ) (l : Link) (at : link_at links n ≡ Some l) → IsRead links n l
   behind : (n : ℕ) (m l : Link) (at : link_at links n ≡ Some m) (read : IsRead links m.next l) → IsRead links n l
@@ -24,7 +25,8 @@ pub record HasLink (heads : List ℕ) (links : List Link) (x y z : ℕ) : Type 0
   pub next : ℕ
   pub read : IsRead links (head_at heads x) (record { with = y; gives = z; next = next })
 
--- the heads and links after one more link is added for a thing, in front of the links that the thing had
+-- the heads and links after one more link is added for a thing, in front of the links that the
+-- thing had
 abbrev pub with_link : List ℕ × List Link → ℕ → ℕ → ℕ → List ℕ × List Link
 with_link s x y z = (slice_set s.0 x (length s.1 + 1), s.1 ++ record { with = y; gives = z; next = head_at s.0 x } ∷ [])
 

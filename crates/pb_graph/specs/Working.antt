@@ -60,7 +60,8 @@ pub record IsExtent (nodes : List Node) (e : Extent) : Type 0 where
   pub count : e.count ≡ length reached
   pub turns : IsTrue e.turns ↔ Reaches nodes e.node e.node
 
--- the level of each node in the list is one more than the greatest level of its needs, or 0 if it needs nothing
+-- the level of each node in the list is one more than the greatest level of its needs, or 0 if it
+-- needs nothing
 pub record AreLevels (nodes : List Node) (list levels : List ℕ) : Type 0 where
   pub long : length levels ≡ length nodes
   pub each : (v : ℕ) → Contains list v → slice_index levels v ≡ above (map (slice_index levels) (needs_at nodes v))
@@ -106,7 +107,8 @@ pub record ArePlacesBy (places list found : List ℕ) : Type 0 where
   pub rises : IsStrictlyIncreasing found
   pub same : (place : ℕ) → Contains found place ↔ Contains (map (slice_index places) list) place
 
--- a step has its rank's node, key and level, and the indices of the nodes that this node needs and reaches
+-- a step has its rank's node, key and level, and the indices of the nodes that this node needs and
+-- reaches
 pub record IsPlaced (nodes : List Node) (places : List ℕ) (rank : Rank) (p : Step) : Type 0 where
   pub node : p.node ≡ rank.node
   pub key : p.key ≡ rank.key

@@ -38,7 +38,8 @@ written d = written_from (as_bool d) (as_integer d) (as_str d)
 unfoldable pub setting_in : ProfileKey → Data → Option Setting
 setting_in k d = option_and_then (meaning_at k) (written d)
 
--- the value at a key of a profile; the key may be missing, but a value that cannot be read is refused
+-- the value at a key of a profile; the key may be missing, but a value that cannot be read is
+-- refused
 abbrev pub profile_value : {A : Type 0} → (Data → Option A) → Key → Members → Read (Option A)
 profile_value reads k ms = optional (λ d. some_or BadProfile (reads d)) (value_at k ms)
 

@@ -38,7 +38,8 @@ abbrev pub each : {A : Type 0} → (Data → Read A) → Items → Read (List A)
 each read no_items = Ok []
 each read (item d ds) = read d >>= (λ x. each read ds >>= (λ xs. Ok (x ∷ xs)))
 
--- the values that are read from the entries one by one, in byte order of the keys, or the first fault
+-- the values that are read from the entries one by one, in byte order of the keys, or the first
+-- fault
 abbrev pub each_entry : {A : Type 0} → (Text → Data → Read A) → Members → Read (List A)
 each_entry read no_members = Ok []
 each_entry read (member name d ms) = read name d >>= (λ x. each_entry read ms >>= (λ xs. Ok (x ∷ xs)))
@@ -140,7 +141,8 @@ abbrev pub is_taken : Key → Option Members → Read Bool
 is_taken k None = Ok false
 is_taken k (Some ms) = if takes_workspace ms then Ok true else Err (BadKind k)
 
--- a value that is either written or, by `{ workspace = true }`, inherited (The Cargo Book, Workspaces)
+-- a value that is either written or, by `{ workspace = true }`, inherited (The Cargo Book,
+-- Workspaces)
 abbrev pub written_or_taken : {A : Type 0} → Key → (Data → Read A) → Data → Read (Inheritable A)
 written_or_taken k read d = is_taken k (as_table d) >>= (λ taken. if taken then Ok Workspace else (read d >>= (λ x. Ok (Written x))))
 

@@ -28,7 +28,8 @@ use Rattle.pb_manifest_laws.specs.Values.{texts, IsPath, OptionalMeans, HoldsVal
 abbrev pub edition : Edition → Data
 edition e = string (edition_text e)
 
--- the value of `build`: `true` means the file `build.rs`, `false` means no build script, and a text is a path
+-- the value of `build`: `true` means the file `build.rs`, `false` means no build script, and a text
+-- is a path
 abbrev pub IsBuild : Option Data → Build → Type 0
 IsBuild found build.Discovered = found ≡ None
 IsBuild found build.Standard = found ≡ Some (boolean true)

@@ -49,7 +49,8 @@ HoldsOrTakes write found (Written x) = found ≡ Some (write x)
 HoldsOrTakes write found Workspace = TakesWorkspace found
 HoldsOrTakes write found Absent = found ≡ None
 
--- This value or `{ workspace = true }` is written at a key. If the key is missing, the value is the default.
+-- This value or `{ workspace = true }` is written at a key. If the key is missing, the value is the
+-- default.
 abbrev pub HasOrTakes : {A : Type 0} → A → (A → Data) → Option Data → Inherited A → Type 0
 HasOrTakes default write found (inherited.Written x) = HoldsOr default write found x
 HasOrTakes default write found inherited.Workspace = TakesWorkspace found

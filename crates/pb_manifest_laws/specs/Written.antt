@@ -130,7 +130,8 @@ abbrev pub with_row : List ℕ × Option Data → Rows → Rows
 with_row row [] = row ∷ []
 with_row row (other ∷ rows) = if is_lt (slice_cmp nat_cmp row.0 other.0) then row ∷ other ∷ rows else other ∷ with_row row rows
 
--- The rows of a profile: its settings and its other keys. The rows of an override are only its settings.
+-- The rows of a profile: its settings and its other keys. The rows of an override are only its
+-- settings.
 abbrev pub profile_rows : Option Data → Option (List ℕ) → Option Data → Said → Rows
 profile_rows override inherits packages said =
     with_row (codes "build-override", override) (with_row (codes "inherits", option_map string inherits) (with_row (codes "package", packages) (map (key_row said) keys)))

@@ -1,4 +1,5 @@
--- How a text is split at a byte. The items of features are split in this way (The Cargo Book, Features).
+-- How a text is split at a byte. The items of features are split in this way (The Cargo Book,
+-- Features).
 use Rattle.std.specs.Prelude.{ℕ, ◌==◌, if◌then◌else◌, Option, Some, None, length}
 use Rattle.std.specs.List.{before_first, after_first, position_or_len}
 use Rattle.pb_manifest_types.specs.Values.{Text}

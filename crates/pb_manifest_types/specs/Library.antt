@@ -1,4 +1,5 @@
--- How crate types are spelled, and how a package's library is named (The Cargo Book, Cargo Targets).
+-- How crate types are spelled, and how a package's library is named (The Cargo Book, Cargo
+-- Targets).
 use Rattle.std.specs.Prelude.{ℕ, List, [], ◌∷◌, map, Option, Some, None, codes}
 use Rattle.pb_manifest_types.specs.Letters.{underscored}
 use Rattle.pb_manifest_types.specs.Values.{Text}
@@ -21,7 +22,8 @@ abbrev pub named_or : Option Text → Text → Text
 named_or None default = default
 named_or (Some own) default = own
 
--- the name of a package's library: its written name, or else the package's name with `_` for each `-`
+-- the name of a package's library: its written name, or else the package's name with `_` for each
+-- `-`
 abbrev pub library_name : Text → Option Library → Text
 library_name name None = underscored name
 library_name name (Some library) = named_or library.name (underscored name)

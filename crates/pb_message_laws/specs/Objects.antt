@@ -42,7 +42,8 @@ abbrev pub target_of : Target → Data
 target_of t = of_members ((codes "kind", texts t.kinds) ∷ (codes "crate_types", texts t.crate_types) ∷ (codes "name", string t.name) ∷ (codes "src_path", string t.source)
     ∷ (codes "edition", string (edition_text t.edition)) ∷ required t.required_features)
 
--- the setting for debug information: the compiler's own word for it, or a number if this word is a number
+-- the setting for debug information: the compiler's own word for it, or a number if this word is a
+-- number
 abbrev pub debug_info_of : Word → Data
 debug_info_of w = option_map_or (λ n. number (unsigned n)) (position (bytes_eq (spelled w)) (codes "0" ∷ codes "1" ∷ codes "2" ∷ [])) (string (spelled w))
 

@@ -100,7 +100,8 @@ abbrev pub variable_in : Directive → Option (List ℕ × List ℕ)
 variable_in (says.Env name value) = Some (name, value)
 variable_in _ = None
 
--- the message for an executed script, with all that the script passes to the compiler, in printed order
+-- the message for an executed script, with all that the script passes to the compiler, in printed
+-- order
 abbrev pub executed : Planned → List Directive → Message
 executed u directives = BuildScriptExecuted record {
   linked_libraries = filter_map library_in directives;

@@ -68,7 +68,8 @@ joined a b = record {
 abbrev pub after : Arguments → Result Arguments CommandLineFault → Result Arguments CommandLineFault
 after said more = more >>= (λ rest. Ok (joined said rest))
 
--- The values of these arguments. If an option waits for its value, the first argument is that value.
+-- The values of these arguments. If an option waits for its value, the first argument is that
+-- value.
 abbrev pub arguments_after : Option Role → List (List ℕ) → Result Arguments CommandLineFault
 arguments_after None [] = Ok no_arguments
 arguments_after (Some role) [] = Err Bad
@@ -131,7 +132,8 @@ settled_by said =
       source = source;
     })))))))
 
--- the command line that the arguments mean: the values that a compile needs, the libraries and the conditions
+-- the command line that the arguments mean: the values that a compile needs, the libraries and the
+-- conditions
 abbrev pub command_line_of : List (List ℕ) → Result CommandLine CommandLineFault
 command_line_of words =
     arguments_after None words >>= (λ said.

@@ -49,7 +49,8 @@ abbrev pub title : CrateType → List ℕ
 title Bin = codes "mini bin "
 title Lib = codes "mini lib "
 
--- the content of the image: the line `mini bin NAME` or `mini lib NAME`, and then the lines that were added
+-- the content of the image: the line `mini bin NAME` or `mini lib NAME`, and then the lines that
+-- were added
 abbrev pub image_text : CommandLine → List ℕ → List ℕ
 image_text line lines = ended (title line.crate_type ++ line.crate_name) ++ lines
 

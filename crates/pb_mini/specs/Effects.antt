@@ -1,4 +1,5 @@
--- The effects of lines. A line may add bytes to the image, report a diagnostic, and name what it reads.
+-- The effects of lines. A line may add bytes to the image, report a diagnostic, and name what it
+-- reads.
 use Rattle.std.specs.Prelude.{◌≡◌, ℕ, List, [], ◌∷◌, ◌++◌, Option, Some, None}
 use Rattle.pb_data.specs.OrderedSet.{mentioned_all}
 use Rattle.pb_data.specs.Table.{with_entries}
@@ -57,6 +58,7 @@ followed_by kept more = record { image = kept.image ++ more.image; diagnostics =
 abbrev pub names_once : Effects → Effects
 names_once done = followed_by no_effects done
 
--- the new effects are the old ones followed by `effect`, whatever effects come later
+-- The new effects are the old effects followed by `effect`. More exactly, the two sides are equal
+-- after any effects `later` are appended to both.
 abbrev pub AddsEffect : Effects → Effects → Effects → Type 0
 AddsEffect new old effect = (later : Effects) → followed_by new later ≡ followed_by old (joined effect later)

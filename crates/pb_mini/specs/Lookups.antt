@@ -1,4 +1,5 @@
--- What a command line and a source can look up in the world: files by their paths, and the values of variables.
+-- What a command line and a source can look up in the world: files by their paths, and the values
+-- of variables.
 use Rattle.std.specs.Prelude.{ℕ, List, Option, Some, None, option_and_then, Result, Ok, Err}
 use Rattle.std.specs.Option.{option_or}
 use Rattle.std.specs.FinMap as map

@@ -24,7 +24,8 @@ no_output = record { stdout = []; files = [] }
 abbrev pub before : Output → Reply → Reply
 before output reply = record reply { stdout = output.stdout ++ reply.stdout; files = output.files ++ reply.files }
 
--- ---- the step of a line: it writes something and the script continues, or the script ends with a status
+-- ---- the step of a line: it writes something and the script continues, or the script ends with a
+-- status
 
 pub data Step : Type 0 where
   Writes : (output : Output) → Step
@@ -134,7 +135,8 @@ step_of pairs w line = step_in pairs w (text_of line)
 
 -- ---- a script
 
--- the reply after a step: its output and the rest of the script, or only the status if the script has ended
+-- the reply after a step: its output and the rest of the script, or only the status if the script
+-- has ended
 abbrev pub after_step : Step → Reply → Reply
 after_step (Writes output) reply = before output reply
 after_step (Ends status) reply = ending status

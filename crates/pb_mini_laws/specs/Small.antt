@@ -24,7 +24,8 @@ use Rattle.pb_build.specs.Session.{Point, Carries, Course, ByPicked}
 
 -- One build.
 
--- for each unit of a project, the small compiler can report what it reads, given the unit's command and view
+-- for each unit of a project, the small compiler can report what it reads, given the unit's command
+-- and view
 abbrev pub CanTellUnits : Setup → Project → World → Type 0
 CanTellUnits setup project sources = (index : ℕ) (u : Planned) → unit_at project index ≡ Some u
     → CanTell (command_after setup project (take index (outcomes small_compiler setup project sources)) u) (view_of (take index (outcomes small_compiler setup project sources)) sources u)

@@ -36,7 +36,8 @@ abbrev pub writes_in : List ℕ → List (List ℕ × List ℕ) → List Call
 writes_in folder [] = []
 writes_in folder (file ∷ files) = call.Write (below folder file.0) ∷ writes_in folder files
 
--- the counters after these files were put into a folder, by one call for each; without a folder no call is made
+-- the counters after these files were put into a folder, by one call for each; without a folder no
+-- call is made
 abbrev pub past_puts : Option (List ℕ) → List (List ℕ × List ℕ) → Counts → Counts
 past_puts None files c = c
 past_puts (Some folder) files c = past_calls (writes_in folder files) c

@@ -1,4 +1,5 @@
--- The state of a place in memory: its maps, its counters, its children in flight, and which calls will fail.
+-- The state of a place in memory: its maps, its counters, its children in flight, and which calls
+-- will fail.
 use Rattle.std.specs.Prelude.{ℕ, ◌==◌, ◌||◌, Bool, true, false, not, List, [], ◌∷◌, Option, Some, None, refl, if◌then◌else◌}
 use Rattle.std.specs.List.{list_any}
 use Rattle.std.specs.FinMap as map
@@ -22,7 +23,8 @@ pub record Held : Type 0 where
   pub world : World
   -- the counters of the place, except for the children in flight
   pub tally : Counts
-  -- the children in flight; each entry has the fault that the child's end will return, if there is one
+  -- the children in flight; each entry has the fault that the child's end will return, if there is
+  -- one
   pub flying : List (Flying (Option StartFault))
   -- the greatest number of children that were ever in flight at once
   pub most : ℕ
@@ -43,7 +45,8 @@ at_in h = record { world = h.world; counts = counts_in h; most = h.most; still =
 abbrev pub no_held : Held
 no_held = record { world = record { files = map.empty; variables = map.empty }; tally = no_calls; flying = []; most = 0; fuse = 0; deaths = [] }
 
--- A call may fail if a fuse is set, if a death waits, or if a child in flight will end with a fault.
+-- A call may fail if a fuse is set, if a death waits, or if a child in flight will end with a
+-- fault.
 abbrev pub is_doomed : Flying (Option StartFault) → Bool
 is_doomed f = not (is_none f.kept)
   where

@@ -12,8 +12,8 @@ use Rattle.pb_place.specs.Fuses.{SpawnRefused, UsedByStart, deaths_after}
 use Rattle.pb_place.specs.InFlight.{children_in, other_entries}
 use Rattle.pb_place.specs.Memory.{Held, fate_at, fate_of}
 
--- A spawn for this folder fails if and only if the fuse is 1 or the first death for the folder is `CannotStart`.
--- Any other spawn may run out of memory.
+-- A spawn for this folder fails if and only if the fuse is 1 or the first death for the folder is
+-- `CannotStart`. Any other spawn may run out of memory.
 pub record SpawnFails (out : Option (List ℕ)) (result : Result ℕ StartFault) (old : Held) : Type 0 where
   pub fails_now : old.fuse ≡ 1 → result ≡ Err start.CannotStart
   pub spawn_fails : old.fuse ≢ 1 → fate_of out old.deaths ≡ Some start.CannotStart → result ≡ Err start.CannotStart

@@ -23,15 +23,18 @@ AreOutside left_out paths = All (λ path. is_left_out left_out path ≡ false) p
 abbrev pub AreOrdered : List (List ℕ) → Type 0
 AreOrdered paths = IsSorted (slice_cmp nat_cmp) paths
 
--- the files found so far are strictly below the folder, and the folders still to be listed are at or below it
+-- the files found so far are strictly below the folder, and the folders still to be listed are at
+-- or below it
 pub record StaysBelow (folder : List ℕ) (found : Found) : Type 0 where
   pub files : AreBelow folder found.files.items
   pub waiting : All (λ waiting. is_at_or_below folder waiting.folder ≡ true) found.waiting.items
 
--- If the old state stays below a folder that is at or above `here`, the new state stays below this folder, too.
+-- If the old state stays below a folder that is at or above `here`, the new state stays below this
+-- folder, too.
 abbrev pub KeepsBelow : List ℕ → Found → Found → Type 0
 KeepsBelow here old new = (above : List ℕ) → is_at_or_below above here ≡ true → StaysBelow above old → StaysBelow above new
 
--- if all files found before are outside the folder that is left out, so are the files found afterwards
+-- if all files found before are outside the folder that is left out, so are the files found
+-- afterwards
 abbrev pub KeepsOutside : Option (List ℕ) → Found → Found → Type 0
 KeepsOutside left_out old new = AreOutside left_out old.files.items → AreOutside left_out new.files.items

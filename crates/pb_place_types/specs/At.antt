@@ -61,7 +61,8 @@ pub record Spawns (child : Answers) (command : Command) (result : Result ℕ Sta
   pub still : StaysStill old.counts.starts.flying old.world new.world old.still new.still
   pub fault : IfErr result (λ e. e ≢ start.OutOfMemory → e ≡ start.CannotStart)
 
--- The place waits for the ticket's child. Whatever the result, this child is no longer in flight afterwards.
+-- The place waits for the ticket's child. Whatever the result, this child is no longer in flight
+-- afterwards.
 pub record Finishes (ticket : ℕ) (result : Result Ended StartFault) (old new : At) : Type 0 where
   pub only : IfSome (child_at ticket old.counts.starts.flying) (λ spawned. ChangesOnlyInSome spawned.command.out old.world new.world)
   pub counts : new.counts ≡ counted_finish ticket result old.counts
@@ -74,5 +75,6 @@ pub record Starts (command : Command) (result : Result Ended StartFault) (old ne
   pub only : ChangesOnlyInSome command.out old.world new.world
   pub counts : new.counts ≡ counted_start result old.counts
   pub most : OnOk result (new.most ≡ max old.most (length old.counts.starts.flying + 1))
-  -- `most` after an error: unchanged if the error came before the spawn, and updated if it came later
+  -- `most` after an error: unchanged if the error came before the spawn, and updated if it came
+  -- later
   pub most_else : OnErr result ((new.most ≡ old.most) ⊎ (new.most ≡ max old.most (length old.counts.starts.flying + 1)))

@@ -27,7 +27,8 @@ past_calls (call ∷ calls) c = past_calls calls (past_call c)
 abbrev pub Fails : PlaceFault → Call → Counts → Counts → Type 0
 Fails fault call old new = (fault ≡ own_fault call) × (new ≡ past_place_fault call fault old)
 
--- One of these calls failed with this fault. All calls before it succeeded, and no call came after it.
+-- One of these calls failed with this fault. All calls before it succeeded, and no call came after
+-- it.
 abbrev pub FailsAt : PlaceFault → List Call → Counts → Counts → Type 0
 FailsAt fault [] old new = ⊥
 FailsAt fault (call ∷ calls) old new = Fails fault call old new ⊎ FailsAt fault calls (past_call old) new
@@ -48,7 +49,8 @@ pub record TellsTurn (fault : PlaceFault) (calls : List Call) (old new : Counts)
   pub own : fault ≡ own_fault call
   pub turn : new.calls ≡ old.calls + length before + 1
 
--- if the calls of a sequence can all be counted, the counters determine the failed call as `TellsTurn` says
+-- if the calls of a sequence can all be counted, the counters determine the failed call as
+-- `TellsTurn` says
 abbrev pub FaultTellsTurn : Type 0
 FaultTellsTurn = (fault : PlaceFault) (calls : List Call) (old new : Counts) → fault ≢ place.OutOfMemory → old.calls + length calls ≤ 0xffff_ffff_ffff_ffff
     → FailsAt fault calls old new → TellsTurn fault calls old new

@@ -35,12 +35,14 @@ abbrev pub child_at : ℕ → List ChildInFlight → Option ChildInFlight
 child_at ticket [] = None
 child_at ticket (f ∷ fs) = if f.ticket == ticket then Some f else child_at ticket fs
 
--- the greatest number of children ever in flight, after a spawn; `n` are in flight if the spawn succeeds
+-- the greatest number of children ever in flight, after a spawn; `n` are in flight if the spawn
+-- succeeds
 abbrev pub most_after : {T : Type 0} → Result T StartFault → ℕ → ℕ → ℕ
 most_after (Ok x) n m = max m n
 most_after (Err e) n m = m
 
--- the map whose files below the folder are those of `before`, and whose other files are those of `now`
+-- the map whose files below the folder are those of `before`, and whose other files are those of
+-- `now`
 abbrev pub put_back : List ℕ → Map → Map → Map
 put_back out before now = over before (map.retain_keys now (λ q. not (is_below out q)))
 

@@ -69,7 +69,8 @@ up n = min (n + 1) 0xffff_ffff_ffff_ffff
 abbrev pub up_starts : Starts → Starts
 up_starts s = record s { count = up s.count }
 
--- The counters after a call that did not fail. If a call failed before, one more call has come since then.
+-- The counters after a call that did not fail. If a call failed before, one more call has come
+-- since then.
 abbrev pub past_call : Counts → Counts
 past_call c = record c { calls = up c.calls; late = if c.failures == 0 then 0 else up c.late }
 

@@ -52,6 +52,7 @@ StartSparesVariables = (out : Option (List ℕ)) (old new : World) → ChangesOn
 abbrev pub CallTellsFault : Type 0
 CallTellsFault = (call : Call) (e : PlaceFault) (c : Counts) → e ≢ place.OutOfMemory → past_place_fault call e c ≡ record (past_fault (Called e) c) { calls = up c.calls; failing = Some call }
 
--- if a start failed and memory did not run out, the start is counted, and its fault is recorded as the last
+-- if a start failed and memory did not run out, the start is counted, and its fault is recorded as
+-- the last
 abbrev pub StartTellsFault : Type 0
 StartTellsFault = (e : StartFault) (c : Counts) → e ≢ start.OutOfMemory → past_start_fault e c ≡ record (past_fault (Started e) c) { calls = up c.calls }

@@ -12,7 +12,8 @@ use Rattle.pb_place_types.specs.declared.command.Command.{Command}
 abbrev pub files_in : List ℕ → Map → Map
 files_in folder m = map.retain_keys m (is_below folder)
 
--- the map with all entries of the first map, and with the entries of the second map at all other paths
+-- the map with all entries of the first map, and with the entries of the second map at all other
+-- paths
 abbrev pub over : Map → Map → Map
 over m n = map.from_entries (map.entries m ++ map.entries n)
 

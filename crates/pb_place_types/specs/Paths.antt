@@ -19,7 +19,8 @@ stays part = bytes_eq part [] || bytes_eq part (codes ".")
 abbrev pub leads_up : List ℕ → Bool
 leads_up part = bytes_eq part (codes "..")
 
--- the names after one more part: `..` removes the last name, if there is one, and a name is appended
+-- the names after one more part: `..` removes the last name, if there is one, and a name is
+-- appended
 abbrev pub walked : List (List ℕ) → List ℕ → List (List ℕ)
 walked names part = if stays part then names else (if leads_up part then take (length names - 1) names else names ++ part ∷ [])
 
@@ -70,7 +71,8 @@ last_part path = last_of [] (parts_of path)
 abbrev pub is_name : List ℕ → Bool
 is_name part = not (stays part || leads_up part || has_byte_0 part)
 
--- a text is relative if it consists of names with slashes between them, so that it is a path inside some folder
+-- a text is relative if it consists of names with slashes between them, so that it is a path inside
+-- some folder
 abbrev pub is_relative : List ℕ → Bool
 is_relative text = list_all is_name (parts_of text)
 
@@ -97,7 +99,8 @@ leads_below [] (b ∷ c ∷ rest) = b == slash
 leads_below (a ∷ stem) [] = false
 leads_below (a ∷ stem) (b ∷ path) = (a == b) && leads_below stem path
 
--- A path is strictly below a folder if this is true by whole parts. `/a/b` is below `/a`, but `/ab` is not.
+-- A path is strictly below a folder if this is true by whole parts. `/a/b` is below `/a`, but `/ab`
+-- is not.
 unfoldable pub is_below : List ℕ → List ℕ → Bool
 is_below folder path = leads_below (stem folder) path
 

@@ -10,7 +10,8 @@ pub record SinkState : Type 0 where
   -- how many writes failed
   pub faults : ℕ
 
--- a write failed if the sink refused it, or if the sink took none of the bytes although there were some
+-- a write failed if the sink refused it, or if the sink took none of the bytes although there were
+-- some
 abbrev pub is_refusal : Option ℕ → List ℕ → Bool
 is_refusal None bytes = true
 is_refusal (Some n) bytes = (n == 0) && not (length bytes == 0)

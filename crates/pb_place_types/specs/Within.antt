@@ -41,7 +41,8 @@ ShareNoPath = (f g q : List ℕ) → is_path f ≡ true → is_path g ≡ true �
 abbrev pub RootIsAbove : Type 0
 RootIsAbove = (path : List ℕ) → is_path path ≡ true → is_at_or_below (codes "/") path ≡ true
 
--- If two different names without a slash are put below one folder, neither path is at or below the other.
+-- If two different names without a slash are put below one folder, neither path is at or below the
+-- other.
 abbrev pub NamesLieApart : Type 0
 NamesLieApart = (folder name other : List ℕ) → name ≢ [] → list_any (λ b. b == slash) other ≡ false → name ≢ other → is_at_or_below (below folder name) (below folder other) ≡ false
 

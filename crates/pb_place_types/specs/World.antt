@@ -35,7 +35,8 @@ has_file path w = is_some (map.get w.files path)
 abbrev pub Answers : Type 0
 Answers = Command → World → Reply
 
--- A child sees the variables, the sources, and the files strictly below the folders that its command reads.
+-- A child sees the variables, the sources, and the files strictly below the folders that its
+-- command reads.
 unfoldable pub is_shown : Command → List ℕ → Bool
 is_shown c path = not (is_at_or_below c.target path) || list_any (λ folder. is_below folder path) c.reads
 

@@ -38,7 +38,8 @@ pub record IsMissing (profiles : List Profile) (from : Seen) : Type 0 where
 abbrev pub TellsMissing : Type 0
 TellsMissing = (profiles : List Profile) (name : List ℕ) → line_of profiles name ≡ Err NoSuchProfile → IsMissing profiles (seen_at profiles name)
 
--- the requested profile, or a profile from which it inherits, inherits from itself in one or more steps
+-- the requested profile, or a profile from which it inherits, inherits from itself in one or more
+-- steps
 pub record ComesBack (profiles : List Profile) (from : Seen) : Type 0 where
   pub profile : Seen
   pub ancestor : IsAncestor profiles from profile

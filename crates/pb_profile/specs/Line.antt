@@ -1,4 +1,5 @@
--- From which profile a profile inherits, and what its output folder is called (The Cargo Book, Profiles).
+-- From which profile a profile inherits, and what its output folder is called (The Cargo Book,
+-- Profiles).
 use Rattle.std.specs.Prelude.{ℕ, zero, suc, ◌+◌, Bool, true, ◌&&◌, ◌||◌, if◌then◌else◌, codes, List, [], ◌∷◌, length, Option, Some, None, Result, Ok, Err, option_map, is_none}
 use Rattle.std.specs.List.{list_all, find}
 use Rattle.std.specs.Str.{bytes_eq}
@@ -72,7 +73,8 @@ parent_of s =
 abbrev pub above : List Profile → Seen → Result (Option Seen) ProfileFault
 above profiles s = parent_of s >>= (λ parent. Ok (option_map (seen_at profiles) parent))
 
--- the profile's line: the profile alone if it has no parent, or else the profile and the line of its parent
+-- the profile's line: the profile alone if it has no parent, or else the profile and the line of
+-- its parent
 abbrev pub then_above : (Seen → Result (List Seen) ProfileFault) → Seen → Option Seen → Result (List Seen) ProfileFault
 then_above line_of s None = Ok (s ∷ [])
 then_above line_of s (Some parent) = line_of parent >>= (λ line. Ok (s ∷ line))

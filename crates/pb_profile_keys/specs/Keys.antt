@@ -1,4 +1,5 @@
--- What a profile or an override sets, and the settings of a package. Both are lists in the order of the keys.
+-- What a profile or an override sets, and the settings of a package. Both are lists in the order of
+-- the keys.
 use Rattle.std.specs.Prelude.{Bool, true, false, List, Option, None, get_or, map}
 use Rattle.pb_profile_keys.specs.Setting.{same}
 use Rattle.pb_profile_keys.specs.Table.{keys, index}

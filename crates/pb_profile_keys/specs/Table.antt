@@ -15,7 +15,8 @@ pub record Facts : Type 0 where
   pub name : List ℕ
   -- an override may set the key
   pub in_override : Bool
-  -- The beginning of the compiler's option for the key. `yes` is what the option has for the value `true`.
+  -- The beginning of the compiler's option for the key. `yes` is what the option has for the value
+  -- `true`.
   pub option : List ℕ
   pub yes : List ℕ
   -- the value for which the compiler gets no option, if there is one

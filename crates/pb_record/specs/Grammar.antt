@@ -1,4 +1,5 @@
--- The text of a record: one function from a record to its bytes, in the order in which they are written.
+-- The text of a record: one function from a record to its bytes, in the order in which they are
+-- written.
 use Rattle.std.specs.Prelude.{ℕ, ◌+◌, zero, suc, codes, List, [], ◌∷◌, ◌++◌, length, map, Option, Some, None}
 use Rattle.std.specs.Int.Digits.{digits_of}
 use Rattle.std.specs.List.{flat_map}

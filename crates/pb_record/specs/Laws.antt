@@ -10,7 +10,8 @@ use Rattle.pb_record.specs.declared.record.Record.{Record}
 abbrev pub TellsApart : Type 0
 TellsApart = (r s : Record) → record_bytes r ≡ record_bytes s → r ≡ s
 
--- If two texts begin with records and are equal, the records are equal, and the rests of the texts are equal.
+-- If two texts begin with records and are equal, the records are equal, and the rests of the texts
+-- are equal.
 abbrev pub SaysWhereItEnds : Type 0
 SaysWhereItEnds = (r s : Record) (rest more : List ℕ) → record_bytes r ++ rest ≡ record_bytes s ++ more → (r ≡ s) × (rest ≡ more)
 

@@ -1,4 +1,5 @@
--- A record as nested pairs, in the order of its text. Only private functions need these definitions.
+-- A record as nested pairs, in the order of its text. Only private functions need these
+-- definitions.
 use Rattle.std.specs.Prelude.{◌≡◌, ◌++◌, ℕ, List, codes}
 use Rattle.std.specs.List.{AllByRecursion}
 use Rattle.std.specs.Str.{IsUtf8}

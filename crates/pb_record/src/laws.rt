@@ -15,8 +15,9 @@ pub fn records_lie_apart()
 {}
 
 /// A successful read returns a record. Its texts are UTF-8, its paths are normalised, and no number
-/// exceeds the maximum. The variables are sorted by name, and each name occurs once. The bytes of
-/// any other value are not a record. A path has no byte 0.
+/// exceeds the maximum. The variables are sorted by name, and each name occurs once. If a value
+/// lacks one of these properties, the bytes that spell the value are not a record. A path has no
+/// byte 0.
 pub fn only_records_are_read()
     ensures said { OnlyRecordsAreSaid }
     ensures paths { PathsHaveNoByte0 }

@@ -19,7 +19,8 @@ use Rattle.pb_command_types.specs.declared.project.Setup.{Setup}
 abbrev pub IsCommandOf : Project → Planned → Command → Type 0
 IsCommandOf project u c = (setup : Setup) × (done : List (Option (List Directive))) × (c ≡ command_of setup project u done)
 
--- the folder of the records of a project's units, which is the profile's folder in the target folder
+-- the folder of the records of a project's units, which is the profile's folder in the target
+-- folder
 abbrev pub records_folder : Project → List ℕ
 records_folder project = profile_folder project.workspace project.profile
 

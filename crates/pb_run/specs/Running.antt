@@ -94,7 +94,8 @@ pub record Spawns (child : Answers) (c : Command) (ticket : ℕ) (old new : Coun
   pub spawned : World
   pub counted : new ≡ counted_spawn (child_spawned (child c) c spawned) (Ok ticket) old
 
--- The spawn failed with this fault, and counts as one start. If memory ran out, the spawn may have been made.
+-- The spawn failed with this fault, and counts as one start. If memory ran out, the spawn may have
+-- been made.
 abbrev pub SpawnStops : StepFault → Counts → Counts → Type 0
 SpawnStops (step.Store (store.Place fault)) old new = ⊥
 SpawnStops (step.Store store.NumbersSpent) old new = ⊥

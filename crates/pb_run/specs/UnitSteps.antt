@@ -59,7 +59,8 @@ build_context premise child setup project sources = record { premise = premise; 
 abbrev pub outcomes_in : BuildContext → List Outcome
 outcomes_in b = outcomes b.child b.setup b.project b.sources
 
--- The command of the unit at an index, given the outcomes of the units before it. `view_in` is the unit's view.
+-- The command of the unit at an index, given the outcomes of the units before it. `view_in` is the
+-- unit's view.
 abbrev pub command_in : BuildContext → ℕ → Planned → Command
 command_in b index u = command_after b.setup b.project (take index (outcomes_in b)) u
 
@@ -142,7 +143,8 @@ key_at project index = key_in (unit_at project index)
 abbrev pub needed_keys : Project → Planned → List (List ℕ)
 needed_keys project u = flat_map (key_at project) u.needs
 
--- a unit that has begun: it has this key and this command, waits in this way, and reports no difference
+-- a unit that has begun: it has this key and this command, waits in this way, and reports no
+-- difference
 abbrev pub begun_with : List ℕ → Command → Awaited → Begun
 begun_with key c by = record { unit = key; command = c; difference = None; awaited = by }
 

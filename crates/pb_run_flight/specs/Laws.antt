@@ -48,7 +48,8 @@ FinishedIsAll F = (states end : List (State F)) → length states ≡ length end
 
 -- Which units are in flight.
 
--- after lawful events, the units in flight are exactly those that have begun and not answered, each once
+-- after lawful events, the units in flight are exactly those that have begun and not answered, each
+-- once
 abbrev pub FlyingIsBegun : (F : Type 0) → Type 0
 FlyingIsBegun F = (needs : List (List ℕ)) (es : List (Event F)) → IsLawful needs es → AllPairs (λ u v. u ≢ v) (flying_after es) × ((u : ℕ) → Contains (flying_after es) u ↔ (slice_get (states_after needs es) u ≡ Some Begun))
 

@@ -53,7 +53,8 @@ pub record IsLeastName (row other : List (List ℕ × List ℕ)) (name : List �
   pub here : find (slice_cmp nat_cmp) name row ≡ find (slice_cmp nat_cmp) name other → ⊥
   pub below : (less : List ℕ) → slice_cmp nat_cmp less name ≡ Less → find (slice_cmp nat_cmp) less row ≡ find (slice_cmp nat_cmp) less other
 
--- If two rows of variables are sorted by name, `IsFirstName` finds the least name at which they differ.
+-- If two rows of variables are sorted by name, `IsFirstName` finds the least name at which they
+-- differ.
 abbrev pub FirstNameIsFirst : Type 0
 FirstNameIsFirst = (row other : List (List ℕ × List ℕ)) (name : List ℕ) → are_sorted row ≡ true → are_sorted other ≡ true → IsFirstName row other name → IsLeastName row other name
 

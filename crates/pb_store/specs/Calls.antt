@@ -1,4 +1,5 @@
--- How a call of the store changes the place, which call of the place failed, and what its fault was.
+-- How a call of the store changes the place, which call of the place failed, and what its fault
+-- was.
 use Rattle.std.specs.Prelude.{◌≡◌, ◌⊎◌, ℕ, List, Option, Some, None, Result, MatchResult, Bool, true, false, IsTrue, Contains, IfErr}
 use Rattle.pb_place_types.specs.At.{At}
 use Rattle.pb_place_types.specs.CallsInTurn.{Fails}

@@ -1,4 +1,5 @@
--- The first difference of a unit, in a fixed order, and what the unit's record replays if nothing differs.
+-- The first difference of a unit, in a fixed order, and what the unit's record replays if nothing
+-- differs.
 use Rattle.std.specs.Prelude.{◌≡◌, ◌++◌, ◌∷◌, ◌&&◌, ℕ, Bool, true, false, List, [], Option, Some, None, pos, is_some, option_map}
 use Rattle.std.specs.List.{AllByRecursion}
 use Rattle.std.specs.Str.{bytes_eq}

@@ -38,7 +38,8 @@ number_in table key = option_and_then (λ (number : Option ℕ). number) (value_
 abbrev pub IsHeld : List (List ℕ × Option ℕ) → (List ℕ × ℕ) → Type 0
 IsHeld table need = number_in table need.0 ≡ Some need.1
 
--- the table has, for each key, the run number of the record that counts for the key, if there is one
+-- the table has, for each key, the run number of the record that counts for the key, if there is
+-- one
 abbrev pub HasNumbers : RecordMap → List (List ℕ × Option ℕ) → Type 0
 HasNumbers at table = (key : List ℕ) → number_in table key ≡ number_if (at key)
 
@@ -102,7 +103,8 @@ pub record MayPut (read : RecordParser) (judge : Judge) (child : Answers) (folde
   pub numbered : number_of r ≡ Some number
   pub unnamed : Unnamed (record_at read folder w.files) key number
 
--- the record with this number, and with the numbers of the needed units instead of copies of their files
+-- the record with this number, and with the numbers of the needed units instead of copies of their
+-- files
 abbrev pub numbered_record : Record → ℕ → List (List ℕ × ℕ) → Record
 numbered_record r number pairs = record { key = r.key; asked = r.asked; inputs = r.inputs; needed = Numbers number pairs; stdout = r.stdout; stderr = r.stderr }
 

@@ -97,7 +97,8 @@ same_input (Value name text) (Value other second) = bytes_eq name other && same_
 unfoldable pub is_present : List ℕ → World → Input → Bool
 is_present target w i = same_input (input_in target w (name_of i)) i
 
--- the calls for the inputs of a record, input by input, up to the first input without its present value
+-- the calls for the inputs of a record, input by input, up to the first input without its present
+-- value
 abbrev pub inputs_looked : List ℕ → World → List Input → List Call
 inputs_looked target w inputs = looked_up_to (is_present target w) (λ i. name_looked target w (name_of i)) inputs
 
@@ -137,7 +138,8 @@ is_asked a c = bytes_eq a.program c.program && (same_texts a.words c.words && (b
 unfoldable pub from_looked : List ℕ → commands.Command → World → Record → List Call
 from_looked folder c w r = if is_asked r.asked c then around_looked folder c.target w r else []
 
--- the calls for a unit: its record is read, and if the record counts, the calls for the record follow
+-- the calls for a unit: its record is read, and if the record counts, the calls for the record
+-- follow
 unfoldable pub unit_looked : List ℕ → List ℕ → commands.Command → World → List Call
 unit_looked folder key c w = call.Read (place_of folder key) ∷ option_map_or (from_looked folder c w) (records folder w key) []
 

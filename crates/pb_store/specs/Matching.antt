@@ -1,4 +1,5 @@
--- How files are compared with the recorded files, one by one. Only private functions need these definitions.
+-- How files are compared with the recorded files, one by one. Only private functions need these
+-- definitions.
 use Rattle.std.specs.Prelude.{ℕ, Bool, false, if◌then◌else◌, List}
 use Rattle.pb_store.specs.Differences.{same_files}
 use Rattle.pb_store.specs.declared.comparing.Matching.{Matching}

@@ -17,7 +17,8 @@ use Rattle.pb_record.specs.declared.record.Input.TheVariants.{File, Tree, Value}
 abbrev pub contents : List ℕ → Map → List (List ℕ × List ℕ)
 contents folder m = map (λ (e : List ℕ × List ℕ). (drop (length (stem folder) + 1) e.0, e.1)) (finite.entries (files_in folder m))
 
--- the input of a path: the bytes of the file at the path, or, if there is no file, the files below the path
+-- the input of a path: the bytes of the file at the path, or, if there is no file, the files below
+-- the path
 abbrev pub path_input : List ℕ → Map → Option (List ℕ) → Input
 path_input path m (Some bytes) = File path bytes
 path_input path m None = Tree path (contents path m)

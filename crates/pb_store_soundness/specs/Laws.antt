@@ -33,12 +33,14 @@ abbrev pub OutsideLaw : Type 0
 OutsideLaw = (read : RecordParser) (judge : Judge) (child : Answers) (folder : List ℕ) (old new : Map) → ((q : List ℕ) → is_at_or_below folder q ≡ true → finite.get new q ≡ finite.get old q)
     → Sound read judge child folder old → Sound read judge child folder new
 
--- A folder stays sound after a change at or below the output folder of a unit for which no record counts.
+-- A folder stays sound after a change at or below the output folder of a unit for which no record
+-- counts.
 abbrev pub InOutputLaw : Type 0
 InOutputLaw = (read : RecordParser) (judge : Judge) (child : Answers) (folder : List ℕ) (old new : Map) (key : List ℕ) → is_path folder ≡ true → is_key key ≡ true
     → record_at read folder old key ≡ None → AgreeBut (is_at_or_below (out_of folder key)) old new → Sound read judge child folder old → Sound read judge child folder new
 
--- A folder stays sound if the text of a record is removed, or becomes a text that does not count as a record.
+-- A folder stays sound if the text of a record is removed, or becomes a text that does not count as
+-- a record.
 abbrev pub WithoutRecordLaw : Type 0
 WithoutRecordLaw = (read : RecordParser) (judge : Judge) (child : Answers) (folder : List ℕ) (old new : Map) (key : List ℕ) → is_path folder ≡ true → is_key key ≡ true
     → record_at read folder new key ≡ None → AgreeBut (is_at_or_below (place_of folder key)) old new → Sound read judge child folder old → Sound read judge child folder new

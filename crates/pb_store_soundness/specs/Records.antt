@@ -15,7 +15,8 @@ use Rattle.pb_record.specs.declared.record.Record.{Record}
 abbrev pub ends_as_record : List ℕ → Bool
 ends_as_record name = bytes_eq (drop (length name - 7) name) (codes ".record")
 
--- a text is a key if it is the name of a file or folder, has no slash, and does not end in `.record`
+-- a text is a key if it is the name of a file or folder, has no slash, and does not end in
+-- `.record`
 unfoldable pub is_key : List ℕ → Bool
 is_key key = is_name key && (not (list_any (λ b. b == slash) key) && not (ends_as_record key))
 
@@ -35,7 +36,8 @@ abbrev pub read_text : RecordParser → Option (List ℕ) → Option Record
 read_text read None = None
 read_text read (Some text) = read text
 
--- The record, if its own key is the key by which its file is named. Otherwise the record does not count.
+-- The record, if its own key is the key by which its file is named. Otherwise the record does not
+-- count.
 abbrev pub if_of_key : List ℕ → Option Record → Option Record
 if_of_key key None = None
 if_of_key key (Some r) = if bytes_eq r.key key then Some r else None

@@ -83,7 +83,8 @@ RenewLaw = (read : RecordParser) (judge : Judge) (child : Answers) (folder key :
     → Agrees r.asked.target r.inputs w → Backs judge r (out_of folder key) (files_in (out_of folder key) w.files) (reply_in child (command_of r.asked) w)
     → NamesNeeds (record_at read folder w.files) folder r number → IsPut read folder key r number w.files new → Sound read judge child folder w.files → Sound read judge child folder new
 
--- If only the record of one unit changes, a grounded unit that does not reach this unit stays grounded.
+-- If only the record of one unit changes, a grounded unit that does not reach this unit stays
+-- grounded.
 abbrev pub SparesLaw : Type 0
 SparesLaw = (old new : RecordMap) (key v : List ℕ) (n : ℕ) → ((l : List ℕ) → l ≢ key → new l ≡ old l) → Grounded old v n → v ≢ key → (Reaches old v key → ⊥) → Grounded new v n
 

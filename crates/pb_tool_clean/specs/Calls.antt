@@ -86,7 +86,8 @@ abbrev pub removed_each : List (List ℕ) → World → World
 removed_each [] w = w
 removed_each (path ∷ paths) w = removed_each paths (removed path w)
 
--- A removal failed. Each file at or below the path is unchanged or gone, and nothing else has changed.
+-- A removal failed. Each file at or below the path is unchanged or gone, and nothing else has
+-- changed.
 abbrev pub Cut : List ℕ → World → World → Type 0
 Cut path w new = (new ≡ w) ⊎ PartlyRemoved path w new
 

@@ -131,7 +131,8 @@ all_of target = record { target = target; packages = []; profile = None }
 abbrev pub of_all_packages : Choice → Choice
 of_all_packages choice = record choice { packages = [] }
 
--- the folder in which a choice looks: that of the profile, if one is named, and otherwise the target folder
+-- the folder in which a choice looks: that of the profile, if one is named, and otherwise the
+-- target folder
 abbrev pub looked_in : Choice → List ℕ
 looked_in choice = unwrap_or choice.profile choice.target
 
@@ -159,7 +160,8 @@ RequiresListed choice listed (Err (Nothing some folder)) = ReportsMissing choice
 RequiresListed choice listed (Err OutOfMemory) = Unit {0}
 RequiresListed choice listed (Err fault) = ⊥
 
--- The folder of the named profile, which must have a name. If all profiles are chosen, there is no folder.
+-- The folder of the named profile, which must have a name. If all profiles are chosen, there is no
+-- folder.
 abbrev pub IsProfile : List ℕ → List ℕ → Bool → Option (List ℕ) → Type 0
 IsProfile target name false profile = profile ≡ None
 IsProfile target name true profile = (is_relative (profile_folder name) ≡ true) × (profile ≡ Some (below target (profile_folder name)))
@@ -168,7 +170,8 @@ IsProfile target name true profile = (is_relative (profile_folder name) ≡ true
 abbrev pub HasNoFolder : Options → Bool → Type 0
 HasNoFolder options one_profile = (one_profile ≡ true) × (is_relative (profile_folder options.profile) ≡ false)
 
--- A choice is refused because the folder of its profile would have no name. Memory may also run out.
+-- A choice is refused because the folder of its profile would have no name. Memory may also run
+-- out.
 abbrev pub RefusesChoice : Options → Bool → CleanFault → Type 0
 RefusesChoice options one_profile NoSuchProfile = HasNoFolder options one_profile
 RefusesChoice options one_profile OutOfMemory = Unit {0}

@@ -6,7 +6,8 @@ use Rattle.pb_tool_clean.specs.Names.{is_record, is_unit, words_in}
 use Rattle.pb_tool_clean.specs.declared.choice.Choice.{Choice}
 use Rattle.pb_tool_clean.specs.declared.looking.Listed.{Listed}
 
--- the path is below the target folder, and its last part is the name of a record or of a unit's folder
+-- the path is below the target folder, and its last part is the name of a record or of a unit's
+-- folder
 pub record IsMadeByBuild (target path : List ℕ) : Type 0 where
   pub inside : is_below target path ≡ true
   pub name : (is_record (words_in (last_part path)) ≡ true) ⊎ (is_unit (words_in (last_part path)) ≡ true)

@@ -5,7 +5,8 @@ use Rattle.pb_json.specs.Json.{json_string}
 use Rattle.pb_unit.specs.declared.plan.Plan.{Plan}
 use Rattle.pb_unit.specs.declared.plan.Planned.{Planned}
 
--- The key of a unit, or the empty text if there is no unit. `key_at` is the key of the unit at an index.
+-- The key of a unit, or the empty text if there is no unit. `key_at` is the key of the unit at an
+-- index.
 abbrev pub key_in : Option Planned → List ℕ
 key_in None = []
 key_in (Some p) = p.key
@@ -67,7 +68,8 @@ plan_json plan = codes "[\n" ++ objects plan.planned plan.planned ++ codes "\n]\
 
 -- A graph for Graphviz.
 
--- A key in quotation marks. A key has only letters, digits, `-`, `_` and `.`, so nothing is escaped.
+-- A key in quotation marks. A key has only letters, digits, `-`, `_` and `.`, so nothing is
+-- escaped.
 abbrev pub quoted : List ℕ → List ℕ
 quoted key = codes "\"" ++ key ++ codes "\""
 

@@ -39,7 +39,8 @@ status_of (Err fault) = 101
 abbrev pub moved_note : List ℕ → List ℕ → List ℕ
 moved_note path key = codes "note: " ++ path ++ codes " was changed while " ++ key ++ codes " was built: that unit will be built again\n"
 
--- a line for each path that was changed; the key of its unit is the name of the unit's output folder
+-- a line for each path that was changed; the key of its unit is the name of the unit's output
+-- folder
 abbrev pub moved_notes : List Moved → List ℕ
 moved_notes [] = []
 moved_notes (one ∷ others) = moved_note one.path (last_part one.out) ++ moved_notes others

@@ -88,8 +88,8 @@ AsksOrNot words here (Err unasked) = Unasks words here.folder unasked
 
 -- What the program does for its arguments: the requested build, preview, session, plan, removal or
 -- explanation. If nothing is requested, the place is not used. Only a build and a removal ask the
--- guard for a folder. What a build shows changes nothing else: `BuildsTold` depends on `explain` and
--- `render` only.
+-- guard for a folder. What a build shows changes nothing else: `BuildsTold` depends on `explain`
+-- and `render` only.
 abbrev pub CarriesOut : Bool → Answers → (Option (List ℕ) → Counts → SinkState → SinkState → Type 0) → (Shown → Type 0) → Page → List Moved → Result Invocation ArgumentsError → ℕ → BuildState → BuildState → SinkState → SinkState → Type 0
 CarriesOut is_modelled child Guards Told page moved (Ok (Build options shown)) status old new said_before said_after = Told shown × BuildsTold is_modelled child Guards moved options shown.explain shown.render status old new said_before said_after
 CarriesOut is_modelled child Guards Told page moved (Ok (Preview options)) status old new said_before said_after = PreviewsTold is_modelled child options status old new said_before said_after × Guards None old.counts said_before said_before

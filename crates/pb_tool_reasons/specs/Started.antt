@@ -45,8 +45,8 @@ abbrev pub tool_note : List Difference → List ℕ
 tool_note differences = if nat_lt 0 (length differences) then note_if (list_all is_tool differences) else []
 
 -- Why a build with this number of units started children. The keys are those of the started units.
--- The reasons come first, then a note if only `CARGO` is known to differ. The last line has the number
--- of started units, of kept units, and of units that did not begin.
+-- The reasons come first, then a note if only `CARGO` is known to differ. The last line has the
+-- number of started units, of kept units, and of units that did not begin.
 abbrev pub explanation : ℕ → List (List ℕ) → List Difference → List Detail → ℕ → List ℕ
 explanation units keys differences details kept =
     grouped (rows_of keys differences details) ++ tool_note differences ++ counts_line (length keys) kept (units - length keys - kept)

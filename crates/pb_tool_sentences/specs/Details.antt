@@ -1,4 +1,5 @@
--- What is written about a failed build before its result line. The sentence of the fault comes first.
+-- What is written about a failed build before its result line. The sentence of the fault comes
+-- first.
 use Rattle.std.specs.Prelude.{ℕ, nat_eq, Bool, false, ◌&&◌, not, if◌then◌else◌, codes, List, [], ◌∷◌, ◌++◌, Option, Some, None, Result, Ok, Err}
 use Rattle.std.specs.List.{ends_with}
 use Rattle.pb_build_result.specs.declared.fault.BuildFault.{BuildFault}

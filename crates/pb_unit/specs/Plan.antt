@@ -121,7 +121,8 @@ pub record IsPlan (ws : Workspace) (features : Features) (selection : Selection)
 
 -- Refusals.
 
--- the plan would have more than 4,096 units; `units` lists more than 4,096 of them in byte order of their keys
+-- the plan would have more than 4,096 units; `units` lists more than 4,096 of them in byte order of
+-- their keys
 pub record IsCrowd (ws : Workspace) (features : Features) (selection : Selection) : Type 0 where
   pub units : List Unit
   pub planned : All (IsPlanned ws features selection) units
@@ -133,7 +134,8 @@ pub record IsUsable (ws : Workspace) (profile : List ℕ) : Type 0 where
   pub line : List Seen
   pub is : profile_line ws profile ≡ Ok line
 
--- Why the units have no plan. A cycle is the first reason, too many units the second, and no units the third.
+-- Why the units have no plan. A cycle is the first reason, too many units the second, and no units
+-- the third.
 pub data LacksPlan (ws : Workspace) (features : Features) (selection : Selection) : PlanFault → Type 0 where
   by_cycle : (names : List (List ℕ)) (cycle : IsCycle ws features selection names) → LacksPlan ws features selection (Cycle names)
   by_number : (straight : IsStraight ws features selection) (crowd : IsCrowd ws features selection) → LacksPlan ws features selection TooManyUnits

@@ -47,7 +47,8 @@ what_name Run = codes "run"
 abbrev pub key_of : Workspace → Unit → List ℕ
 key_of ws u = name_at ws u.owner ++ dot ∷ (side_name u.side ++ dot ∷ what_name u.what)
 
--- The role for which a unit is compiled. Scripts have the host's role. Any other unit has the role of its side.
+-- The role for which a unit is compiled. Scripts have the host's role. Any other unit has the role
+-- of its side.
 abbrev pub role_at : Side → What → Side
 role_at s Script = Host
 role_at s _ = s
@@ -92,7 +93,8 @@ is_build Build = true
 abbrev pub library_by : Workspace → Features → ℕ → Side → ℕ → Entry → List Unit
 library_by ws features p s n e = if is_enabled features p s n && is_normal e.kind && has_library (slice_get ws.packages e.to) then unit e.to s Lib ∷ [] else []
 
--- the library to which an enabled build entry leads, on the host's side; no unit for any other entry
+-- the library to which an enabled build entry leads, on the host's side; no unit for any other
+-- entry
 abbrev pub tool_by : Workspace → Features → ℕ → Side → ℕ → Entry → List Unit
 tool_by ws features p s n e = if is_enabled features p s n && is_build e.kind && has_library (slice_get ws.packages e.to) then unit e.to Host Lib ∷ [] else []
 
@@ -147,7 +149,8 @@ asks_all selection = not (selection.lib || selection.bins || not (length selecti
 abbrev pub asks_libraries : Selection → Bool
 asks_libraries selection = selection.lib || asks_all selection
 
--- binaries with this name are built: `--bins` or `--bin NAME` was given, or no option restricts what is built
+-- binaries with this name are built: `--bins` or `--bin NAME` was given, or no option restricts
+-- what is built
 abbrev pub asks_binary : Selection → List ℕ → Bool
 asks_binary selection name = selection.bins || is_mentioned selection.bin name || asks_all selection
 

@@ -54,8 +54,9 @@ packages_of drafts = map (package_at (places_of drafts)) drafts
 abbrev pub is_meant_member : List ℕ → Package → List ℕ → Bool
 is_meant_member root p text = p.is_member && means root text p.folder
 
--- If a text of `default-members` is a folder, it must mean a member. A glob picks among the
--- members, and is never unknown.
+-- A text of `default-members` is known if it is a glob, or if it means the folder of a member. So a
+-- glob is known even if it matches no member. If a text is not known, `default_members_of` returns
+-- `Unknown`.
 abbrev pub is_known : List ℕ → List Package → List ℕ → Bool
 is_known root packages text = is_glob text || list_any (λ p. is_meant_member root p text) packages
 

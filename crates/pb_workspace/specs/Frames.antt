@@ -1,4 +1,5 @@
--- What a root manifest says about its workspace, and which packages are members (The Cargo Book, Workspaces).
+-- What a root manifest says about its workspace, and which packages are members (The Cargo Book,
+-- Workspaces).
 use Rattle.std.specs.Prelude.{ℕ, Bool, true, false, not, ◌&&◌, ◌||◌, if◌then◌else◌, List, [], Option, Some, None}
 use Rattle.std.specs.Str.{bytes_eq}
 use Rattle.pb_place_types.specs.Paths.{is_at_or_below}
@@ -21,7 +22,8 @@ abbrev pub keys_or_none : Option WorkspacePackage → WorkspacePackage
 keys_or_none None = no_keys
 keys_or_none (Some keys) = keys
 
--- What a root manifest says about its workspace. Without `[workspace]`, the workspace is the root package only.
+-- What a root manifest says about its workspace. Without `[workspace]`, the workspace is the root
+-- package only.
 abbrev pub frame_of : List ℕ → List ℕ → Option WorkspaceTable → WorkspaceRoot
 frame_of root manifest None = record { root = root; manifest = manifest; is_workspace = false; members = []; exclude = []; default_members = None; given = nothing }
 frame_of root manifest (Some w) = record { root = root; manifest = manifest; is_workspace = true; members = w.members; exclude = w.exclude; default_members = w.default_members; given = record { «package» = keys_or_none w.package; dependencies = w.dependencies } }

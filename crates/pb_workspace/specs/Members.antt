@@ -1,4 +1,5 @@
--- Which folders the texts of `members`, `default-members` and `exclude` mean (The Cargo Book, Workspaces).
+-- Which folders the texts of `members`, `default-members` and `exclude` mean (The Cargo Book,
+-- Workspaces).
 use Rattle.std.specs.Prelude.{ℕ, Bool, true, false, ◌&&◌, ◌-◌, if◌then◌else◌, List, [], ◌∷◌, ◌++◌, length, map, take}
 use Rattle.std.specs.List.{fold, list_any}
 use Rattle.std.specs.Str.{bytes_eq}

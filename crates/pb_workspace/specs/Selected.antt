@@ -1,4 +1,5 @@
--- Which packages a build builds, and with which features (The Cargo Book, Workspaces and cargo build).
+-- Which packages a build builds, and with which features (The Cargo Book, Workspaces and cargo
+-- build).
 use Rattle.std.specs.Prelude.{ℕ, Bool, not, ◌&&◌, ◌==◌, ◌+◌, if◌then◌else◌, List, [], ◌∷◌, length, filter, Option, Some, None, Result, Ok, Err}
 use Rattle.std.specs.List.{flat_map, list_any, list_all, slice_split}
 use Rattle.std.specs.Str.{bytes_eq}

@@ -16,7 +16,8 @@ abbrev pub is_failure : LoadFault → Bool
 is_failure (Place path fault) = true
 is_failure _ = false
 
--- The fault is that of a failed call, or memory ran out. Definitions of answers do not have these faults.
+-- The fault is that of a failed call, or memory ran out. Definitions of answers do not have these
+-- faults.
 abbrev pub is_outside : LoadFault → Bool
 is_outside (Place path fault) = true
 is_outside OutOfMemory = true

@@ -52,6 +52,7 @@ draft_with sources at is_member given t keys =
     lists_of at given t.dependencies t.build_dependencies t.features t.binaries >>= (λ lists.
     Ok (draft_from at is_member keys lists t.dev_dependencies (targets_of at.folder sources keys.name keys.autobins keys.build t.library t.binaries)))
 
--- The package that a manifest describes, or its first fault. The keys are settled first, and then the entries.
+-- The package that a manifest describes, or its first fault. The keys are settled first, and then
+-- the entries.
 unfoldable pub draft_of : World → PackageLocation → Bool → Given → Package → Tables → Result UnresolvedPackage LoadFault
 draft_of sources at is_member given p t = keys_of sources at given.package p >>= (λ keys. draft_with sources at is_member given t keys)

@@ -45,7 +45,8 @@ abbrev pub found_at : List ℕ → Option (List ℕ) → Option Binary
 found_at path None = None
 found_at path (Some name) = Some record { name = name; source = path; required_features = [] }
 
--- the binary whose source has this path below the folder `src/bin`, if the path has the requested form
+-- the binary whose source has this path below the folder `src/bin`, if the path has the requested
+-- form
 abbrev pub binary_at : Bool → List ℕ → List ℕ → Option Binary
 binary_at nested bin path = found_at path (name_inside nested (inside bin path))
 

@@ -19,6 +19,7 @@ keys_from at given readme p =
     about_of at.root at.folder readme p given >>= (λ about.
     Ok record { name = p.name; version = version; edition = edition; about = about; links = p.links; autobins = p.autobins; build = p.build })))
 
--- the settled keys of a package: what its manifest writes, what it inherits, and what its folder contains
+-- the settled keys of a package: what its manifest writes, what it inherits, and what its folder
+-- contains
 abbrev pub keys_of : World → PackageLocation → WorkspacePackage → Package → Result Keys LoadFault
 keys_of sources at given p = keys_from at given (readme_found at.folder sources p.readme) p

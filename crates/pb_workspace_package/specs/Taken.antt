@@ -49,7 +49,8 @@ abbrev pub between_or : List ℕ → List ℕ → Result (List ℕ) PathFault �
 between_or folder text (Ok path) = text_between folder path
 between_or folder text (Err fault) = text
 
--- a path of the workspace, which starts at the root, rewritten so that it starts at the member's folder
+-- a path of the workspace, which starts at the root, rewritten so that it starts at the member's
+-- folder
 abbrev pub from_member : List ℕ → List ℕ → List ℕ → List ℕ
 from_member root folder text = between_or folder text (joined root text)
 
@@ -70,7 +71,8 @@ given_readme root folder readme.Standard = from_member root folder (codes "READM
 given_readme root folder readme.Never = []
 given_readme root folder (readme.At path) = from_member root folder path
 
--- the path of the README that is written or inherited; if nothing is written, the README that was found
+-- the path of the README that is written or inherited; if nothing is written, the README that was
+-- found
 abbrev pub readme_of : List ℕ → List ℕ → List ℕ → Inheritable Readme → Option Readme → Result (List ℕ) LoadFault
 readme_of root folder found (Written readme) given = Ok (readme_text readme)
 readme_of root folder found Workspace given = some_or NoInherited given >>= (λ readme. Ok (given_readme root folder readme))
