@@ -38,8 +38,9 @@ fn link_at(links: &[Link], number: usize) -> Option<Link>
     links.get(place).copied()
 }
 
-/// Replaces the contents of a buffer by what the links from a number on yield. A link yields a
-/// thing only if the other thing that the link needs is known.
+/// Empties a buffer, and puts into it what the links of a chain yield. The chain begins at the link
+/// with the number `head`. A link yields a thing only if the other thing that the link needs is
+/// known.
 pub(crate) fn put_linked(
     known: &[bool],
     links: &[Link],
