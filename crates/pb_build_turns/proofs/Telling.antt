@@ -65,7 +65,7 @@ module _ (project : Project) (es : List (Event BadUnit)) where
   none_of (Good files directives messages) = refl
   none_of (Bad bad messages) = refl
 
-  -- the lines that are due are those of the first rows
+  -- if the lines of k units are due, they are the lines of the first k rows
   pub due_told : (i : ℕ) (us : List Planned) (os : List Outcome) (ds : List (Option (List Directive))) (ss : List (State BadUnit)) → AllTold i us os ds ss → due ss ≡ said_from project es i (take (count_due ss) (to_first_bad us os))
   due_told i us os ds [] told = refl
   due_told i us os ds (Untouched ∷ ss) told = refl

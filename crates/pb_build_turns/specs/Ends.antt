@@ -86,8 +86,8 @@ Grounding child setup project next w Since = (premise : Premise) (sources : Worl
     → BuildInvariant (build_context premise child setup project sources) (untouched project) (nothing_said project) next w → Since (build_context premise child setup project sources)
 
 -- What is true after these events. `BuildInvariant` is true. Each answered unit has its outcome of
--- a clean build. The lines that are due are those of the first rows. The due lines of the first n
--- units are those of the first n of these rows.
+-- a clean build. If the lines of k units are due, they are the lines of the first k rows of
+-- `rows_in`. The due lines of the first n units are those of the first n of these k rows.
 pub record OutcomeHolds (b : BuildContext) (es : List (Event BadUnit)) (new : World) : Type 0 where
   pub done : List (Option (List Directive))
   pub next : Option ℕ

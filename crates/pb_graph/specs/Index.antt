@@ -1,4 +1,5 @@
--- The index of rules lists, for each thing, what else a rule needs and what the rule then yields.
+-- The index of rules. For each thing it lists the rules that need this thing: what else each rule
+-- needs, and what the rule yields.
 -- Only private functions need these definitions.
 use Rattle.std.specs.Prelude.{◌≡◌, ◌⊎◌, ◌↔◌, ◌<◌, ◌≤◌, ◌+◌, ◌==◌, ℕ, zero, suc, Bool, IsTrue, List, [], ◌∷◌, ◌++◌, Option, Some, None, Contains, length, slice_get, slice_index_or, slice_set, if◌then◌else◌}
 use Rattle.pb_graph.specs.declared.table.Rule.{Rule}
@@ -45,7 +46,8 @@ pub record IsIndexed (n : ℕ) (links : List Link) : Type 0 where
   pub gives : (k : ℕ) (l : Link) → link_at links k ≡ Some l → l.gives < n
   pub lower : (k : ℕ) (l : Link) → link_at links k ≡ Some l → l.next < k
 
--- `given` lists what the links from `head` on yield; only links whose `with` is known count
+-- `given` lists what the links of a chain yield. The chain begins at the link with the number
+-- `head`. Only links whose `with` is known count.
 pub record IsWalked (known : ℕ → Bool) (links : List Link) (head : ℕ) (given : List ℕ) : Type 0 where
   pub sound : (z : ℕ) → Contains given z → (l : Link) × IsRead links head l × IsTrue (known l.with) × (l.gives ≡ z)
   pub whole : (l : Link) → IsRead links head l → IsTrue (known l.with) → Contains given l.gives

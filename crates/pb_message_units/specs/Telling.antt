@@ -118,8 +118,8 @@ abbrev pub good_messages : Project → Planned → List ℕ → Option (List Dir
 good_messages project u stderr None = compiler_messages stderr ++ artifacts project u (made_file_of project u)
 good_messages project u stderr (Some directives) = filter_map note_in directives ++ (executed u directives ∷ [])
 
--- the diagnostics of a bad unit are reported: the unit is a compile, and no stream of its child is
--- too long
+-- The unit is a compile, and no stream of its child is too long. If so, the diagnostics of the bad
+-- unit are reported.
 abbrev pub gives_diagnostics : What → UnitFault → Bool
 gives_diagnostics Run e = false
 gives_diagnostics w fault.OutputTooLong = false

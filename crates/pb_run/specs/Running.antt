@@ -158,7 +158,7 @@ IsJudged project u c by ended w ran = ran ≡ ran_from by (ran_of project u c en
 
 -- The record that a good unit has afterwards.
 
--- the names of the inputs in a child's answer, if the child left these files
+-- the names of the inputs in the answer of a child that ended in this way and left these files
 abbrev pub names_of : Project → Planned → Command → Ended → Map → List InputName
 names_of project u c ended files = names_in (answered_of project u c ended (file_at (dep_info_of project u) files))
 

@@ -12,8 +12,8 @@ pub fn differences_are_one()
 
 /// States a fact about the name that `differs` returns for two rows of variables, each sorted by
 /// name. The name is the first, in byte order, at which the rows differ. At this name only one row
-/// has a text, or their texts differ. At each lesser name both rows have the same text, or neither
-/// row has a text.
+/// has a text, or the two rows have different texts. At each lesser name both rows have the same
+/// text, or neither row has a text.
 pub fn first_name_is_first()
     ensures { FirstNameIsFirst }
 {}

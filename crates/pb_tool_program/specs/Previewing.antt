@@ -54,7 +54,8 @@ abbrev pub ForetellsIf : Bool → Result Prepared BuildFault → Result (Unit {0
 ForetellsIf is_modelled (Ok prepared) answer old new said_before said_after = Foretells is_modelled prepared answer old new said_before said_after
 ForetellsIf is_modelled (Err fault) answer old new said_before said_after = (answer ≡ Err fault) × (new ≡ old) × (said_after ≡ said_before)
 
--- the units of a plan were prepared as those of a build are, and then looked at
+-- The units of a plan were prepared as for a build. Then they were looked at, unless the
+-- preparation failed.
 pub record LooksAhead (is_modelled : Bool) (child : Answers) (options : Options) (plan : Result BuildPlan BuildFault) (answer : Result (Unit {0}) BuildFault) (old new : BuildState) (said_before said_after : SinkState) : Type 0 where
   pub prepared : Result Prepared BuildFault
   pub readied : BuildState

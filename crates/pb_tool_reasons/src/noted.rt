@@ -69,8 +69,8 @@ fn is_noted(noted: &Noted, index: usize, key: &Text, difference: &Difference) ->
     }
 }
 
-/// Returns the detail of the started unit at an index, if the notes have this unit and this
-/// difference there. Otherwise, or if memory runs out for the detail, returns `Detail::Nothing`.
+/// Returns the detail that is noted at an index, if this key and this difference are noted at the
+/// same index. Otherwise, or if memory runs out for the detail, returns `Detail::Nothing`.
 fn detail_at(
     alloc: Global,
     noted: &Noted,

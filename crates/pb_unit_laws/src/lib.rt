@@ -62,8 +62,8 @@ pub fn settings_are_these()
     ensures { SettingsAreThese }
 {}
 
-/// This law states the level above some units, the name of the package at an index, and whether
-/// this package has a library.
+/// This law says what `above` is for the levels of units at some indices. It also says what
+/// `name_at` and `has_library` are for the package at an index.
 pub fn levels_are_these()
     ensures levels { LevelsAreThese }
     ensures packages { PackagesHaveNames }
