@@ -13,8 +13,6 @@ mod plans;
 #[cfg(test)]
 mod readers;
 #[cfg(test)]
-mod records;
-#[cfg(test)]
 mod turns;
 #[cfg(test)]
 mod units;
