@@ -88,7 +88,8 @@ def wrong_in(work, before, number, on, options, right, clean, files):
     more = {"LD_PRELOAD": f"{folder}/failing.so", "FAILING_ALLOCATION": str(number), **({"FROM_THEN_ON": "1"} if on else {})}
     status, lines, said = built(work, more, options)
     last = b"\n".join(said[-2:])
-    if options and lines and not any(EXPLAINED.fullmatch(line) for line in said):
+    # (without a plan there is nothing to explain: only the finish line comes)
+    if options and lines not in ([], [FAILED]) and not any(EXPLAINED.fullmatch(line) for line in said):
         return f"allocation {number}: status {status}, explains nothing: {said!r}"[:900], "wrong"
     if (status, lines) == (0, right):
         came = "right"

@@ -12,7 +12,8 @@
 #   needs no memory, if all allocations that follow are refused too)
 # - that note and that error alone, if memory was refused before the first line
 #
-# With `--explain`, a build that prints a line must also say how many units it started, or that memory ran out for that.
+# With `--explain`, a build that prints a line of a unit must also say how many units it started, or that memory ran out for
+# that.
 #
 # The next build, with memory, must print the lines of a clean build except for `fresh`. The folder of each unit must have
 # the files that a clean build leaves. A third build must start nothing.
