@@ -147,8 +147,8 @@ pub record Builds {S : Type 0} (is_modelled : Bool) (child : Answers) (Turns : S
   pub works : Works is_modelled child Turns options from last inner old record new { heard = heard }
   pub closes : Closes inner result heard new.heard
 
--- A build with the options' number of jobs. The pick chooses which unit begins. The states of the
--- pick lead from `pick` to `picked`.
+-- A build with the options' number of jobs. The pick chooses which unit begins. Its state is `pick`
+-- before the build, and `picked` after it.
 abbrev pub BuildsBy : {S : Type 0} → Bool → Answers → (S → List ℕ → ℕ → S → Type 0) → Options → S → S → Result Summary BuildFault → BuildState → BuildState → Type 0
 BuildsBy {S} is_modelled child Picks options pick picked result old new =
     let from : Jobs S = record { pick = pick; jobs = options.jobs } in

@@ -17,7 +17,7 @@ use Rattle.pb_store.specs.declared.difference.CommandPart.{CommandPart}
 use Rattle.pb_store.specs.declared.difference.Difference.{Difference}
 use Rattle.pb_store.specs.declared.difference.Difference.TheVariants.{NoRecord, Command, Pair, Input, Dependency}
 
--- in the row, `b` reports the first item for which `Holds` is false
+-- `b` is what `told` says about the first item of the row for which `Holds` is false
 abbrev pub IsFirstOf : {A B : Type 0} → (A → Type 0) → (A → B) → List A → B → Type 0
 IsFirstOf {A} Holds told row b = (n : ℕ) × (here : A) × (slice_get row n ≡ Some here) × (Holds here → ⊥) × AllByRecursion Holds (take n row) × (b ≡ told here)
 

@@ -86,8 +86,8 @@ Grounding child setup project next w Since = (premise : Premise) (sources : Worl
     → BuildInvariant (build_context premise child setup project sources) (untouched project) (nothing_said project) next w → Since (build_context premise child setup project sources)
 
 -- What is true after these events. `BuildInvariant` is true. Each answered unit has its outcome of
--- a clean build. The lines that are due are those of the first rows. The due lines of the first n
--- units are those of the first n of these rows.
+-- a clean build. If the lines of n units are due, they are those of the first n rows. The due lines
+-- of the first k units are those of the first k of these rows.
 pub record OutcomeHolds (b : BuildContext) (es : List (Event BadUnit)) (new : World) : Type 0 where
   pub done : List (Option (List Directive))
   pub next : Option ℕ
@@ -203,9 +203,9 @@ abbrev pub TurnsEnd : {S : Type 0} → Bool → Answers → (S → List ℕ → 
 TurnsEnd is_modelled child Turns setup project next from last (Ok summary) old new = EndsWhole is_modelled child Turns setup project next from last summary old new
 TurnsEnd is_modelled child Turns setup project next from last (Err fault) old new = EndsCut is_modelled child Turns setup project next from last fault old new
 
--- If each answered unit has its outcome of a clean build, the due lines are those of the first
--- rows. Once all units up to and including the first bad one have answered, the due lines are those
--- of all rows.
+-- Let each answered unit have its outcome of a clean build. If the lines of n units are due, they
+-- are those of the first n rows. Once all units up to and including the first bad one have
+-- answered, the lines of all rows are due.
 abbrev pub SaysFirstRows : Type 0
 SaysFirstRows = (b : BuildContext) (es : List (Event BadUnit)) (done : List (Option (List Directive))) → ((index : ℕ) (answer : Answer BadUnit) → slice_get (states_in b.project es) index ≡ Some (Answered answer) → HasGiven b es done index answer)
     → (due (states_in b.project es) ≡ said_from b.project es 0 (take (count_due (states_in b.project es)) (rows_in b))) × (is_finished (states_in b.project es) ≡ true → count_due (states_in b.project es) ≡ length (rows_in b))
