@@ -15,8 +15,8 @@ IsWithin ready flying (step.Begin i) = i < ready
 IsWithin ready flying (step.Answer i) = i < flying
 
 -- A turn has decided the steps that produced these events. Each step started from the state after
--- the last step, and the flight was not finished then. Each step chose a unit that might begin or
--- was in flight. `Spawns` says if a unit has a child, and `Gives` which answer it may give.
+-- the step before it, and the flight was not finished then. Each step chose a unit that might begin
+-- or was in flight. `Spawns` says whether a unit has a child, and `Gives` which answer it may give.
 pub data Flies {F S : Type 0} (Turns : S → List ℕ → List ℕ → Step → S → Type 0) (needs : List (List ℕ)) (Spawns : ℕ → Bool → Type 0) (Gives : ℕ → Answer F → Type 0) (from : S) : List (Event F) → S → Type 0 where
   nothing : Flies Turns needs Spawns Gives from [] from
   begin : (es : List (Event F)) (now next : S) (i u : ℕ) (spawned : Bool) (before : Flies Turns needs Spawns Gives from es now) (missing : is_finished (states_after needs es) ≡ false)
