@@ -24,8 +24,8 @@ use Rattle.pb_store.specs.declared.replaying.Compared.{Compared}
 use Rattle.pb_store.specs.declared.replaying.Compared.TheVariants.{Differs, Same}
 use Rattle.pb_store.specs.declared.replaying.Replayed.{Replayed}
 
--- In the row, `b` reports the first item for which `Holds` is false. For all items before it,
--- `Holds` is true.
+-- `b` is what `told` says about the first item of the row for which `Holds` is false. For all items
+-- before that one, `Holds` is true.
 pub record IsFirst {A B : Type 0} (Holds : A → Type 0) (told : A → B) (row : List A) (b : B) : Type 0 where
   pub before : List A
   pub here : A
@@ -60,8 +60,8 @@ HasNumber at need = number_if (at need.0) ≡ Some need.1
 abbrev pub HasFiles : List ℕ → Map → (List ℕ × List (List ℕ × List ℕ)) → Type 0
 HasFiles folder files need = (is_relative need.0 ≡ true) × (contents (out_of folder need.0) files ≡ need.1)
 
--- The needed units are as the record names them, in its format. `FirstNeed` is the first unit, in
--- the record's order, that is not as the record names it.
+-- The needed units are as the record names them, by numbers or by copies. `FirstNeed` is the first
+-- unit, in the record's order, that is not as the record names it.
 abbrev pub AreNeeded : List ℕ → RecordMap → Map → Needed → Type 0
 AreNeeded folder at files (Copies copies) = AllByRecursion (HasFiles folder files) copies
 AreNeeded folder at files (Numbers number needs) = AllByRecursion (HasNumber at) needs
