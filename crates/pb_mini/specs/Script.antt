@@ -20,7 +20,7 @@ ending status = record { status = pos status; stdout = []; stderr = []; files = 
 abbrev pub no_output : Output
 no_output = record { stdout = []; files = [] }
 
--- the reply whose output is this output, followed by that of `reply`
+-- the reply, with this output put in front of the reply's own output
 abbrev pub before : Output → Reply → Reply
 before output reply = record reply { stdout = output.stdout ++ reply.stdout; files = output.files ++ reply.files }
 

@@ -29,7 +29,7 @@ pub record CanBeAsked (variable : List ℕ × Option (List ℕ)) : Type 0 where
   pub told : CanBeTold variable.0
   pub no_equals : has_byte 61 variable.0 ≡ false
 
--- each of these texts is among the others
+-- each text in `texts` is also in `others`
 abbrev pub AreAmong : List (List ℕ) → List (List ℕ) → Type 0
 AreAmong texts others = (text : List ℕ) → is_mentioned texts text ≡ true → is_mentioned others text ≡ true
 
