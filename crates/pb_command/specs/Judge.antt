@@ -46,7 +46,7 @@ crate_in [] = []
 crate_in (option ∷ []) = []
 crate_in (option ∷ name ∷ words) = name
 
--- the content of a compile's dep-info, which is the file `C.d` in its output folder
+-- the content of a compile's dep-info, which is the file `C.d` in the compile's output folder
 abbrev pub dep_info_in : Command → List ℕ → Map → Option (List ℕ)
 dep_info_in c out files = file_at (file_in out (crate_in c.words ++ codes ".d")) files
 
