@@ -32,7 +32,7 @@ pub record Marked (list : List ℕ) (count : ℕ) (old_marks : List Bool) (old_w
 abbrev pub AreClear : List Bool → Type 0
 AreClear marks = (v : ℕ) → IsMarked marks v → ⊥
 
--- each node still marked is in the list at index `count` or later
+-- each node that is still marked is in the list at index `count` or later
 pub record Clearing (list : List ℕ) (count : ℕ) (old_marks marks : List Bool) : Type 0 where
   pub long : length marks ≡ length old_marks
   pub left : (v : ℕ) → IsMarked marks v → (k : ℕ) × (count ≤ k) × (k < length list) × (slice_index_or list k 0 ≡ v)
@@ -53,7 +53,8 @@ AreReached nodes roots found = (marks : List Bool) × IsFound nodes roots marks 
 abbrev pub node_of : Extent → ℕ
 node_of e = e.node
 
--- an extent has the number of nodes that its node reaches, and says if the node reaches itself
+-- An extent has the number of nodes that its node reaches. `turns` is true if and only if the node
+-- reaches itself.
 pub record IsExtent (nodes : List Node) (e : Extent) : Type 0 where
   pub reached : List ℕ
   pub are : AreReached nodes (needs_at nodes e.node) reached
