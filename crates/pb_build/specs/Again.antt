@@ -1,4 +1,4 @@
--- Law: after a successful build, the same build starts no child for a unit.
+-- Law: if a successful build is made again, the second build starts no child for a unit.
 use Rattle.std.specs.Prelude.{◌≡◌, [], ℕ, true, List, Ok}
 use Rattle.pb_build_result.specs.declared.summary.Summary.{Summary}
 use Rattle.pb_run_flight.specs.declared.turn.Step.{Step}

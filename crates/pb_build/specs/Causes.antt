@@ -1,5 +1,5 @@
 -- What a build does before its units begin: it starts a child and makes calls. If a fault ends the
--- build there, these definitions say which calls were made, and which call failed.
+-- build before its units begin, these definitions say which calls were made, and which call failed.
 use Rattle.std.specs.Prelude.{◌≡◌, ◌⊎◌, ◌+◌, ◌++◌, ◌∷◌, codes, length, max, List, [], Result, MatchResult, OnErr, OnOk, ℕ}
 use Rattle.pb_place_types.specs.At.{At}
 use Rattle.pb_place_types.specs.CallsInTurn.{past_calls}

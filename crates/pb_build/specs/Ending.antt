@@ -119,7 +119,8 @@ pub record StopsEarly {S : Type 0} (is_modelled : Bool) (child : Answers) (optio
   pub unasked : last ≡ from
   pub calls : IsTrue is_modelled → StopsBefore options old.world none_began.fault old.counts new.counts
 
--- the work of a build before its finish line: it stops before its units begin, or its units end
+-- the work of a build before its finish line: the build stops before its units begin, or its units
+-- end
 abbrev pub Works : {S : Type 0} → Bool → Answers → (S → List ℕ → List ℕ → Step → S → Type 0) → Options → S → S → Result Summary BuildFault → BuildState → BuildState → Type 0
 Works is_modelled child Turns options from last result old new = StopsEarly is_modelled child options from last result old new ⊎ UnitsEnd is_modelled child Turns options from last result old new
 

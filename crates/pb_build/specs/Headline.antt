@@ -156,8 +156,8 @@ LinesBefore OutOfMemory project es rows old new = (n : ℕ) × Appends old new (
 LinesBefore fault project es rows old new = ⊥
 
 -- A fault came at a unit or at the sink, or memory ran out, or no run number was left. If no run
--- number was left, all numbers from the next one on had been taken. `StandsCut` says what differed
--- for a unit that could not begin.
+-- number was left, the units of this build had taken all that were left at first. `StandsCut` says
+-- what differed for a unit that could not begin.
 pub record GivesFirst (premise : Premise) (child : Answers) (Schedule : Project → List (Event BadUnit) → Type 0) (options : Options) (fault : BuildFault) (old new : BuildState) : Type 0 where
   pub flown : UnitsFly child Schedule options old new
   pub spent : Spends (LacksNumber flown.units.project old.world) fault (next_in (records_of options old.world.variables) old.world) flown.es

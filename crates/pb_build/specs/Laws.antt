@@ -11,8 +11,8 @@ use Rattle.pb_build.specs.Headline.{ByFirst, ByTurns, Headline, UnitsOf, rows_fo
 use Rattle.pb_build.specs.Result.{BuildResult, Refused, NoToolchain, Finished, IsResult}
 use Rattle.pb_build_turns.specs.Executor.{BuildState}
 
--- two worlds with the same variables and the same files outside the target folder have the same
--- result
+-- Builds in two worlds have the same result if the worlds have the same variables, and the same
+-- files outside the target folder.
 abbrev pub LooksAtSources : Type 0
 LooksAtSources = (child : Answers) (options : Options) (v w : World) (r : BuildResult) → v.variables ≡ w.variables
     → from_nothing (environment_of options w.variables).target v ≡ from_nothing (environment_of options w.variables).target w → IsResult child options v r → IsResult child options w r

@@ -28,9 +28,9 @@ use Rattle.pb_unit.specs.declared.plan.Planned.{Planned}
 abbrev pub answer_in : Project → Planned → Command → Reply → Result CheckedReply UnitFault
 answer_in project u c r = answered_of project u c (ended_by r) (option_and_then (finite.get (replied_files u.out r)) (dep_info_of project u))
 
--- The outcome of a unit, given its child's reply and the answer in it. A good outcome has the files
--- of the output folder, the directives if the unit is a run, and messages. A bad outcome has the
--- reason and messages.
+-- The outcome of a unit, given its child's reply and the answer in this reply. A good outcome has
+-- the files of the output folder, the directives if the unit is a run, and messages. A bad outcome
+-- has the reason and messages.
 abbrev pub given_by : Project → Planned → Reply → Result CheckedReply UnitFault → Outcome
 given_by project u r (Ok answered) = Good (replied_files u.out r) answered.directives (told_well project u r.stderr answered.directives)
 given_by project u r (Err fault) = Bad record { fault = fault; said = (told_badly u.unit.what fault r.stdout r.stderr).1 } (told_badly u.unit.what fault r.stdout r.stderr).0

@@ -33,7 +33,7 @@ abbrev pub EndsAreThese : Type 0
 EndsAreThese = (states : List (State BadUnit)) → let first = prefix_len (λ s. is_good_at (Some s)) states in
     (count_due states ≡ first + (if option_map_or is_bad (slice_get states first) false then 1 else 0)) × (is_finished states ≡ option_map_or is_bad (slice_get states first) true)
 
--- The key at an index is that of the unit there, if there is a unit. An outcome is bad if and only
--- if it has a fault.
+-- If there is a unit at an index, the key at this index is the unit's key. An outcome is bad if and
+-- only if it has a fault.
 abbrev pub RowsAreThese : Type 0
 RowsAreThese = ((project : Project) (index : ℕ) → key_at project index ≡ map (λ (u : Planned). u.key) (option_to_list (unit_at project index))) × ((o : Outcome) → rows.is_bad o ≡ is_some (fault_in o))

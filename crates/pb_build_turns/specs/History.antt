@@ -310,9 +310,9 @@ abbrev pub record_anew : Answers → Setup → Project → List (Option (List Di
 record_anew child setup project done now u number = record_of project u (command_of setup project u done) number (ended_by (reply_in child (command_of setup project u done) now)) now
 
 -- The record of a unit that has answered. A good unit with a child has the record of the child's
--- reply, with the number that was next when the unit began. A good unit without a child has its
--- first record; if this record had no number, it now has one. A bad unit without a child has the
--- same record as at first.
+-- reply, with the number that was next when the unit began. A good unit without a child has the
+-- record that it had at first. If that record had no number, it now has a number. A bad unit
+-- without a child has the same record as at first.
 pub record LeavesRecord (child : Answers) (setup : Setup) (project : Project) (done : List (Option (List Directive))) (started : Bool) (before until : List (Event BadUnit)) (next : Option ℕ) (first now : World) (index : ℕ) (answer : Answer BadUnit) : Type 0 where
   pub unit : Planned
   pub there : unit_at project index ≡ Some unit
@@ -421,8 +421,8 @@ NamesUnit project (Device key fault) None before es = IsBeginning project key fa
 NamesUnit project (Device key fault) (Some unit) before es = (key_at project unit ≡ key ∷ []) × (es ≡ before)
 NamesUnit project fault asked before es = Unit {0}
 
--- What has happened up to a fault. If an answer was taken, it is that of the unit `asked`. The
--- executor has the units that were in flight before the fault, without the unit `asked`.
+-- What has happened up to a fault. If an answer was taken, it is that of the unit `asked`. Each
+-- unit that is still in flight was in flight before the fault, and is not the unit `asked`.
 pub record StoryEnds (is_modelled : Bool) (child : Answers) (fault : BuildFault) (asked : Option ℕ) (first : UnitExecutor) (at : BuildState) (c : UnitExecutor) (now : BuildState) (still : ℕ → Type 0) (es : List (Event BadUnit)) : Type 0 where
   pub setup : c.setup ≡ first.setup
   pub project : c.project ≡ first.project
