@@ -1,5 +1,5 @@
--- What a step of one unit does. The unit begins, with or without a child, or it answers, or it does
--- both, one after the other.
+-- What a step of one unit does. In a step the unit begins, or it answers, or it begins and then
+-- answers. A unit begins with or without a child.
 use Rattle.std.specs.Prelude.{◌≡◌, ◌⊎◌, ℕ, Bool, List, Option, Some, None, Result, Ok, MatchResult, ◌++◌, ◌∷◌, if◌then◌else◌, is_some, [], map, Err, IsOk, IfOk, IfErr, IfSome, ◌≢◌, ◌+◌, true, IsTrue, IsSome, MatchOption, OnOk, length, max, slice_set, false, slice_get}
 use Rattle.std.specs.FinMap as finite
 use Rattle.pb_build_result.specs.declared.bad_unit.BadUnit.{BadUnit}
@@ -109,7 +109,7 @@ abbrev pub SpawnsAnew : Answers → Command → ℕ → Counts → Counts → Ty
 SpawnsAnew child c ticket old new = Spawns child c ticket (past_call old) new
 
 -- Two calls removed the record and the files of the output folder, and then the child was spawned.
--- `LaunchEnds` shows the order of these calls: it says which of them were made if one failed.
+-- `LaunchEnds` says which of these calls were made if a call failed, and so it shows their order.
 abbrev pub Launches : Answers → Command → ℕ → Counts → Counts → Type 0
 Launches child c ticket old new = SpawnsAnew child c ticket (past_call old) new
 
