@@ -86,7 +86,7 @@ DiffersFrom folder at c w r (Pair name) = AsksAs r.asked c × IsFirstName r.aske
 DiffersFrom folder at c w r (Input name) = (command_of r.asked ≡ c) × IsFirst (IsPresent c.target w) name_of r.inputs name
 DiffersFrom folder at c w r (Dependency need) = (command_of r.asked ≡ c) × Agrees c.target r.inputs w × FirstNeed folder at w.files r.needed need
 
--- the report on a record: its first difference, or nothing if nothing differs from it
+-- the report on a record: the first difference from the record, or `None` if nothing differs
 abbrev pub FirstFrom : List ℕ → RecordMap → commands.Command → World → Record → Option Difference → Type 0
 FirstFrom folder at c w r None = IsAsRecorded folder at c w r
 FirstFrom folder at c w r (Some d) = DiffersFrom folder at c w r d
@@ -115,7 +115,7 @@ pub record UnchangedIsSame : Type 0 where
   pub same : (folder key : List ℕ) (c : commands.Command) (w : World) → FirstDifference folder key c w None → (r : Record) × IsSame reading folder key c w r
   pub none : (folder key : List ℕ) (c : commands.Command) (w : World) (r : Record) → IsSame reading folder key c w r → NamesPaths r.needed → FirstDifference folder key c w None
 
--- A unit has at most one first difference in one world.
+-- In a world, a unit has at most one first difference.
 abbrev pub DifferencesAreOne : Type 0
 DifferencesAreOne = (folder key : List ℕ) (c : commands.Command) (w : World) (found other : Option Difference) → FirstDifference folder key c w found → FirstDifference folder key c w other → found ≡ other
 

@@ -43,8 +43,8 @@ IsHeld table need = number_in table need.0 ≡ Some need.1
 abbrev pub HasNumbers : RecordMap → List (List ℕ × Option ℕ) → Type 0
 HasNumbers at table = (key : List ℕ) → number_in table key ≡ number_if (at key)
 
--- The folder `f` is the output folder of one of these units, or is read by the command in such a
--- unit's record.
+-- One of these units has the output folder `f`, or has a record with a command that reads the
+-- folder `f`.
 pub data ReadBy (at : RecordMap) (folder : List ℕ) (needs : List (List ℕ)) (f : List ℕ) : Type 0 where
   itself : (need : List ℕ) → Contains needs need → f ≡ out_of folder need → ReadBy at folder needs f
   further : (need : List ℕ) (s : Record) → Contains needs need → at need ≡ Some s → Contains s.asked.reads f → ReadBy at folder needs f
@@ -90,8 +90,8 @@ pub record IsKept (judge : Judge) (child : Answers) (folder key : List ℕ) (c :
   pub unnamed : NoneNames (records folder w) number
 
 -- When a record may be put into the folder. The record contains the reply of an honest child in
--- this world, and names records that are there. No record that counts contains this unit's key
--- together with this run number.
+-- this world. The units that the record names have records that count. No record that counts
+-- contains this unit's key together with this run number.
 pub record MayPut (read : RecordParser) (judge : Judge) (child : Answers) (folder key : List ℕ) (w : World) (r : Record) (number : ℕ) : Type 0 where
   pub honest : IsHonest judge child (command_of r.asked) w
   pub agree : Agrees r.asked.target r.inputs w
@@ -134,7 +134,7 @@ pub record IsMigrated (judge : Judge) (child : Answers) (folder key : List ℕ) 
   pub needs_stand : HasNeeds (records folder w) folder c.reads needs number
   pub unnamed : NoneNames (records folder w) number
 
--- the next number was taken, and the number after it is now the next one
+-- the next number was taken, and the number after it is now the next number
 abbrev pub TakesNext : Option ℕ → Option ℕ → Type 0
 TakesNext old new = (number : ℕ) × (old ≡ Some number) × (new ≡ after number)
 
@@ -185,7 +185,7 @@ pub record Compares (folder key : List ℕ) (c : Command) (w : World) (compared 
   pub first : FirstDifference folder key c w (difference_in compared)
   pub carries : CarriesReplayed (records folder w key) compared
 
--- this was the next number and was taken, and the number after it is now the next one
+-- this was the next number and was taken, and the number after it is now the next number
 abbrev pub IsGiven : ℕ → Option ℕ → Option ℕ → Type 0
 IsGiven number old new = (old ≡ Some number) × (new ≡ after number)
 

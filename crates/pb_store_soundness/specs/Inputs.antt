@@ -23,9 +23,9 @@ abbrev pub path_input : List ℕ → Map → Option (List ℕ) → Input
 path_input path m (Some bytes) = File path bytes
 path_input path m None = Tree path (contents path m)
 
--- The input with this name and its present value. The value of a path is what the sources have
--- there, so nothing at or below the target folder counts. The value of a variable is the inherited
--- text, if there is one.
+-- The input with this name and its present value. The value of a path is what the sources have at
+-- the path, so nothing at or below the target folder counts. The value of a variable is the
+-- inherited text, if there is one.
 abbrev pub input_in : List ℕ → World → InputName → Input
 input_in target w (Path path) = path_input path (from_nothing target w).files (finite.get (from_nothing target w).files path)
 input_in target w (Variable name) = Value name (finite.get w.variables name)

@@ -9,8 +9,8 @@ abbrev pub NoneNames : RecordMap → ℕ → Type 0
 NoneNames at number = (other : List ℕ) (r : Record) → at other ≡ Some r → (number_of r ≢ Some number) × ((need : List ℕ) → Contains (needs_of r) (need, number) → ⊥)
 
 -- Take a number that no record has or names. This stays true if the record of one unit is dropped.
--- It also stays true if that record is replaced. The new record must have another number, and name
--- only records that are there.
+-- It also stays true if that record is replaced by a record that has another number and names only
+-- records that count.
 abbrev pub NumberWaitsLaw : Type 0
 NumberWaitsLaw = (old new : RecordMap) (key : List ℕ) (number : ℕ) → ((l : List ℕ) → l ≢ key → new l ≡ old l)
     → NoneNames old number → ((r : Record) → new key ≡ Some r → (number_of r ≢ Some number) × ((need : List ℕ) (n : ℕ) → Contains (needs_of r) (need, n) → (s : Record) × (old need ≡ Some s) × (number_of s ≡ Some n))) → NoneNames new number
@@ -29,8 +29,7 @@ pub record NamesBefore (next : Option ℕ) (r : Record) : Type 0 where
   pub own : (n : ℕ) → number_of r ≡ Some n → IsBefore next n
   pub named : (need : List ℕ) (n : ℕ) → Contains (needs_of r) (need, n) → IsBefore next n
 
--- for each record that counts, the next number is above its own number and above all numbers that
--- it names
+-- the next number is above each number that some record that counts has or names
 abbrev pub IsAhead : RecordMap → Option ℕ → Type 0
 IsAhead at next = (key : List ℕ) (r : Record) → at key ≡ Some r → NamesBefore next r
 

@@ -51,8 +51,8 @@ abbrev pub ReuseLaw : Type 0
 ReuseLaw = (read : RecordParser) (judge : Judge) (child : Answers) (folder key : List ℕ) (c : Command) (w : World) (r : Record) → Sound read judge child folder w.files
     → IsSame read folder key c w r → AreGrounded (record_at read folder w.files) folder c.reads → Backs judge r (out_of folder key) (files_in (out_of folder key) w.files) (reply_in child c w)
 
--- The folder `f` is the output folder of one of the named units, or is read by the command in such
--- a unit's record.
+-- One of the named units has the output folder `f`, or has a record with a command that reads the
+-- folder `f`.
 pub data ReadByNeeds (at : RecordMap) (folder : List ℕ) (needs : List (List ℕ × ℕ)) (f : List ℕ) : Type 0 where
   own : (need : List ℕ) (n : ℕ) → Contains needs (need, n) → f ≡ out_of folder need → ReadByNeeds at folder needs f
   beyond : (need : List ℕ) (n : ℕ) (s : Record) → Contains needs (need, n) → at need ≡ Some s → Contains s.asked.reads f → ReadByNeeds at folder needs f
