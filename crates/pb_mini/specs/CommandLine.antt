@@ -92,7 +92,8 @@ first (value ∷ more) = Ok value
 abbrev pub crate_type_of : List ℕ → kind.CrateType
 crate_type_of text = if bytes_eq text (codes "bin") then Bin else Lib
 
--- The name of the image in the output folder. `dep_info_name` is the name of the dep-info there.
+-- The name of the image in the output folder. `dep_info_name` is the name of the dep-info in this
+-- folder.
 abbrev pub image_name : kind.CrateType → List ℕ → List ℕ
 image_name Bin name = name
 image_name Lib name = codes "lib" ++ name ++ codes ".rlib"
