@@ -1,4 +1,4 @@
--- The fault of the items of a package's features, if they have one (The Cargo Book, Features).
+-- Which fault the items of a package's features have, if they have one (The Cargo Book, Features).
 use Rattle.std.specs.Prelude.{◌≡◌, ℕ, Bool, true, false, ◌&&◌, ◌||◌, not, if◌then◌else◌, List, Option, Some, None, slice_get}
 use Rattle.std.specs.List.{filter_map, flat_map, list_any}
 use Rattle.std.specs.Str.{bytes_eq}
