@@ -97,6 +97,6 @@ abbrev pub DiagnosticsAreCopied : Type 0
 DiagnosticsAreCopied = (s : Subject) (fresh : Bool) (text : List ℕ)
     → (front : List ℕ) × (line_of s fresh (CompilerMessage text) ≡ front ++ text ++ codes "}\n") × ((message : Data) → compact_text (diagnostic s message) ≡ front ++ compact_text message ++ codes "}")
 
--- the lines of several messages are the lines of each, one after another
+-- the lines of several messages are the lines of each message, one after another
 abbrev pub LinesFollow : Type 0
 LinesFollow = (s : Subject) (fresh : Bool) (messages : List Message) → lines_of s fresh messages ≡ flat_map (line_of s fresh) messages
