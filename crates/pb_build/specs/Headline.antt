@@ -49,8 +49,8 @@ use Rattle.pb_build.specs.Result.{toolchain_of, setup_of}
 abbrev pub records_of : Options → Map → List ℕ
 records_of options variables = below (environment_of options variables).target (folder_of options.profile)
 
--- the units that a build has in a world: those of the project that the build finds in this world,
--- with the version that the compiler reports
+-- The units that a build has in a world. The project is the one that the build finds in this world,
+-- and `toolchain` is the version that the compiler reports.
 pub record UnitsOf (child : Answers) (options : Options) (w : World) : Type 0 where
   pub project : Project
   pub toolchain : List ℕ
@@ -166,8 +166,8 @@ pub record GivesFirst (premise : Premise) (child : Answers) (Schedule : Project 
   pub came : CameAfter flown.units.project fault before flown.es
   pub began : AllBeganFor (context_of premise child options old.world flown.units) before flown.reasons old.world new.world
 
--- if a call failed after the query, that call was to list the folder of the records, or to read a
--- record directly in this folder
+-- If a call failed after the query, it was one of these calls: to list the folder of the records,
+-- or to read a record directly in this folder.
 abbrev pub NamesOpened : List ℕ → World → BuildFault → Starts → Starts → Type 0
 NamesOpened folder w (Device name (device.Place fault)) old new = (new ≡ old) ⊎ ((call : Call) × Contains (opened_looked folder w) call × (own_fault call ≡ fault) × (name_given call ≡ name))
 NamesOpened folder w e old new = Unit {0}

@@ -21,8 +21,10 @@ LooksAtSources = (child : Answers) (options : Options) (v w : World) (r : BuildR
 abbrev pub GivesFromNothing : Type 0
 GivesFromNothing = (child : Answers) (options : Options) (w : World) (r : BuildResult) → IsResult child options (from_nothing (environment_of options w.variables).target w) r → IsResult child options w r
 
--- The two results are the same. Both are the same refusal; or in both the compiler does not report
--- its version; or both have the same units of the same plan, with the same outcomes.
+-- The two results are the same. There are three cases.
+-- - Both are the same refusal.
+-- - In both, the compiler does not report its version.
+-- - Both have the same units of the same plan, with the same outcomes.
 abbrev pub SameResults : BuildResult → BuildResult → Type 0
 SameResults (Refused why) (Refused other) = why ≡ other
 SameResults NoToolchain NoToolchain = Unit {0}

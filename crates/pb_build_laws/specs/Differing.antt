@@ -22,7 +22,7 @@ abbrev pub IsFirstOf : {A B : Type 0} → (A → Type 0) → (A → B) → List 
 IsFirstOf {A} Holds told row b = (n : ℕ) × (here : A) × (slice_get row n ≡ Some here) × (Holds here → ⊥) × AllByRecursion Holds (take n row) × (b ≡ told here)
 
 -- What differs. Either no record counts, or something differs, or nothing differs. Of several
--- differences the first counts, in this order: a part of the command, a variable, an input, the run
+-- differences, the first counts. The order is: a part of the command, a variable, an input, the run
 -- number or the files of a needed unit.
 pub data Differs (folder : List ℕ) (at : RecordMap) (c : commands.Command) (w : World) : Option Record → Option Difference → Type 0 where
   no_record : Differs folder at c w None (Some NoRecord)

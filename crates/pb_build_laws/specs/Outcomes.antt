@@ -51,8 +51,8 @@ abbrev pub outcome_after : Answers → Setup → Project → World → List Outc
 outcome_after child setup project sources done u =
     if list_all (λ index. has_given (slice_get done index)) u.needs then given_to project u (command_after setup project done u) (child (command_after setup project done u) (view_of done sources u)) else Waiting
 
--- A list contains a build's outcomes if and only if it has, for each planned unit, the outcome that
--- is made from the outcomes before it.
+-- A list contains a build's outcomes if and only if two things are true. The list has one outcome
+-- for each planned unit. Each outcome is the one that is made from the outcomes before it.
 abbrev pub OutcomesAreThese : Type 0
 OutcomesAreThese = (child : Answers) (setup : Setup) (project : Project) (sources : World) (os : List Outcome) → (os ≡ outcomes child setup project sources)
     ↔ ((length os ≡ length project.plan.planned) × ((index : ℕ) (u : Planned) → slice_get project.plan.planned index ≡ Some u → slice_get os index ≡ Some (outcome_after child setup project sources (take index os) u)))

@@ -15,13 +15,13 @@ use Rattle.pb_build_turns.specs.Rows as rows
 use Rattle.pb_build_turns.specs.Rows.{fault_in}
 use Rattle.pb_unit.specs.declared.plan.Planned.{Planned}
 
--- the unit has answered, and it is bad if and only if `bad` is true
+-- the unit has answered, with a fault if `bad` is true, and without a fault if `bad` is false
 abbrev pub HasAnswered : State BadUnit → Bool → Type 0
 HasAnswered s bad = (answer : Answer BadUnit) × (s ≡ Answered answer) × (is_some answer.fault ≡ bad)
 
 -- A unit has not begun if and only if it is untouched. A unit is bad if and only if it has answered
--- and is bad. A unit is good if and only if it has answered and is good. An index without a unit is
--- not good.
+-- with a fault. A unit is good if and only if it has answered without a fault. An index without a
+-- unit is not good.
 abbrev pub StatesAreThese : Type 0
 StatesAreThese = (is_good_at {F = BadUnit} None ≡ false)
     × ((s : State BadUnit) → ((is_untouched s ≡ true) ↔ (s ≡ Untouched)) × ((is_bad s ≡ true) ↔ HasAnswered s true) × ((is_good_at (Some s) ≡ true) ↔ HasAnswered s false))
