@@ -155,8 +155,8 @@ MayAnswer next launched (step.Store store.NumbersSpent) old new = (next ≡ None
 MayAnswer next launched (step.Store store.OutOfMemory) old new = LandsBy launched old new
 MayAnswer next launched (step.Start fault) old new = IsSome launched × ((fault ≡ start.Died) ⊎ (fault ≡ start.Capture)) × LandsBy launched old new
 
--- The fault comes from a step that a unit takes only if something differs: a run number is taken,
--- the record or the files are removed, or the child is spawned.
+-- The fault comes from a step that a unit takes only if something differs. Such a step takes a run
+-- number, removes the record or the files, or spawns the child.
 abbrev pub starts : StepFault → Bool
 starts (step.Store (store.Place place.Remove)) = true
 starts (step.Store (store.Place fault)) = false

@@ -65,8 +65,8 @@ ready_of needs states = ready_from states 0 needs states
 
 -- Which lines are due.
 
--- the lines of the units in plan order, up to the first unit that has not answered, or up to and
--- including the first bad unit
+-- The lines of the units in plan order, up to the first unit that has not answered. A bad unit also
+-- ends the lines, after its own lines.
 abbrev pub due : {F : Type 0} → List (State F) → List ℕ
 due (Answered answer ∷ ss) = answer.lines ++ (if is_none answer.fault then due ss else [])
 due _ = []
