@@ -115,7 +115,8 @@ pub record IsShown (here : Here) (rows : List Row) (shown : Shown) : Type 0 wher
   pub counts : ShowsCounts here rows shown.counts
   pub colors : IsColored here.shows_colors (first_of (codes "color") rows) shown.colors
 
--- the form in which a plan is printed: JSON or Graphviz if this form was given, and otherwise lines
+-- the form in which a plan is printed: JSON if `--json` was given, Graphviz if `--dot` was given,
+-- and otherwise lines
 abbrev pub IsForm : List Row → PlanForm → Type 0
 IsForm rows Lines = IsFlag (codes "json") rows false × IsFlag (codes "dot") rows false
 IsForm rows Json = IsFlag (codes "json") rows true × IsFlag (codes "dot") rows false
