@@ -70,8 +70,8 @@ abbrev pub FirstNeed : List ℕ → RecordMap → Map → Needed → List ℕ �
 FirstNeed folder at files (Copies copies) need = IsFirst (HasFiles folder files) (λ c. c.0) copies need
 FirstNeed folder at files (Numbers number needs) need = IsFirst (HasNumber at) (λ n. n.0) needs need
 
--- nothing differs from the record: the record has this command, its inputs have their present
--- values, and the needed units are as the record names them
+-- Nothing differs from the record. The record has this command, and its inputs have their present
+-- values. The needed units are as the record names them.
 pub record IsAsRecorded (folder : List ℕ) (at : RecordMap) (c : commands.Command) (w : World) (r : Record) : Type 0 where
   pub asked : command_of r.asked ≡ c
   pub inputs : Agrees c.target r.inputs w

@@ -90,8 +90,8 @@ pub record IsKept (judge : Judge) (child : Answers) (folder key : List ℕ) (c :
   pub unnamed : NoneNames (records folder w) number
 
 -- When a record may be put into the folder. The record contains the reply of an honest child in
--- this world. The units that the record names have records that count. No record that counts
--- contains this unit's key together with this run number.
+-- this world. Each unit that the record names has a record with the named number. No record that
+-- counts contains this unit's key together with this run number.
 pub record MayPut (read : RecordParser) (judge : Judge) (child : Answers) (folder key : List ℕ) (w : World) (r : Record) (number : ℕ) : Type 0 where
   pub honest : IsHonest judge child (command_of r.asked) w
   pub agree : Agrees r.asked.target r.inputs w

@@ -38,15 +38,15 @@ pub record IsSame (read : RecordParser) (folder key : List ℕ) (c : Command) (w
 abbrev pub AreGrounded : RecordMap → List ℕ → List (List ℕ) → Type 0
 AreGrounded at folder reads = (v : List ℕ) → Contains reads (out_of folder v) → (n : ℕ) × Grounded at v n
 
--- If nothing differs from a unit's record of format 2, and all units with a folder in the command's
--- `reads` are grounded, the unit is grounded.
+-- Take a sound folder in which all units with a folder in the command's `reads` are grounded. If
+-- nothing differs from a unit's record of format 2, the unit is grounded.
 abbrev pub GroundsLaw : Type 0
 GroundsLaw = (read : RecordParser) (judge : Judge) (child : Answers) (folder key : List ℕ) (c : Command) (w : World) (r : Record) (number : ℕ) → Sound read judge child folder w.files
     → IsSame read folder key c w r → AreGrounded (record_at read folder w.files) folder c.reads → number_of r ≡ Some number → Grounded (record_at read folder w.files) key number
 
--- If nothing differs from a unit's record, and all units with a folder in the command's `reads` are
--- grounded, the child's reply would now be the recorded reply. The files of the reply would be
--- those in the unit's folder.
+-- Take a sound folder in which all units with a folder in the command's `reads` are grounded. If
+-- nothing differs from a unit's record, the child's reply would now be the recorded reply. The
+-- files of the reply would be those in the unit's folder.
 abbrev pub ReuseLaw : Type 0
 ReuseLaw = (read : RecordParser) (judge : Judge) (child : Answers) (folder key : List ℕ) (c : Command) (w : World) (r : Record) → Sound read judge child folder w.files
     → IsSame read folder key c w r → AreGrounded (record_at read folder w.files) folder c.reads → Backs judge r (out_of folder key) (files_in (out_of folder key) w.files) (reply_in child c w)
