@@ -43,7 +43,8 @@ role_alone word = if is_setting word then Unused else Source
 abbrev pub no_arguments : Arguments
 no_arguments = record { crate_names = []; crate_types = []; out_dirs = []; sources = []; externs = []; conditions = [] }
 
--- the values of the arguments, after one more value was put in front of the others of its role
+-- the values of the arguments, after one more value was put in front of the other values of its
+-- role
 abbrev pub with_value : Role → List ℕ → Arguments → Arguments
 with_value CrateName value said = record said { crate_names = value ∷ said.crate_names }
 with_value CrateType value said = record said { crate_types = value ∷ said.crate_types }
