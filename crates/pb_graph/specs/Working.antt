@@ -61,8 +61,8 @@ pub record IsExtent (nodes : List Node) (e : Extent) : Type 0 where
   pub count : e.count ≡ length reached
   pub turns : IsTrue e.turns ↔ Reaches nodes e.node e.node
 
--- the level of each node in the list is one more than the greatest level of its needs, or 0 if it
--- needs nothing
+-- The level of each node in the list is one more than the greatest level of the nodes that it
+-- needs. A node that needs no node has level 0.
 pub record AreLevels (nodes : List Node) (list levels : List ℕ) : Type 0 where
   pub long : length levels ≡ length nodes
   pub each : (v : ℕ) → Contains list v → slice_index levels v ≡ above (map (slice_index levels) (needs_at nodes v))
