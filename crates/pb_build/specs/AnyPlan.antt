@@ -68,7 +68,7 @@ pub record IsUnready (is_modelled : Bool) (child : Answers) (plan : BuildPlan) (
   pub heard : new.heard ≡ old.heard
 
 -- If the planning failed, its fault is returned and nothing is done. If the planning succeeded, the
--- units are prepared. `IsReadied` is true if the preparation succeeded, and `IsUnready` if it
+-- preparation follows. `IsReadied` is true if the preparation succeeded, and `IsUnready` if it
 -- failed.
 abbrev pub Readies : Bool → Answers → Options → Result BuildPlan BuildFault → Result Prepared BuildFault → BuildState → BuildState → Type 0
 Readies is_modelled child options (Err fault) result old new = (result ≡ Err fault) × (new ≡ old)
