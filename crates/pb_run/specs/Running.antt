@@ -308,7 +308,7 @@ pub record AnswersUnit (is_modelled : Bool) (project : Project) (u : Planned) (b
   pub judged : IsTrue is_modelled → (ended : Ended) × AnswersThen begun.awaited (Ok ended) (IsTrue true) old (λ w counts. IsJudged project u begun.command begun.awaited ended w ran)
   pub kept : IsTrue is_modelled → is_some ran.bad ≡ false → (ended : Ended) × AnswersThen begun.awaited (Ok ended) (IsTrue true) old (λ w counts.
       records (records_folder project) new.world u.key ≡ record_left project u begun.command begun.awaited ended before.next w)
-  -- if the unit is bad, its record is unchanged and no number is taken
+  -- if the unit is bad, nothing changes outside its output folder, and no number is taken
   pub unkept : IsSome ran.bad → ChangesOnly (is_at_or_below u.out) old.world new.world
   pub bad : IsSome ran.bad → now.next ≡ before.next
   -- if the unit is good and its record had no number, the next number is taken

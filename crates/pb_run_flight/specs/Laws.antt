@@ -36,8 +36,9 @@ HandsOutAllDue F = (needs : List (List ℕ)) (cs : List (Call F)) → IsLawful n
 abbrev pub EndsAs : {F : Type 0} → List (State F) → List (State F) → Type 0
 EndsAs {F} states end = (u : ℕ) (answer : Answer F) → slice_get states u ≡ Some (Answered answer) → slice_get end u ≡ Some (Answered answer)
 
--- The lines due now are those of the units due now. These lines are a prefix of the lines due at
--- the end.
+-- Let each unit that has answered keep its answer to the end. If the lines of n units are due now,
+-- they are the lines of the first n units at the end. They are a prefix of all lines due at the
+-- end.
 abbrev pub DueIsStart : (F : Type 0) → Type 0
 DueIsStart F = (states end : List (State F)) → EndsAs states end → (due states ≡ due_first (count_due states) end) × ((rest : List ℕ) × (due end ≡ due states ++ rest))
 
