@@ -26,7 +26,7 @@ abbrev pub AreInTurn : {F : Type 0} → ℕ → List (List ℕ) → List (Event 
 AreInTurn jobs needs [] = Unit {0}
 AreInTurn jobs needs (e ∷ es) = AreInTurn jobs needs es × (is_finished (states_after needs es) ≡ false) × IsNext jobs needs es e
 
--- If a build always picks the first unit that may begin, in plan order, it has exactly these
--- events. Zero jobs count as one.
+-- If a build always picks the first unit that may begin, in plan order, its events are exactly
+-- those of which `AreInTurn` is true. Zero jobs count as one.
 abbrev pub BuildsGoInTurn : Type 0
 BuildsGoInTurn = (options : Options) (project : Project) (es : List (Event BadUnit)) → ByFirst options project es ↔ AreInTurn (max options.jobs 1) (needs_of project) es
