@@ -57,6 +57,6 @@ RecordNumbersFit = (r : Record) (n : ℕ) (more : List ℕ) → Says (line (code
 abbrev pub HasOneReading : Type 0
 HasOneReading = (text : List ℕ) (found other : Option Record) → ReadsAs text found → ReadsAs text other → found ≡ other
 
--- There is a function that reads every text.
+-- There is a function that reads every text as `ReadsAs` defines.
 abbrev pub HasReading : Type 0
 HasReading = (read : List ℕ → Option Record) × FindsAsReading read

@@ -115,7 +115,7 @@ pub record UnchangedIsSame : Type 0 where
   pub same : (folder key : List ℕ) (c : commands.Command) (w : World) → FirstDifference folder key c w None → (r : Record) × IsSame reading folder key c w r
   pub none : (folder key : List ℕ) (c : commands.Command) (w : World) (r : Record) → IsSame reading folder key c w r → NamesPaths r.needed → FirstDifference folder key c w None
 
--- In a world, a unit has at most one first difference.
+-- Given a command and a world, a unit has at most one first difference.
 abbrev pub DifferencesAreOne : Type 0
 DifferencesAreOne = (folder key : List ℕ) (c : commands.Command) (w : World) (found other : Option Difference) → FirstDifference folder key c w found → FirstDifference folder key c w other → found ≡ other
 
