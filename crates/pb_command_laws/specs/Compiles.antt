@@ -138,8 +138,8 @@ pub record CompileSays (project : Project) (unit : Planned) (done : List (Option
   pub are : AreLibraries Is libraries
 
 -- Law: the arguments of a compile say what `CompileSays` states, followed by what the user's flags
--- say. The package belongs to a workspace that was read, and its source has a normalised absolute
--- path.
+-- say. The unit's package belongs to a workspace that was read. The unit's source has a normalised
+-- absolute path.
 abbrev pub CompilesSay : Type 0
 CompilesSay = (setup : Setup) (project : Project) (unit : Planned) (done : List (Option (List Directive))) (p : Package)
     → IsSettled project.workspace → package_of project unit ≡ Some p → is_run unit.unit.what ≡ false → is_path (source_by p unit.unit.what) ≡ true
