@@ -83,8 +83,8 @@ finished success = of_members ((codes "reason", string (codes "build-finished"))
 
 -- The laws.
 
--- A message line is the text of its object, written without spaces, and a line feed.
--- `EndsAreObjects` says this of the last line of a build.
+-- The line of a message that is not a diagnostic is the text of the message's object, written
+-- without spaces, and a line feed. `EndsAreObjects` says this of the last line of a build.
 abbrev pub MessagesAreObjects : Type 0
 MessagesAreObjects = (s : Subject) (fresh : Bool) (m : Message) → IfSome (object_of s fresh m) (λ told. line_of s fresh m ≡ compact_text told ++ line_feed ∷ [])
 
