@@ -52,9 +52,9 @@ reply_in child c w = child c (seen_by c w)
 abbrev pub Judge : Type 0
 Judge = Command → Reply → Option (List InputName)
 
--- A child is honest on a command in a world if it repeats its good reply in each world that agrees
--- on two things. These are the values of the inputs that the reply has, and the files below the
--- folders that the command may read. A bad reply need not be repeated.
+-- A child is honest on a command in a world if the child repeats its good reply in each world that
+-- agrees on two things. These are the values of the inputs that the reply has, and the files below
+-- the folders that the command may read. A bad reply need not be repeated.
 abbrev pub IsHonest : Judge → Answers → Command → World → Type 0
 IsHonest judge child c v = (w : World) (names : List InputName) → judge c (reply_in child c v) ≡ Some names
     → AllByRecursion (λ name. input_in c.target w name ≡ input_in c.target v name) names → SameBelow c.reads v.files w.files → reply_in child c w ≡ reply_in child c v
