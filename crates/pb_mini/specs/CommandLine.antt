@@ -55,7 +55,8 @@ with_value Condition value said = record said { conditions = value ∷ said.cond
 with_value Unused value said = said
 
 -- The values of two lists of arguments. For each role, the values of the first list come before
--- those of the second. `after` does this unless there is a fault.
+-- those of the second. `after` joins in this way, too, but a fault of the second list stays a
+-- fault.
 abbrev pub joined : Arguments → Arguments → Arguments
 joined a b = record {
   crate_names = a.crate_names ++ b.crate_names;
