@@ -81,8 +81,8 @@ as_line _ = ([], [])
 abbrev pub asked : List ℕ → List Directive → List (List ℕ)
 asked key said = values key (map as_line said)
 
--- a unit of this kind hears its package's run: the directives of the run count for the unit; only
--- libraries and binaries do
+-- A unit of this kind hears the run of its package, so the directives of this run count for the
+-- unit. Only libraries and binaries hear a run.
 abbrev pub hears : What → Bool
 hears what = is_library what || is_binary what
 
