@@ -17,7 +17,8 @@ IsMarked marks v = slice_index_or marks v false ≡ true
 abbrev pub unmarked : List Bool → ℕ
 unmarked marks = count_by not marks
 
--- The first `count` nodes of a list have been marked. The nodes not marked before are now waiting.
+-- The first `count` nodes of a list have been marked. Those of them that were not marked before are
+-- now waiting.
 pub record Marked (list : List ℕ) (count : ℕ) (old_marks : List Bool) (old_waiting : List ℕ) (marks : List Bool) (waiting : List ℕ) : Type 0 where
   pub long : length marks ≡ length old_marks
   pub each : (k : ℕ) → k < count → IsMarked marks (slice_index_or list k 0)
