@@ -1,5 +1,5 @@
--- Which replies to a command are good. This depends on the command alone, not on a plan. So the
--- answer of a unit that is no longer in a plan is judged as before.
+-- Which replies to a command are good. The command alone decides whether a reply is good, and no
+-- plan does. So the answer of a unit that is no longer in a plan is judged as before.
 use Rattle.std.specs.Prelude.{◌≡◌, ℕ, Bool, if◌then◌else◌, codes, List, [], ◌∷◌, ◌++◌, Option, Some, None, Result, Ok, Err, slice_get}
 use Rattle.std.specs.FinMap as finite
 use Rattle.std.specs.Str.{bytes_eq}
