@@ -185,7 +185,7 @@ pub record Compares (folder key : List ℕ) (c : Command) (w : World) (compared 
   pub first : FirstDifference folder key c w (difference_in compared)
   pub carries : CarriesReplayed (records folder w key) compared
 
--- this was the next number and was taken, and the number after it is now the next number
+-- this was the next number and was taken, and the number after it is now the next one
 abbrev pub IsGiven : ℕ → Option ℕ → Option ℕ → Type 0
 IsGiven number old new = (old ≡ Some number) × (new ≡ after number)
 
