@@ -1,4 +1,4 @@
--- Law: after a successful build, the same build starts no child for a unit.
+-- Law: after a successful build, the same build starts no child for a unit, unless a fault ends it.
 use Rattle.std.specs.Prelude.{◌≡◌, [], ℕ, true, List, Ok}
 use Rattle.pb_build_result.specs.declared.summary.Summary.{Summary}
 use Rattle.pb_run_flight.specs.declared.turn.Step.{Step}
@@ -9,9 +9,9 @@ use Rattle.pb_build_turns.specs.Executor.{BuildState}
 use Rattle.pb_build.specs.Ending.{Builds}
 use Rattle.pb_build.specs.Headline.{RestsOn}
 
--- Take a build that succeeded, with true records and an honest child. In the world that it left,
--- the same build starts no child for a unit, whichever turn decides the steps. A fault may still
--- end this second build.
+-- Take a build that succeeded, with true records and an honest child. Make the same build in the
+-- world that the first build left, whichever turn decides the steps. Unless a fault ends this
+-- second build, it starts no child for a unit.
 abbrev pub SameBuildStartsNone : {S T : Type 0} → (S → List ℕ → List ℕ → Step → S → Type 0) → (T → List ℕ → List ℕ → Step → T → Type 0) → Type 0
 SameBuildStartsNone {S} {T} Turns OtherTurns = (child : Answers) (options : Options) (from last : S) (again end : T) (summary other : Summary) (first second third fourth : BuildState)
     → RestsOn TrustedRecords child options first.world → Builds true child Turns options from last (Ok summary) first second → summary.success ≡ true

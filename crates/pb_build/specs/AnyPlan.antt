@@ -55,8 +55,8 @@ pub record IsReadied (is_modelled : Bool) (child : Answers) (options : Options) 
   pub most : new.most ≡ max old.most 1
   pub heard : new.heard ≡ old.heard
 
--- The units of a plan could not be prepared, because of a fault of the query or of opening the
--- records. Nothing was changed or written.
+-- The units of a plan could not be prepared. The fault came from the query, or from the opening of
+-- the records. Nothing was changed or written.
 pub record IsUnready (is_modelled : Bool) (child : Answers) (plan : BuildPlan) (fault : BuildFault) (old new : BuildState) : Type 0 where
   pub silent : IsTrue is_modelled → IsSilentFault child plan.environment plan.project old.world fault
   pub may : MayReady fault old.counts.starts new.counts.starts
@@ -67,8 +67,9 @@ pub record IsUnready (is_modelled : Bool) (child : Answers) (plan : BuildPlan) (
   pub most : (new.most ≡ old.most) ⊎ (new.most ≡ max old.most 1)
   pub heard : new.heard ≡ old.heard
 
--- If the planning failed, its fault is returned and nothing is done. Otherwise `IsReadied` is true
--- after a success, and `IsUnready` after a fault.
+-- If the planning failed, its fault is returned and nothing is done. If the planning succeeded, the
+-- preparation follows. `IsReadied` is true if the preparation succeeded, and `IsUnready` if it
+-- failed.
 abbrev pub Readies : Bool → Answers → Options → Result BuildPlan BuildFault → Result Prepared BuildFault → BuildState → BuildState → Type 0
 Readies is_modelled child options (Err fault) result old new = (result ≡ Err fault) × (new ≡ old)
 Readies is_modelled child options (Ok plan) (Err fault) old new = IsUnready is_modelled child plan fault old new

@@ -1,5 +1,5 @@
 -- What a build does before its units begin: it starts a child and makes calls. If a fault ends the
--- build there, these definitions say which calls were made, and which call failed.
+-- build before its units begin, these definitions say which calls were made, and which call failed.
 use Rattle.std.specs.Prelude.{◌≡◌, ◌⊎◌, ◌+◌, ◌++◌, ◌∷◌, codes, length, max, List, [], Result, MatchResult, OnErr, OnOk, ℕ}
 use Rattle.pb_place_types.specs.At.{At}
 use Rattle.pb_place_types.specs.CallsInTurn.{past_calls}
@@ -83,8 +83,8 @@ MayStart name _ old new = ⊥
 abbrev pub RunsOnce : {T : Type 0} → T → Counts → Counts → Type 0
 RunsOnce x old new = new ≡ past_call (one_start old)
 
--- Why a child's start failed. Either its one call, the spawn, failed, or the wait for the child's
--- end failed. If memory ran out, the call may have been made.
+-- Why a child's start failed. Either the spawn failed, or the wait for the child's end failed. If
+-- memory ran out, the spawn may have been made.
 abbrev pub SpawnEnds : BuildFault → Counts → Counts → Type 0
 SpawnEnds (Child unit fault) old new = new ≡ past_start_fault fault (one_start old)
 SpawnEnds OutOfMemory old new = (new ≡ old) ⊎ (new ≡ past_call (one_start old))
@@ -129,13 +129,13 @@ PlanStopsAt e calls old new = StopsAt e calls old new
 abbrev pub PlansInTurn : {T : Type 0} → Result T BuildFault → List Call → Counts → Counts → Type 0
 PlansInTurn result calls old new = MatchResult result (λ x. new ≡ past_calls calls old) (λ e. PlanStopsAt e calls old new)
 
--- How the query ended. The query starts a child by one call, even if the compiler then reports no
--- host.
+-- How the query ended with a fault. If the fault is `Toolchain`, one call started a child, but the
+-- compiler reported no host. Any other fault is one of `SpawnEnds`.
 abbrev pub AskEnds : BuildFault → Counts → Counts → Type 0
 AskEnds Toolchain old new = new ≡ past_call (one_start old)
 AskEnds e old new = SpawnEnds e old new
 
--- the counters after the query (one call), and then after these calls, which open the records
+-- the counters after the query, which is one call, and after these calls, which open the records
 abbrev pub ready_called : List Call → Counts → Counts
 ready_called calls old = past_calls calls (past_call (one_start old))
 

@@ -119,7 +119,8 @@ pub record StopsEarly {S : Type 0} (is_modelled : Bool) (child : Answers) (optio
   pub unasked : last ≡ from
   pub calls : IsTrue is_modelled → StopsBefore options old.world none_began.fault old.counts new.counts
 
--- the work of a build before its finish line: it stops before its units begin, or its units end
+-- the work of a build before its finish line: the build stops before its units begin, or its units
+-- end
 abbrev pub Works : {S : Type 0} → Bool → Answers → (S → List ℕ → List ℕ → Step → S → Type 0) → Options → S → S → Result Summary BuildFault → BuildState → BuildState → Type 0
 Works is_modelled child Turns options from last result old new = StopsEarly is_modelled child options from last result old new ⊎ UnitsEnd is_modelled child Turns options from last result old new
 
@@ -147,8 +148,8 @@ pub record Builds {S : Type 0} (is_modelled : Bool) (child : Answers) (Turns : S
   pub works : Works is_modelled child Turns options from last inner old record new { heard = heard }
   pub closes : Closes inner result heard new.heard
 
--- A build with the options' number of jobs. The pick chooses which unit begins. The states of the
--- pick lead from `pick` to `picked`.
+-- A build with the options' number of jobs. The pick chooses which unit begins. Its state is `pick`
+-- before the build, and `picked` after it.
 abbrev pub BuildsBy : {S : Type 0} → Bool → Answers → (S → List ℕ → ℕ → S → Type 0) → Options → S → S → Result Summary BuildFault → BuildState → BuildState → Type 0
 BuildsBy {S} is_modelled child Picks options pick picked result old new =
     let from : Jobs S = record { pick = pick; jobs = options.jobs } in

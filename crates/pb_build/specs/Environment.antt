@@ -23,13 +23,13 @@ abbrev pub flags_of : Option (List ℕ) → List (List ℕ)
 flags_of None = []
 flags_of (Some text) = line.words_of text
 
--- the path that a text spells, or `other` if the text has byte 0
+-- the path that a text spells, or the path `other` if the text has byte 0
 abbrev pub path_or : List ℕ → Result (List ℕ) PathFault → List ℕ
 path_or other (Ok path) = path
 path_or other (Err fault) = other
 
 -- The path that a text spells; a relative text starts at the root. If there is no text, or the text
--- has byte 0, this is `other`.
+-- has byte 0, this is the path `other`.
 abbrev pub told_or : List ℕ → List ℕ → Option (List ℕ) → List ℕ
 told_or root other None = other
 told_or root other (Some text) = path_or other (joined root text)

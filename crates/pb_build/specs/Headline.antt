@@ -49,8 +49,8 @@ use Rattle.pb_build.specs.Result.{toolchain_of, setup_of}
 abbrev pub records_of : Options → Map → List ℕ
 records_of options variables = below (environment_of options variables).target (folder_of options.profile)
 
--- the units that a build has in a world: those of the project that the build finds in this world,
--- with the version that the compiler reports
+-- The units that a build has in a world. The project is the one that the build finds in this world,
+-- and `toolchain` is the version that the compiler reports.
 pub record UnitsOf (child : Answers) (options : Options) (w : World) : Type 0 where
   pub project : Project
   pub toolchain : List ℕ
@@ -72,7 +72,7 @@ RestsOn NoRecords child options w = (key : List ℕ) → records (records_of opt
 
 -- Schedules: which events the units of a project may have.
 
--- the turn, from this state on, can decide steps that have these events
+-- from this state on, the turn can decide the steps that produce these events
 abbrev pub ByTurns : {S : Type 0} → (S → List ℕ → List ℕ → Step → S → Type 0) → S → Project → List (Event BadUnit) → Type 0
 ByTurns {S} Turns from project es = (last : S) × Flies Turns (needs_of project) Anyhow Anything from es last
 
@@ -126,7 +126,7 @@ pub record GivesAll (premise : Premise) (child : Answers) (Schedule : Project �
   -- records have or name
   pub numbers : (after : Option ℕ) × NumbersGiven (LacksNumber flown.units.project old.world) flown.es (next_in (records_of options old.world.variables) old.world) after
   pub unnoted : (index : ℕ) → slice_get (states_in flown.units.project flown.es) index ≡ Some Untouched → slice_get flown.reasons index ≡ Some None
-  -- The summary and the lines are those of a clean build, but also say for which units a child was
+  -- The summary and the lines are those of a clean build. They also say for which units a child was
   -- started.
   pub answer : summary ≡ summary_of flown.units.project flown.es flown.reasons (rows_for child options old.world flown.units)
   pub lines : Appends old.heard.taken new.heard.taken (said_from flown.units.project flown.es 0 (rows_for child options old.world flown.units))
@@ -136,8 +136,8 @@ pub record GivesAll (premise : Premise) (child : Answers) (Schedule : Project �
   -- a unit that began has a child if and only if something differed from its record
   pub began : AllBeganFor (context_of premise child options old.world flown.units) flown.es flown.reasons old.world new.world
 
--- A call for the unit with this key failed, or no run number was left for the unit, while the build
--- was not finished. The unit has begun and not answered. Exactly the due lines were written.
+-- A call for the unit with this key failed, or no run number was left for the unit. The build was
+-- not finished, and the unit has begun and not answered. Exactly the due lines were written.
 pub record UnitCallFails (project : Project) (es : List (Event BadUnit)) (rows : List Row) (key : List ℕ) (old new : Option (List ℕ)) : Type 0 where
   pub place : ℕ
   pub named : key_at project place ≡ key ∷ []
@@ -145,8 +145,9 @@ pub record UnitCallFails (project : Project) (es : List (Event BadUnit)) (rows :
   pub missing : is_finished (states_in project es) ≡ false
   pub lines : Appends old new (said_from project es 0 (take (count_due (states_in project es)) rows))
 
--- Before this fault, exactly the due lines were written. If the sink failed, only a prefix of their
--- bytes was written. If memory ran out, only the due lines of the first n units were written.
+-- What was written before this fault. If the fault is at a unit, exactly the due lines were
+-- written. If the sink failed, it took a prefix of the due lines, but not all. If memory ran out,
+-- the due lines of the first n units were written, for some n.
 abbrev pub LinesBefore : BuildFault → Project → List (Event BadUnit) → List Row → Option (List ℕ) → Option (List ℕ) → Type 0
 LinesBefore (Child key fault) project es rows old new = UnitCallFails project es rows key old new
 LinesBefore (Device key fault) project es rows old new = UnitCallFails project es rows key old new
@@ -155,8 +156,8 @@ LinesBefore OutOfMemory project es rows old new = (n : ℕ) × Appends old new (
 LinesBefore fault project es rows old new = ⊥
 
 -- A fault came at a unit or at the sink, or memory ran out, or no run number was left. If no run
--- number was left, all numbers from the next one on had been taken. `StandsCut` says what differed
--- for a unit that could not begin.
+-- number was left, the units of this build had taken all that were left at first. `StandsCut` says
+-- what differed for a unit that could not begin.
 pub record GivesFirst (premise : Premise) (child : Answers) (Schedule : Project → List (Event BadUnit) → Type 0) (options : Options) (fault : BuildFault) (old new : BuildState) : Type 0 where
   pub flown : UnitsFly child Schedule options old new
   pub spent : Spends (LacksNumber flown.units.project old.world) fault (next_in (records_of options old.world.variables) old.world) flown.es
@@ -165,8 +166,8 @@ pub record GivesFirst (premise : Premise) (child : Answers) (Schedule : Project 
   pub came : CameAfter flown.units.project fault before flown.es
   pub began : AllBeganFor (context_of premise child options old.world flown.units) before flown.reasons old.world new.world
 
--- if a call failed after the query, that call was to list the folder of the records, or to read a
--- record directly in this folder
+-- If a call failed after the query, it was one of these calls: to list the folder of the records,
+-- or to read a record directly in this folder.
 abbrev pub NamesOpened : List ℕ → World → BuildFault → Starts → Starts → Type 0
 NamesOpened folder w (Device name (device.Place fault)) old new = (new ≡ old) ⊎ ((call : Call) × Contains (opened_looked folder w) call × (own_fault call ≡ fault) × (name_given call ≡ name))
 NamesOpened folder w e old new = Unit {0}

@@ -20,8 +20,8 @@ ShareNoPath folder other = (q : List ℕ) → is_at_or_below folder q ≡ true �
 
 -- The step spares the records of the folder.
 -- - An edit must change nothing in the folder, or remove the whole folder.
--- - A build with units must either keep its records in this folder and have an honest child, or
---   keep its records in a folder that shares no path with this folder.
+-- - A build with units may keep its records in this folder if its child is honest. Otherwise it
+--   must keep its records in a folder that shares no path with this folder.
 -- - A build without units spares the records.
 abbrev pub Spares : Answers → List ℕ → SessionStep → World → Type 0
 Spares child folder (Write path text) w = is_at_or_below folder path ≡ false

@@ -11,8 +11,8 @@ use Rattle.pb_build.specs.Headline.{ByFirst, ByTurns, Headline, UnitsOf, rows_fo
 use Rattle.pb_build.specs.Result.{BuildResult, Refused, NoToolchain, Finished, IsResult}
 use Rattle.pb_build_turns.specs.Executor.{BuildState}
 
--- two worlds with the same variables and the same files outside the target folder have the same
--- result
+-- Builds in two worlds have the same result if the worlds have the same variables, and the same
+-- files outside the target folder.
 abbrev pub LooksAtSources : Type 0
 LooksAtSources = (child : Answers) (options : Options) (v w : World) (r : BuildResult) → v.variables ≡ w.variables
     → from_nothing (environment_of options w.variables).target v ≡ from_nothing (environment_of options w.variables).target w → IsResult child options v r → IsResult child options w r
@@ -21,8 +21,10 @@ LooksAtSources = (child : Answers) (options : Options) (v w : World) (r : BuildR
 abbrev pub GivesFromNothing : Type 0
 GivesFromNothing = (child : Answers) (options : Options) (w : World) (r : BuildResult) → IsResult child options (from_nothing (environment_of options w.variables).target w) r → IsResult child options w r
 
--- The two results are the same. Both are the same refusal; or in both the compiler does not report
--- its version; or both have the same units of the same plan, with the same outcomes.
+-- The two results are the same. There are three cases.
+-- - Both are the same refusal.
+-- - In both, the compiler does not report its version.
+-- - Both have the same units of the same plan, with the same outcomes.
 abbrev pub SameResults : BuildResult → BuildResult → Type 0
 SameResults (Refused why) (Refused other) = why ≡ other
 SameResults NoToolchain NoToolchain = Unit {0}

@@ -123,8 +123,8 @@ abbrev pub OneTarget : List ℕ → List SessionStep → World → Type 0
 OneTarget target [] w = ⊤
 OneTarget target (step ∷ steps) w = UsesTarget target step w × OneTarget target steps (edit step w)
 
--- Take a build that comes after builds with the same target folder, however these ended. Its result
--- is the same as after the edits alone.
+-- Take a build that comes after builds with the same target folder, however these ended. The later
+-- build has the same result as after the edits alone.
 abbrev pub Unaffected : Type 0
 Unaffected = (child : Answers) (options : Options) (steps : List SessionStep) (before after : Point) (r : BuildResult)
     → OneTarget (environment_of options (edited steps before.moment.world).variables).target steps before.moment.world → Course child steps before after

@@ -24,7 +24,8 @@ abbrev pub AskedPartForPart : Type 0
 AskedPartForPart = (a : RecordedCommand) (c : Command) → (AsksAs a c ↔ HasEachPart a c) × ((command_of a ≡ c) ↔ (HasEachPart a c × (a.pairs ≡ c.pairs)))
 
 -- `IsFirstName` finds the least name, in byte order, at which the variables of a record differ from
--- those of a unit's command. Either the texts of this name differ, or only one side has the name.
+-- those of a unit's command. Either the two texts of this name differ, or only the record has the
+-- name, or only the command has it.
 abbrev pub FirstNameIsLeast : Type 0
 FirstNameIsLeast = (text : List ℕ) (r : Record) (setup : Setup) (project : Project) (u : Planned) (done : List (Option (List Directive))) (name : List ℕ) → reading text ≡ Some r
     → IsFirstName r.asked.pairs (present.command_of setup project u done).pairs name ↔ IsLeastName r.asked.pairs (present.command_of setup project u done).pairs name

@@ -17,12 +17,12 @@ use Rattle.pb_store.specs.declared.difference.CommandPart.{CommandPart}
 use Rattle.pb_store.specs.declared.difference.Difference.{Difference}
 use Rattle.pb_store.specs.declared.difference.Difference.TheVariants.{NoRecord, Command, Pair, Input, Dependency}
 
--- in the row, `b` reports the first item for which `Holds` is false
+-- `b` is what `told` says about the first item of the row for which `Holds` is false
 abbrev pub IsFirstOf : {A B : Type 0} → (A → Type 0) → (A → B) → List A → B → Type 0
 IsFirstOf {A} Holds told row b = (n : ℕ) × (here : A) × (slice_get row n ≡ Some here) × (Holds here → ⊥) × AllByRecursion Holds (take n row) × (b ≡ told here)
 
 -- What differs. Either no record counts, or something differs, or nothing differs. Of several
--- differences the first counts, in this order: a part of the command, a variable, an input, the run
+-- differences, the first counts. The order is: a part of the command, a variable, an input, the run
 -- number or the files of a needed unit.
 pub data Differs (folder : List ℕ) (at : RecordMap) (c : commands.Command) (w : World) : Option Record → Option Difference → Type 0 where
   no_record : Differs folder at c w None (Some NoRecord)

@@ -17,8 +17,8 @@ abbrev pub numbers_in : Needed → List ℕ
 numbers_in (Copies copies) = []
 numbers_in (Numbers number needs) = number ∷ map (λ (need : List ℕ × ℕ). need.1) needs
 
--- The number of a record is the first of these numbers, if there is one. A unit lacks a number if a
--- record counts for the unit and this record has no number.
+-- The number of a record is the first number in `numbers_in`, if there is one. A unit lacks a
+-- number if a record counts for the unit and this record has no number.
 abbrev pub RecordsAreNumbered : Type 0
 RecordsAreNumbered = ((r : Record) → number_of r ≡ slice_get (numbers_in r.needed) 0)
     × ((o : Option Record) → (number_if o ≡ option_and_then number_of o) × (lacks_number o ≡ option_map_or (λ r. is_none (number_of r)) o false))
@@ -33,8 +33,8 @@ numbers_at files path = if ends_as_record path then option_map_or (λ (r : Recor
 abbrev pub NextIsAbove : Type 0
 NextIsAbove = (folder : List ℕ) (w : World) → next_in folder w ≡ after (fold max 0 (flat_map (numbers_at w.files) (listed_directly folder w)))
 
--- A record counts for a key if and only if the record has this key, and its text is that of the
--- key's file.
+-- A record counts for a key if and only if three things are true. The text of the key's file is
+-- read as this record. The record has this key. The key is a valid key.
 abbrev pub RecordsCount : Type 0
 RecordsCount = (folder key : List ℕ) (files : Map) (r : Record)
     → (record_at reading folder files key ≡ Some r) ↔ ((text : List ℕ) × (finite.get files (place_of folder key) ≡ Some text) × (reading text ≡ Some r) × (r.key ≡ key) × (is_key key ≡ true))

@@ -28,9 +28,9 @@ use Rattle.pb_unit.specs.declared.plan.Planned.{Planned}
 abbrev pub answer_in : Project → Planned → Command → Reply → Result CheckedReply UnitFault
 answer_in project u c r = answered_of project u c (ended_by r) (option_and_then (finite.get (replied_files u.out r)) (dep_info_of project u))
 
--- The outcome of a unit, given its child's reply and the answer in it. A good outcome has the files
--- of the output folder, the directives if the unit is a run, and messages. A bad outcome has the
--- reason and messages.
+-- The outcome of a unit, given its child's reply and the answer in this reply. A good outcome has
+-- the files of the output folder, the directives if the unit is a run, and messages. A bad outcome
+-- has the reason and messages.
 abbrev pub given_by : Project → Planned → Reply → Result CheckedReply UnitFault → Outcome
 given_by project u r (Ok answered) = Good (replied_files u.out r) answered.directives (told_well project u r.stderr answered.directives)
 given_by project u r (Err fault) = Bad record { fault = fault; said = (told_badly u.unit.what fault r.stdout r.stderr).1 } (told_badly u.unit.what fault r.stdout r.stderr).0
@@ -51,8 +51,8 @@ abbrev pub outcome_after : Answers → Setup → Project → World → List Outc
 outcome_after child setup project sources done u =
     if list_all (λ index. has_given (slice_get done index)) u.needs then given_to project u (command_after setup project done u) (child (command_after setup project done u) (view_of done sources u)) else Waiting
 
--- A list contains a build's outcomes if and only if it has, for each planned unit, the outcome that
--- is made from the outcomes before it.
+-- A list contains a build's outcomes if and only if two things are true. The list has one outcome
+-- for each planned unit. Each outcome is the one that is made from the outcomes before it.
 abbrev pub OutcomesAreThese : Type 0
 OutcomesAreThese = (child : Answers) (setup : Setup) (project : Project) (sources : World) (os : List Outcome) → (os ≡ outcomes child setup project sources)
     ↔ ((length os ≡ length project.plan.planned) × ((index : ℕ) (u : Planned) → slice_get project.plan.planned index ≡ Some u → slice_get os index ≡ Some (outcome_after child setup project sources (take index os) u)))

@@ -13,8 +13,9 @@ use Rattle.pb_build_turns.specs.Executor.{needs_of}
 abbrev pub IsFirstToBegin : {F : Type 0} → List (List ℕ) → List (State F) → ℕ → Type 0
 IsFirstToBegin needs states u = MayBegin needs states u × ((v : ℕ) → v < u → MayBegin needs states v → ⊥)
 
--- The event is the next one, with this number of jobs. If fewer units are in flight and some unit
--- may begin, the first such unit begins. Otherwise the unit in flight that began first answers.
+-- The event is the next one, given the number of jobs. If fewer than `jobs` units are in flight,
+-- the first unit that may begin begins. If no unit may begin, or at least `jobs` units are in
+-- flight, the unit in flight that began first answers.
 abbrev pub IsNext : {F : Type 0} → ℕ → List (List ℕ) → List (Event F) → Event F → Type 0
 IsNext jobs needs es (Began u spawned) = (length (flying_after es) < jobs) × IsFirstToBegin needs (states_after needs es) u
 IsNext jobs needs es (Gave u answer) = (((v : ℕ) → MayBegin needs (states_after needs es) v → ⊥) ⊎ (jobs ≤ length (flying_after es))) × (slice_get (flying_after es) 0 ≡ Some u)
@@ -25,7 +26,7 @@ abbrev pub AreInTurn : {F : Type 0} → ℕ → List (List ℕ) → List (Event 
 AreInTurn jobs needs [] = Unit {0}
 AreInTurn jobs needs (e ∷ es) = AreInTurn jobs needs es × (is_finished (states_after needs es) ≡ false) × IsNext jobs needs es e
 
--- If a build always picks the first unit that may begin, in plan order, it has exactly these
--- events. Zero jobs count as one.
+-- If a build always picks the first unit that may begin, in plan order, its events are exactly
+-- those of which `AreInTurn` is true. Zero jobs count as one.
 abbrev pub BuildsGoInTurn : Type 0
 BuildsGoInTurn = (options : Options) (project : Project) (es : List (Event BadUnit)) → ByFirst options project es ↔ AreInTurn (max options.jobs 1) (needs_of project) es

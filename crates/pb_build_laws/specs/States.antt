@@ -15,13 +15,13 @@ use Rattle.pb_build_turns.specs.Rows as rows
 use Rattle.pb_build_turns.specs.Rows.{fault_in}
 use Rattle.pb_unit.specs.declared.plan.Planned.{Planned}
 
--- the unit has answered, and it is bad if and only if `bad` is true
+-- the unit has answered, with a fault if `bad` is true, and without a fault if `bad` is false
 abbrev pub HasAnswered : State BadUnit → Bool → Type 0
 HasAnswered s bad = (answer : Answer BadUnit) × (s ≡ Answered answer) × (is_some answer.fault ≡ bad)
 
 -- A unit has not begun if and only if it is untouched. A unit is bad if and only if it has answered
--- and is bad. A unit is good if and only if it has answered and is good. An index without a unit is
--- not good.
+-- with a fault. A unit is good if and only if it has answered without a fault. An index without a
+-- unit is not good.
 abbrev pub StatesAreThese : Type 0
 StatesAreThese = (is_good_at {F = BadUnit} None ≡ false)
     × ((s : State BadUnit) → ((is_untouched s ≡ true) ↔ (s ≡ Untouched)) × ((is_bad s ≡ true) ↔ HasAnswered s true) × ((is_good_at (Some s) ≡ true) ↔ HasAnswered s false))
@@ -33,7 +33,7 @@ abbrev pub EndsAreThese : Type 0
 EndsAreThese = (states : List (State BadUnit)) → let first = prefix_len (λ s. is_good_at (Some s)) states in
     (count_due states ≡ first + (if option_map_or is_bad (slice_get states first) false then 1 else 0)) × (is_finished states ≡ option_map_or is_bad (slice_get states first) true)
 
--- The key at an index is that of the unit there, if there is a unit. An outcome is bad if and only
--- if it has a fault.
+-- If there is a unit at an index, the key at this index is the unit's key. An outcome is bad if and
+-- only if it has a fault.
 abbrev pub RowsAreThese : Type 0
 RowsAreThese = ((project : Project) (index : ℕ) → key_at project index ≡ map (λ (u : Planned). u.key) (option_to_list (unit_at project index))) × ((o : Outcome) → rows.is_bad o ≡ is_some (fault_in o))

@@ -23,19 +23,21 @@ kept_in (u, reason) = None
 
 -- the summary is that of the build with these events, reasons and rows
 pub record IsSummary (project : Project) (es : List (Event BadUnit)) (reasons : Reasons) (rows : List Row) (summary : Summary) : Type 0 where
-  -- it is a success if no unit is bad
+  -- the summary is a success if no unit is bad
   pub success : summary.success ≡ is_none (first_bad_unit rows)
-  -- it has the key and the fault of the first bad unit
+  -- the summary has the key and the fault of the first bad unit
   pub bad : summary.bad ≡ option_map (λ bad. (bad.0, bad.1.fault)) (first_bad_unit rows)
-  -- it has what the child of the first bad unit printed
+  -- the summary has what the child of the first bad unit printed
   pub said : summary.said ≡ option_map_or (λ bad. bad.1.said) (first_bad_unit rows) []
-  -- it has the keys of the units for which a child was started, in the order of these starts
+  -- the summary has the keys of the units for which a child was started, in the order of these
+  -- starts
   pub started : summary.started ≡ map (λ (u : Planned). u.key) (filter_map (unit_at project) (started_by es))
-  -- it has the first difference of each started unit
+  -- the summary has the first difference of each started unit
   pub differences : summary.differences ≡ filter_map (λ index. option_flatten (option_flatten (slice_get reasons index))) (started_by es)
-  -- it has the keys, in plan order, of the units that began without a difference from their records
+  -- the summary has the keys, in plan order, of the units that began without a difference from
+  -- their records
   pub kept : summary.kept ≡ filter_map kept_in (zip project.plan.planned reasons)
-  -- it has the directives of each run, with the run's key
+  -- the summary has the directives of each run, with the run's key
   pub directives : summary.directives ≡ filter_map (λ (row : Row). option_map (λ directives. (row.unit.key, directives)) (directives_in row.outcome)) rows
 
 -- A summary is that of these rows if and only if it is as `IsSummary` says.

@@ -78,8 +78,8 @@ told_badly what fault.ScriptError stdout stderr = (filter_map note_in (result_un
 told_badly Run _ stdout stderr = ([], stdout ++ stderr)
 told_badly what _ stdout stderr = (map CompilerMessage (diagnostics_of stderr), plain_lines_of stderr)
 
--- The lines of a unit are those of its messages, if its package and its target exist. `started`
--- says whether a child was started for the unit.
+-- The lines of a unit are those of its messages, if its package and its target exist. `started` is
+-- true if a child was started for the unit.
 abbrev pub LinesAreTold : Type 0
 LinesAreTold = (project : Project) (u : Planned) (started : Bool) (messages : List Message) → unit_lines project u started messages ≡ option_map_or (λ s. lines_of s (not started) messages) (subject_at project u) []
 

@@ -15,7 +15,7 @@ use Rattle.pb_place_types.specs.declared.place.StartFault.TheVariants as start
 use Rattle.pb_build_result.specs.declared.fault.DeviceFault.{DeviceFault}
 use Rattle.pb_build_result.specs.declared.fault.DeviceFault.TheVariants as device
 
--- the name of a line's fault, without its number
+-- the name of a line's fault, without the line's number
 abbrev pub line_fault_name : LineFault → List ℕ
 line_fault_name (line.NotText number) = codes "NotText"
 line_fault_name (line.UnknownKey number) = codes "UnknownKey"
@@ -31,7 +31,8 @@ line_sentence (line.BadValue number) = codes "line " ++ decimal number ++ codes 
 line_sentence (line.BadFlag number) = codes "line " ++ decimal number ++ codes " has a bad flag"
 line_sentence line.OutOfMemory = codes "out of memory"
 
--- the name of a unit's fault; a status has its number, and a fault of a line has its name
+-- The name of a unit's fault. `Status` also has the number of the status, and `Directive` the name
+-- of the line's fault.
 abbrev pub unit_fault_text : UnitFault → List ℕ
 unit_fault_text (unit.Status number) = codes "Status(" ++ signed_decimal number ++ codes ")"
 unit_fault_text (unit.Directive fault) = concat (codes "Directive(" ∷ line_fault_name fault ∷ codes ")" ∷ [])
@@ -77,7 +78,7 @@ abbrev pub device_fault_name : DeviceFault → List ℕ
 device_fault_name (device.Place fault) = codes "Device"
 device_fault_name device.NumbersSpent = codes "NumbersSpent"
 
--- why a call on files or variables, or one for a unit's record, failed
+-- why a call on files or variables failed, or a call for a unit's record
 abbrev pub device_sentence : DeviceFault → List ℕ
 device_sentence (device.Place fault) = place_sentence fault
 device_sentence device.NumbersSpent = codes "no run number is left"

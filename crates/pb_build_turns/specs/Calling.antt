@@ -178,8 +178,8 @@ abbrev pub FliesFor : Command → List ChildInFlight → SpawnedChild → Type 0
 FliesFor c flying launched = (spawned : ChildInFlight) × (child_at launched.ticket flying ≡ Some spawned) × (spawned.command ≡ c)
 
 -- The answer of the unit at this index was taken. If the unit has a child, the child's end was
--- awaited. Then exactly the calls of the answer were made. Contracts state this only for a modelled
--- place.
+-- awaited. After that, exactly the calls of the answer were made. Contracts state this only for a
+-- modelled place.
 pub record AnswersCalling (b : CallBasis) (index : ℕ) (spawned : Bool) (result : Result (Unit {0}) BuildFault) (before : World) (old : Counts) (after : World) (new : Counts) : Type 0 where
   pub unit : Planned
   pub there : unit_at b.project index ≡ Some unit

@@ -1,5 +1,5 @@
 -- How the units of a project end, and what stays true while the children in flight are dropped.
--- Also, laws about this.
+-- Some laws about the end of the units follow.
 use Rattle.std.specs.Prelude.{◌≡◌, ℕ, true, false, List, Option, Some, Bool, ◌≢◌, ◌⊎◌, ◌∷◌, [], max, map, length, take, None, IsTrue, IfErr, Result, Ok, Err, slice_get}
 use Rattle.std.specs.FinMap as finite
 use Rattle.std.specs.Io.KnownBytes.{Appends}
@@ -66,7 +66,7 @@ abbrev pub Dropped : List ℕ → Counts → Counts → Type 0
 Dropped [] old new = new ≡ old
 Dropped (ticket ∷ tickets) old new = (result : Result Ended StartFault) × IfErr result (λ e. e ≢ start.OutOfMemory → (e ≡ start.Died) ⊎ (e ≡ start.Capture)) × Dropped tickets (counted_finish ticket result old) new
 
--- the end of each child in flight was awaited once, and its answer was dropped
+-- the end of each child in flight was awaited once, and the child's answer was dropped
 abbrev pub Drained : Counts → Counts → Type 0
 Drained old new = Dropped (map ticket_of_child old.starts.flying) old new
 
@@ -203,9 +203,9 @@ abbrev pub TurnsEnd : {S : Type 0} → Bool → Answers → (S → List ℕ → 
 TurnsEnd is_modelled child Turns setup project next from last (Ok summary) old new = EndsWhole is_modelled child Turns setup project next from last summary old new
 TurnsEnd is_modelled child Turns setup project next from last (Err fault) old new = EndsCut is_modelled child Turns setup project next from last fault old new
 
--- If each answered unit has its outcome of a clean build, the due lines are those of the first
--- rows. Once all units up to and including the first bad one have answered, the due lines are those
--- of all rows.
+-- Let each answered unit have its outcome of a clean build. If the lines of n units are due, they
+-- are those of the first n rows. Once all units up to and including the first bad one have
+-- answered, the lines of all rows are due.
 abbrev pub SaysFirstRows : Type 0
 SaysFirstRows = (b : BuildContext) (es : List (Event BadUnit)) (done : List (Option (List Directive))) → ((index : ℕ) (answer : Answer BadUnit) → slice_get (states_in b.project es) index ≡ Some (Answered answer) → HasGiven b es done index answer)
     → (due (states_in b.project es) ≡ said_from b.project es 0 (take (count_due (states_in b.project es)) (rows_in b))) × (is_finished (states_in b.project es) ≡ true → count_due (states_in b.project es) ≡ length (rows_in b))

@@ -53,8 +53,8 @@ number_in (Some launched) = launched.number ∷ []
 abbrev pub ticket_of_child : ChildInFlight → ℕ
 ticket_of_child child = child.ticket
 
--- The tickets of the children of units in flight. The next two definitions are their run numbers,
--- and the units that have a child.
+-- The tickets of the children of units in flight. The next two definitions are the children's run
+-- numbers, and the units that have a child.
 abbrev pub tickets_of : List RunningUnit → List ℕ
 tickets_of running = flat_map (λ (a : RunningUnit). ticket_in (child_of a.begun)) running
 
@@ -64,7 +64,7 @@ numbers_of running = flat_map (λ (a : RunningUnit). number_in (child_of a.begun
 abbrev pub launched_of : List RunningUnit → List ℕ
 launched_of running = flat_map (λ (a : RunningUnit). if_so (is_some (child_of a.begun)) a.unit) running
 
--- all these numbers are different
+-- no number occurs twice in the list
 abbrev pub AreApart : List ℕ → Type 0
 AreApart [] = Unit {0}
 AreApart (n ∷ ns) = AllByRecursion (λ m. n ≢ m) ns × AreApart ns

@@ -57,8 +57,8 @@ abbrev pub upped : ℕ → ℕ → ℕ
 upped zero n = n
 upped (suc k) n = up (upped k n)
 
--- So far no call has failed, and no failure was injected. The lines of the first n units were
--- written. One child was started for each unit that began with a child. The greatest number of
+-- So far no call has failed, and no failure was injected. The due lines of the first `given` units
+-- were written. One child was started for each unit that began with a child. The greatest number of
 -- children in flight is what the events imply.
 pub record CountersSoFar (project : Project) (first now : BuildState) (started : List ℕ) (running : List RunningUnit) (es : List (Event BadUnit)) (given : ℕ) : Type 0 where
   pub started_are : started ≡ started_by es
@@ -101,7 +101,8 @@ pub record StopsAtSink (project : Project) (first now : BuildState) (es : List (
   pub faults : now.heard.faults ≡ up first.heard.faults
 
 -- How a fault ends the build. The fault came at a unit, or at the sink after an answer
--- (`StopsAtSink`), or memory ran out after the lines of the first n units were written.
+-- (`StopsAtSink`), or memory ran out. If memory ran out, the due lines of the first n units were
+-- written, for some n.
 abbrev pub StopsBy : Bool → BuildFault → Project → BuildState → BuildState → List (Event BadUnit) → Type 0
 StopsBy is_modelled (Plan why) project first now es = ⊥
 StopsBy is_modelled Toolchain project first now es = ⊥
@@ -309,9 +310,9 @@ abbrev pub record_anew : Answers → Setup → Project → List (Option (List Di
 record_anew child setup project done now u number = record_of project u (command_of setup project u done) number (ended_by (reply_in child (command_of setup project u done) now)) now
 
 -- The record of a unit that has answered. A good unit with a child has the record of the child's
--- reply, with the number that was next when the unit began. A good unit without a child has its
--- first record; if this record had no number, it now has one. A bad unit without a child has the
--- same record as at first.
+-- reply, with the number that was next when the unit began. A good unit without a child has the
+-- record that it had at first. If that record had no number, it now has a number. A bad unit
+-- without a child has the same record as at first.
 pub record LeavesRecord (child : Answers) (setup : Setup) (project : Project) (done : List (Option (List Directive))) (started : Bool) (before until : List (Event BadUnit)) (next : Option ℕ) (first now : World) (index : ℕ) (answer : Answer BadUnit) : Type 0 where
   pub unit : Planned
   pub there : unit_at project index ≡ Some unit
@@ -411,8 +412,8 @@ CameAfter project OutOfMemory before es = (es ≡ before) ⊎ ((unit : ℕ) × (
 CameAfter project fault before es = es ≡ before
 
 -- The unit that a fault names. If an answer was taken, this is the unit of the answer, after all
--- these events. If not, this is the unit that could not begin. A failure of the sink, and out of
--- memory, name no unit.
+-- these events. If not, this is the unit that could not begin. If the sink failed, or memory ran
+-- out, the fault names no unit.
 abbrev pub NamesUnit : Project → BuildFault → Option ℕ → List (Event BadUnit) → List (Event BadUnit) → Type 0
 NamesUnit project (Child key fault) None before es = IsBeginning project key true before es
 NamesUnit project (Child key fault) (Some unit) before es = (key_at project unit ≡ key ∷ []) × (es ≡ before)
@@ -420,8 +421,8 @@ NamesUnit project (Device key fault) None before es = IsBeginning project key fa
 NamesUnit project (Device key fault) (Some unit) before es = (key_at project unit ≡ key ∷ []) × (es ≡ before)
 NamesUnit project fault asked before es = Unit {0}
 
--- What has happened up to a fault. If an answer was taken, it is that of the unit `asked`. The
--- units in flight are those that follow from the events before the fault, except this unit.
+-- What has happened up to a fault. If an answer was taken, it is that of the unit `asked`. Each
+-- unit that is still in flight was in flight before the fault, and is not the unit `asked`.
 pub record StoryEnds (is_modelled : Bool) (child : Answers) (fault : BuildFault) (asked : Option ℕ) (first : UnitExecutor) (at : BuildState) (c : UnitExecutor) (now : BuildState) (still : ℕ → Type 0) (es : List (Event BadUnit)) : Type 0 where
   pub setup : c.setup ≡ first.setup
   pub project : c.project ≡ first.project

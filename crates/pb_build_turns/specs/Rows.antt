@@ -165,14 +165,13 @@ noted_of [] noted = []
 noted_of (u ∷ us) [] = []
 noted_of (u ∷ us) (d ∷ noted) = keyed u.key d ++ noted_of us noted
 
--- the number of reported units: those up to and including the first bad unit, which has this index,
--- or all units if no unit is bad
+-- The number of reported units. If a bad unit has this index, these are all units up to and
+-- including the bad unit. If there is no index, these are all units.
 abbrev pub count_told : ℕ → Option ℕ → ℕ
 count_told units None = units
 count_told units (Some place) = place + 1
 
--- the noted directives of the reported units: of all units, or of those up to and including the
--- first bad one
+-- The noted directives of the reported units. `count_told` is the number of these units.
 abbrev pub noted_told : List Planned → List (Option (List Directive)) → Option ℕ → List (List ℕ × List Directive)
 noted_told units noted bad = noted_of (take (count_told (length units) bad) units) (take (count_told (length units) bad) noted)
 

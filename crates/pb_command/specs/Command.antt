@@ -30,8 +30,8 @@ query_of rustc root target = record {
   reads = [];
 }
 
--- the arguments that say what is compiled and how: the crate, its output and its folder, settings
--- and features
+-- the arguments that say what is compiled and how: the crate, the output and the output's folder,
+-- settings and features
 abbrev pub crate_part : Project → Planned → Package → List (List ℕ)
 crate_part project unit p = crate_words project unit p ++ output_words unit p ++ settings_words unit.unit.what unit.settings ++ feature_words project unit p
 

@@ -1,5 +1,5 @@
--- Which replies to a command are good. Only the command decides this. So, if a unit is no longer in
--- any plan, its answer is judged as it was when a plan had the unit.
+-- Which replies to a command are good. The command alone decides whether a reply is good, and no
+-- plan does. So the answer of a unit that is no longer in a plan is judged as before.
 use Rattle.std.specs.Prelude.{◌≡◌, ℕ, Bool, if◌then◌else◌, codes, List, [], ◌∷◌, ◌++◌, Option, Some, None, Result, Ok, Err, slice_get}
 use Rattle.std.specs.FinMap as finite
 use Rattle.std.specs.Str.{bytes_eq}
@@ -46,7 +46,7 @@ crate_in [] = []
 crate_in (option ∷ []) = []
 crate_in (option ∷ name ∷ words) = name
 
--- the content of a compile's dep-info, which is the file `C.d` in its output folder
+-- the content of a compile's dep-info, which is the file `C.d` in the compile's output folder
 abbrev pub dep_info_in : Command → List ℕ → Map → Option (List ℕ)
 dep_info_in c out files = file_at (file_in out (crate_in c.words ++ codes ".d")) files
 

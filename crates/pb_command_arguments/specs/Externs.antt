@@ -46,8 +46,8 @@ folder_words_at project index = folder_words_in (unit_at project index)
 abbrev pub dependency_words : Project → Planned → List (List ℕ)
 dependency_words project unit = flat_map (folder_words_at project) unit.reaches
 
--- Says whether entries of this kind count for units of this kind. Normal entries count for
--- libraries and binaries, build entries for scripts.
+-- An entry of this kind counts for a unit of this kind. Normal entries count for libraries and
+-- binaries, and build entries count for scripts.
 abbrev pub leads : What → DependencyKind → Bool
 leads Lib kind = is_normal kind
 leads (Bin name) kind = is_normal kind

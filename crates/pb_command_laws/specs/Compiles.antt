@@ -81,8 +81,8 @@ as_line _ = ([], [])
 abbrev pub asked : List ℕ → List Directive → List (List ℕ)
 asked key said = values key (map as_line said)
 
--- a unit of this kind hears its package's run: the directives of the run count for the unit; only
--- libraries and binaries do
+-- A unit of this kind hears the run of its package, so the directives of this run count for the
+-- unit. Only libraries and binaries hear a run.
 abbrev pub hears : What → Bool
 hears what = is_library what || is_binary what
 
@@ -138,8 +138,8 @@ pub record CompileSays (project : Project) (unit : Planned) (done : List (Option
   pub are : AreLibraries Is libraries
 
 -- Law: the arguments of a compile say what `CompileSays` states, followed by what the user's flags
--- say. The package belongs to a workspace that was read, and its source has a normalised absolute
--- path.
+-- say. The unit's package belongs to a workspace that was read. The unit's source has a normalised
+-- absolute path.
 abbrev pub CompilesSay : Type 0
 CompilesSay = (setup : Setup) (project : Project) (unit : Planned) (done : List (Option (List Directive))) (p : Package)
     → IsSettled project.workspace → package_of project unit ≡ Some p → is_run unit.unit.what ≡ false → is_path (source_by p unit.unit.what) ≡ true

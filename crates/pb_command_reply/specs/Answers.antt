@@ -33,8 +33,8 @@ use Rattle.pb_command_types.specs.Targets.{folder_of}
 abbrev pub is_too_long : List ℕ → Bool
 is_too_long bytes = nat_lt max_stream_bytes (length bytes)
 
--- The fault of the way in which a child ended, if there is one. First come streams that are too
--- long, and then a status other than 0.
+-- The fault with which a child ended, if there is one. Streams that are too long are checked first,
+-- and then a status other than 0.
 abbrev pub ended_fault : Ended → Option UnitFault
 ended_fault e = if is_too_long e.stdout || is_too_long e.stderr then Some unit_fault.OutputTooLong else (if int_eq e.status (pos 0) then None else Some (unit_fault.Status e.status))
 

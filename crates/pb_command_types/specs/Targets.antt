@@ -44,8 +44,8 @@ library_name None = []
 library_name (Some library) = library.name
 
 -- The name of the crate that a unit compiles. A library's crate has the library's name. A binary's
--- crate has the binary's name, with `_` for each `-`. All scripts have the same name. A run
--- compiles no crate.
+-- crate has the binary's name, with `_` for each `-`. The crates of all scripts have the same name.
+-- A run compiles no crate.
 abbrev pub crate_name : Option Library → What → List ℕ
 crate_name library Lib = library_name library
 crate_name library (Bin name) = underscored name

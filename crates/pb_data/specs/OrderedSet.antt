@@ -11,7 +11,7 @@ is_mentioned texts text = list_any (bytes_eq text) texts
 abbrev pub mentioned : List (List ℕ) → List ℕ → List (List ℕ)
 mentioned texts text = if is_mentioned texts text then texts else texts ++ text ∷ []
 
--- the first texts, after the second texts were added one by one as `mentioned` says
+-- the texts of the first list, to which those of the second list are added as `mentioned` says
 abbrev pub mentioned_all : List (List ℕ) → List (List ℕ) → List (List ℕ)
 mentioned_all texts [] = texts
 mentioned_all texts (text ∷ more) = mentioned_all (mentioned texts text) more

@@ -13,7 +13,7 @@ value_at name entries = lookup (bytes_eq name) entries
 abbrev pub with_entry : {V : Type 0} → List (List ℕ × V) → List ℕ → V → List (List ℕ × V)
 with_entry entries name value = insert_entry bytes_eq entries name value
 
--- the first entries, after the second entries were added one by one as `with_entry` says
+-- the entries of the first list, to which those of the second list are added as `with_entry` says
 abbrev pub with_entries : {V : Type 0} → List (List ℕ × V) → List (List ℕ × V) → List (List ℕ × V)
 with_entries entries [] = entries
 with_entries entries (entry ∷ more) = with_entries (with_entry entries entry.0 entry.1) more

@@ -85,8 +85,8 @@ flags_of (word ∷ next ∷ words) =
 abbrev pub NextName : Result (List ℕ) Problem → List (List ℕ) → List (List ℕ) → Type 0
 NextName result old new = MatchResult result (λ name. old ≡ name ∷ new) (λ e. e ≢ problem.OutOfMemory → (e ≡ problem.BadFlag) × (old ≡ []))
 
--- the words of one flag, from this word on, were taken, and the words of `new` are left, unless
--- memory ran out
+-- Unless memory ran out, `word` and the words in `old` mean the flag that was taken, followed by
+-- the flags of `new`. If the flag is refused, these words have its fault.
 abbrev pub TakesFlag : Result Directive Problem → List ℕ → List (List ℕ) → List (List ℕ) → Type 0
 TakesFlag result word old new = MatchResult result (λ flag. flags_of (word ∷ old) ≡ flags_of new >>= (λ more. Ok (flag ∷ more))) (λ e. e ≢ problem.OutOfMemory → flags_of (word ∷ old) ≡ Err e)
 

@@ -73,8 +73,8 @@ IsOld key = (rest : List ℕ) → key ≢ colon ∷ rest
 abbrev pub problem_at : List ℕ → List ℕ → Problem
 problem_at key value = if bytes_eq key (codes "rustc-flags") && not (has_byte 0 value) then problem.BadFlag else problem.BadValue
 
--- Without the blanks at its ends, the line is UTF-8. The line consists of this prefix, this key,
--- `=` and this value. The key has no `=`.
+-- Without the blanks at its ends, the line is UTF-8, and consists of this prefix, this key, `=` and
+-- this value. The key has no `=`.
 pub record IsSetting (line prefix key value : List ℕ) : Type 0 where
   pub text : is_utf8 (trimmed line) ≡ true
   pub whole : trimmed line ≡ prefix ++ key ++ equals ∷ value

@@ -8,11 +8,11 @@ use Rattle.pb_data.specs.Table.{table_of}
 use Rattle.pb_directive.specs.declared.directive.Directive.{Directive}
 use Rattle.pb_directive.specs.declared.directive.Directive.TheVariants.{Metadata}
 
--- the text, in which each `-` is replaced by `_`
+-- the text with `_` for each `-`
 abbrev pub underscored : List ℕ → List ℕ
 underscored text = map (λ b. if b == dash then underscore else b) text
 
--- the text in upper case, in which each `-` is replaced by `_`
+-- the text in upper case, with `_` for each `-`
 abbrev pub in_capitals : List ℕ → List ℕ
 in_capitals text = underscored (str_to_uppercase text)
 

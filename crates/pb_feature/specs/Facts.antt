@@ -35,7 +35,8 @@ pub data IsChosen (ws : Workspace) (selection : Selection) (p : ℕ) : List ℕ 
   default : (kept : selection.no_default_features ≡ false) (there : HasFeature ws p (codes "default")) → IsChosen ws selection p (codes "default")
 
 pub data Holds (ws : Workspace) (selection : Selection) : Fact → Type 0 where
-  -- a selected package is on for the target; there it has the features that are chosen for it
+  -- A selected package is on, on the target's side. On this side, the package has the features that
+  -- are chosen for it.
   selected : (p : ℕ) (is : Contains selection.packages p) → Holds ws selection (On p Target)
   chosen : (p : ℕ) (feature : List ℕ) (is : Contains selection.packages p) (chosen : IsChosen ws selection p feature) → Holds ws selection (Has p Target feature)
   -- a package that is on enables its entries that are not optional

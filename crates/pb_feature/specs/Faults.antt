@@ -85,8 +85,8 @@ pub record LacksFeature (ws : Workspace) (selection : Selection) : Type 0 where
   pub missing : HasFeature ws place feature → ⊥
 
 -- Why no features are resolved. The first reason is an item with a fault. The second is a requested
--- feature that no selected package has. The third is a feature that is on for a package and does
--- not exist there.
+-- feature that no selected package has. The third is a feature that is on for a package without
+-- this feature.
 pub data Refuses (ws : Workspace) (selection : Selection) : FeatureFault → Type 0 where
   by_item : (fault : FeatureFault) (first : IsFirstFault ws fault) → Refuses ws selection fault
   by_asked : (right : ItemsAreRight ws) (text : List ℕ) (asked : Contains selection.features text) (none : HasRequested ws selection text → ⊥) → Refuses ws selection NoSuchFeature

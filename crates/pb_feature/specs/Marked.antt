@@ -16,7 +16,7 @@ use Rattle.pb_feature.specs.Numbers.{on, has, enabled}
 abbrev pub marked_name : List Bool → List ℕ → ℕ → Side → ℕ → Feature → List (List ℕ)
 marked_name marks bs p s i f = if is_on marks (has bs p s (i + 1)) then f.name ∷ [] else []
 
--- says whether the number of an entry is marked
+-- a list with one truth value, which is true if the number of an entry is marked
 abbrev pub marked_entry : List Bool → List ℕ → ℕ → Side → ℕ → ℕ → Entry → List Bool
 marked_entry marks bs p s features n e = is_on marks (enabled bs p s features n) ∷ []
 

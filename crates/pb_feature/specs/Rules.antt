@@ -34,7 +34,7 @@ there_rules bs from q t test k = if test then (if k == 0 then [] else alone from
 abbrev pub given_rules : List Package → List ℕ → ℕ → ℕ → Side → ℕ → List ℕ → List Rule
 given_rules ps bs from q t _ f = alone from (has bs q t (slot_at ps q f)) ∷ []
 
--- the rules by which an enabled entry turns on the package to which it leads, and the features that
+-- the rules of an enabled entry: it turns on the package to which it leads, and the features that
 -- it requests
 abbrev pub enabled_rules : List Package → List ℕ → ℕ → Side → Entry → List Rule
 enabled_rules ps bs from t e =

@@ -11,8 +11,8 @@ abbrev pub link_at : List Link → ℕ → Option Link
 link_at links zero = None
 link_at links (suc place) = slice_get links place
 
--- a link is read if it has the given number, or if the chain of `next` numbers from there comes to
--- it
+-- A link is read if it has the given number. A link is also read if the chain of `next` numbers
+-- from the link with this number leads to it.
 pub data IsRead (links : List Link) : ℕ → Link → Type 0 where
   at_once : (n : ℕ) (l : Link) (at : link_at links n ≡ Some l) → IsRead links n l
   behind : (n : ℕ) (m l : Link) (at : link_at links n ≡ Some m) (read : IsRead links m.next l) → IsRead links n l

@@ -17,7 +17,8 @@ IsMarked marks v = slice_index_or marks v false ≡ true
 abbrev pub unmarked : List Bool → ℕ
 unmarked marks = count_by not marks
 
--- The first `count` nodes of a list have been marked. The nodes not marked before are now waiting.
+-- The first `count` nodes of a list have been marked. Those of them that were not marked before are
+-- now waiting.
 pub record Marked (list : List ℕ) (count : ℕ) (old_marks : List Bool) (old_waiting : List ℕ) (marks : List Bool) (waiting : List ℕ) : Type 0 where
   pub long : length marks ≡ length old_marks
   pub each : (k : ℕ) → k < count → IsMarked marks (slice_index_or list k 0)
@@ -32,7 +33,7 @@ pub record Marked (list : List ℕ) (count : ℕ) (old_marks : List Bool) (old_w
 abbrev pub AreClear : List Bool → Type 0
 AreClear marks = (v : ℕ) → IsMarked marks v → ⊥
 
--- each node still marked is in the list at index `count` or later
+-- each node that is still marked is in the list at index `count` or later
 pub record Clearing (list : List ℕ) (count : ℕ) (old_marks marks : List Bool) : Type 0 where
   pub long : length marks ≡ length old_marks
   pub left : (v : ℕ) → IsMarked marks v → (k : ℕ) × (count ≤ k) × (k < length list) × (slice_index_or list k 0 ≡ v)
@@ -53,15 +54,16 @@ AreReached nodes roots found = (marks : List Bool) × IsFound nodes roots marks 
 abbrev pub node_of : Extent → ℕ
 node_of e = e.node
 
--- an extent has the number of nodes that its node reaches, and says if the node reaches itself
+-- An extent has the number of nodes that its node reaches. `turns` is true if and only if the node
+-- reaches itself.
 pub record IsExtent (nodes : List Node) (e : Extent) : Type 0 where
   pub reached : List ℕ
   pub are : AreReached nodes (needs_at nodes e.node) reached
   pub count : e.count ≡ length reached
   pub turns : IsTrue e.turns ↔ Reaches nodes e.node e.node
 
--- the level of each node in the list is one more than the greatest level of its needs, or 0 if it
--- needs nothing
+-- The level of each node in the list is one more than the greatest level of the nodes that it
+-- needs. A node that needs no node has level 0.
 pub record AreLevels (nodes : List Node) (list levels : List ℕ) : Type 0 where
   pub long : length levels ≡ length nodes
   pub each : (v : ℕ) → Contains list v → slice_index levels v ≡ above (map (slice_index levels) (needs_at nodes v))

@@ -135,14 +135,13 @@ truth_in (Some d) = as_bool d
 abbrev pub takes_workspace : Members → Bool
 takes_workspace ms = is_true (truth_in (value_at key.Workspace ms))
 
--- Says whether a value is inherited from the workspace. If the value is a table, it must contain
--- `workspace = true`.
+-- The value is inherited from the workspace. If the value is a table, it must contain `workspace =
+-- true`. Any other value is not inherited.
 abbrev pub is_taken : Key → Option Members → Read Bool
 is_taken k None = Ok false
 is_taken k (Some ms) = if takes_workspace ms then Ok true else Err (BadKind k)
 
--- a value that is either written or, by `{ workspace = true }`, inherited (The Cargo Book,
--- Workspaces)
+-- a value that is written, or is inherited by `{ workspace = true }` (The Cargo Book, Workspaces)
 abbrev pub written_or_taken : {A : Type 0} → Key → (Data → Read A) → Data → Read (Inheritable A)
 written_or_taken k read d = is_taken k (as_table d) >>= (λ taken. if taken then Ok Workspace else (read d >>= (λ x. Ok (Written x))))
 

@@ -72,6 +72,6 @@ abbrev pub ReadsWhatIsWritten : Type 0
 ReadsWhatIsWritten = (ms : Members) (m : Manifest) → document_of ms ≡ Ok m → document_of (written m) ≡ Ok m
 
 -- If the written form of a manifest is printed as `toml` prints it, the text is read as the same
--- manifest. The text must be within the size limit.
+-- manifest. The text must be UTF-8 and within the size limit.
 abbrev pub ReadsWhatIsPrinted : Type 0
 ReadsWhatIsPrinted = (bytes : List ℕ) (m : Manifest) → manifest_of bytes ≡ Ok m → (pretty : Bool) (text : List ℕ) → IsDocumentText pretty (written m) text → is_utf8 text ≡ true → length text ≤ max_manifest_bytes → manifest_of text ≡ Ok m

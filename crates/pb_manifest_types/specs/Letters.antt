@@ -23,13 +23,13 @@ is_crate_name_byte b = is_alphanumeric b || b == underscore
 unfoldable pub is_crate_name : List ℕ → Bool
 is_crate_name text = not (length text == 0) && list_all is_crate_name_byte text
 
--- the byte may be in a feature's name, at least after its first byte: it is a letter, a digit, `_`,
--- `-`, `+` or `.`
+-- the byte may follow the first byte of a feature's name: it is a letter, a digit, `_`, `-`, `+` or
+-- `.`
 unfoldable pub is_feature_byte : ℕ → Bool
 is_feature_byte b = is_alphanumeric b || b == underscore || b == dash || b == plus || b == dot
 
--- the text may be a feature's name: a letter, a digit or `_` is first, and all other bytes may be
--- in a feature's name
+-- The text may be a feature's name. Its first byte is a letter, a digit or `_`. `is_feature_byte`
+-- is true of all other bytes.
 unfoldable pub is_feature_name : List ℕ → Bool
 is_feature_name [] = false
 is_feature_name (b ∷ bs) = is_crate_name_byte b && list_all is_feature_byte bs

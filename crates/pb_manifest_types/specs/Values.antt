@@ -8,7 +8,7 @@ use Rattle.pb_manifest_types.specs.declared.fault.ManifestFault.TheVariants.{Out
 abbrev pub Text : Type 0
 Text = List ℕ
 
--- the value that was read, or the fault that prevented this
+-- the value that was read, or the fault that prevented the reading
 abbrev pub Read : Type 0 → Type 0
 Read A = Result A ManifestFault
 

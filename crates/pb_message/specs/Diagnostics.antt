@@ -19,7 +19,7 @@ abbrev pub object_text : Option (List ℕ) → Option (List ℕ)
 object_text None = None
 object_text (Some text) = if reads_as_object (read text) then Some text else None
 
--- the line without the blanks at its ends, if this is a diagnostic
+-- the line without the blanks at its ends, if what remains is a diagnostic
 abbrev pub diagnostic_in : List ℕ → Option (List ℕ)
 diagnostic_in line = object_text (text_of (trimmed line))
 

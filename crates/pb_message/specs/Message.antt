@@ -36,7 +36,8 @@ abbrev pub required_text : List (List ℕ) → List ℕ
 required_text [] = []
 required_text (feature ∷ features) = required_list (feature ∷ features)
 
--- the object of a target, made from these JSON texts; the last is the member for required features
+-- the object of a target, made from these JSON texts; `required` is the member for required
+-- features
 unfoldable pub target_object : List ℕ → List ℕ → List ℕ → List ℕ → List ℕ → List ℕ → List ℕ
 target_object kinds crate_types name source edition required = concat (
     codes "{\"kind\":" ∷ kinds ∷ codes ",\"crate_types\":" ∷ crate_types ∷ codes ",\"name\":" ∷ name

@@ -83,8 +83,8 @@ finished success = of_members ((codes "reason", string (codes "build-finished"))
 
 -- The laws.
 
--- A message line is the text of its object, written without spaces, and a line feed.
--- `EndsAreObjects` says this of the last line of a build.
+-- The line of a message that is not a diagnostic is the text of the message's object, written
+-- without spaces, and a line feed. `EndsAreObjects` says this of the last line of a build.
 abbrev pub MessagesAreObjects : Type 0
 MessagesAreObjects = (s : Subject) (fresh : Bool) (m : Message) → IfSome (object_of s fresh m) (λ told. line_of s fresh m ≡ compact_text told ++ line_feed ∷ [])
 
@@ -97,6 +97,6 @@ abbrev pub DiagnosticsAreCopied : Type 0
 DiagnosticsAreCopied = (s : Subject) (fresh : Bool) (text : List ℕ)
     → (front : List ℕ) × (line_of s fresh (CompilerMessage text) ≡ front ++ text ++ codes "}\n") × ((message : Data) → compact_text (diagnostic s message) ≡ front ++ compact_text message ++ codes "}")
 
--- the lines of several messages are the lines of each, one after another
+-- the lines of several messages are the lines of each message, one after another
 abbrev pub LinesFollow : Type 0
 LinesFollow = (s : Subject) (fresh : Bool) (messages : List Message) → lines_of s fresh messages ≡ flat_map (line_of s fresh) messages

@@ -12,7 +12,7 @@ abbrev pub IsObject : List ℕ → Type 0
 IsObject text = (is_utf8 text ≡ true) × ((members : Members) × (read text ≡ Some (object members)))
 
 -- These lines contain these diagnostics and this plain text.
--- - A line is a diagnostic if it is a JSON object without the blanks at its ends.
+-- - A line is a diagnostic if it is a JSON object once the blanks at its ends are removed.
 -- - A blank line is ignored.
 -- - Any other line is plain text, and is copied unchanged.
 pub data AreSaid : List (List ℕ) → List (List ℕ) → List ℕ → Type 0 where

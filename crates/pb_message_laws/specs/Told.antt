@@ -16,6 +16,7 @@ TellOne (BuildScriptNote level text) _ = ⊥
 TellOne (BuildScriptExecuted executed) (BuildScriptExecuted other) = Unit {0}
 TellOne (BuildScriptExecuted executed) _ = ⊥
 
--- if two messages about one package and target have the same line, they agree as `TellOne` states
+-- if two messages about the same package and the same target have the same line, they agree as
+-- `TellOne` states
 abbrev pub LinesTellMessages : Type 0
 LinesTellMessages = (subject : Subject) (fresh : Bool) (message other : Message) → line_of subject fresh message ≡ line_of subject fresh other → TellOne message other

@@ -16,7 +16,7 @@ abbrev pub compile_in : List (List ℕ) → Result Request CommandLineFault
 compile_in words = command_line_of words >>= (λ line. Ok (Compile line))
 
 -- What these arguments request. `-vV` alone requests the version. `--run` and a path request a run.
--- All others request a compile, if they are valid.
+-- All other arguments request a compile, if they are valid.
 abbrev pub request_of : List (List ℕ) → Result Request CommandLineFault
 request_of [] = compile_in []
 request_of (word ∷ []) = if bytes_eq word (codes "-vV") then Ok Version else compile_in (word ∷ [])

@@ -43,7 +43,8 @@ role_alone word = if is_setting word then Unused else Source
 abbrev pub no_arguments : Arguments
 no_arguments = record { crate_names = []; crate_types = []; out_dirs = []; sources = []; externs = []; conditions = [] }
 
--- the values of the arguments, after one more value was put in front of the others of its role
+-- the values of the arguments, after one more value was put in front of the other values of its
+-- role
 abbrev pub with_value : Role → List ℕ → Arguments → Arguments
 with_value CrateName value said = record said { crate_names = value ∷ said.crate_names }
 with_value CrateType value said = record said { crate_types = value ∷ said.crate_types }
@@ -54,7 +55,8 @@ with_value Condition value said = record said { conditions = value ∷ said.cond
 with_value Unused value said = said
 
 -- The values of two lists of arguments. For each role, the values of the first list come before
--- those of the second. `after` does this unless there is a fault.
+-- those of the second. `after` joins in this way, too, but a fault of the second list stays a
+-- fault.
 abbrev pub joined : Arguments → Arguments → Arguments
 joined a b = record {
   crate_names = a.crate_names ++ b.crate_names;
@@ -92,7 +94,8 @@ first (value ∷ more) = Ok value
 abbrev pub crate_type_of : List ℕ → kind.CrateType
 crate_type_of text = if bytes_eq text (codes "bin") then Bin else Lib
 
--- The name of the image in the output folder. `dep_info_name` is the name of the dep-info there.
+-- The name of the image in the output folder. `dep_info_name` is the name of the dep-info in this
+-- folder.
 abbrev pub image_name : kind.CrateType → List ℕ → List ℕ
 image_name Bin name = name
 image_name Lib name = codes "lib" ++ name ++ codes ".rlib"

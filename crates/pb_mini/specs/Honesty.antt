@@ -83,8 +83,8 @@ names_read words pairs w = names_if (request_of words) (table_of pairs) w
 abbrev pub SameFile : World → World → List ℕ → Type 0
 SameFile v w path = finite.get w.files path ≡ finite.get v.files path
 
--- If the pairs do not set a variable, it has the same value in both worlds. If they set it, its
--- inherited value is not read.
+-- If the pairs do not set the variable, the variable has the same value in both worlds. If the
+-- pairs set the variable, its inherited value is not read.
 abbrev pub SameValue : List (List ℕ × List ℕ) → World → World → List ℕ × Option (List ℕ) → Type 0
 SameValue pairs v w variable = value_at variable.0 pairs ≡ None → finite.get w.variables variable.0 ≡ finite.get v.variables variable.0
 
@@ -117,8 +117,8 @@ AnswersHonestly c v w = ((request : Request) → request_of c.words ≡ Ok reque
 
 -- ---- reporting
 
--- The later of two files if it exists, or else the earlier one. `file_named` is the last file with
--- this name.
+-- The later of two files, if there is a later file, and otherwise the earlier file. `file_named` is
+-- the last file with this name.
 abbrev pub later_of : Option (List ℕ) → Option (List ℕ) → Option (List ℕ)
 later_of earlier None = earlier
 later_of earlier (Some bytes) = Some bytes

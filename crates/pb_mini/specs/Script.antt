@@ -20,7 +20,7 @@ ending status = record { status = pos status; stdout = []; stderr = []; files = 
 abbrev pub no_output : Output
 no_output = record { stdout = []; files = [] }
 
--- the reply whose output is this output, followed by that of `reply`
+-- the reply, with this output put in front of the reply's own output
 abbrev pub before : Output → Reply → Reply
 before output reply = record reply { stdout = output.stdout ++ reply.stdout; files = output.files ++ reply.files }
 
@@ -50,8 +50,8 @@ shown name value = prints (shown_text name (unwrap_or value []))
 abbrev pub first_line : List ℕ → List ℕ
 first_line text = before_first (λ b. b == line_feed) text
 
--- What `read PATH` prints: a line that declares the path. If there is such a file and it is a text,
--- another line sets READ to the file's first line.
+-- What `read PATH` prints: a line that declares the path. If there is a file at the path and the
+-- file is a text, another line sets READ to the file's first line.
 abbrev pub first_line_set : Option (List ℕ) → List ℕ
 first_line_set None = []
 first_line_set (Some text) = ended (codes "cargo::rustc-env=READ=" ++ first_line text)

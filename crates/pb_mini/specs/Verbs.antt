@@ -45,8 +45,8 @@ meant_at given line (Some found) = if is_mentioned given found.0 then line_meant
 abbrev pub library_path : Scope → List ℕ → Option (List ℕ)
 library_path scope name = option_and_then path_of (value_at name scope.libraries)
 
--- the effect of `use NAME`: either it adds the line and then each line of the library's file, or it
--- reports that there is no such library
+-- The effect of `use NAME`. Either the line is added, and then each line of the library's file. Or
+-- an error reports that there is no such library.
 abbrev pub used : ℕ → List ℕ → List ℕ → Option (List ℕ) → Effects
 used number line name None = diagnosed Error (codes "no library " ++ name) number
 used number line name (Some bytes) = joined (copied line) (copied_file (codes "> ") bytes)
@@ -73,8 +73,8 @@ variable_at pairs w name = (name, value_of pairs w name)
 abbrev pub variable_of : List (List ℕ × List ℕ) → World → List ℕ → Option (List ℕ × Option (List ℕ))
 variable_of pairs w path = option_map (variable_at pairs w) (variable_in path)
 
--- The path, after a variable's value has replaced the first part, if this part names a variable. If
--- the variable is not set, its value is empty.
+-- The path. If its first part names a variable, the variable's value replaces this part. If the
+-- variable is not set, the value is empty.
 abbrev pub expanded : List ℕ → Option (List ℕ × Option (List ℕ)) → List ℕ
 expanded path None = path
 expanded path (Some variable) = unwrap_or variable.1 [] ++ from_slash path

@@ -36,8 +36,8 @@ use Rattle.pb_mini_laws.specs.Said.{CanBeSaid, declared_in_image}
 abbrev pub small_compiler : Answers
 small_compiler c w = answered c.words c.pairs w
 
--- Dep-info can express these names. The output is one line. Each name is one line, is not empty,
--- and ends neither with `\` nor with a carriage return. The name of a variable has no `=`.
+-- Dep-info can express these names. The output's path is one line. Each name is one line, is not
+-- empty, and ends neither with `\` nor with a carriage return. The name of a variable has no `=`.
 pub record CanBeSpelled (line : CommandLine) (names : Names) : Type 0 where
   pub output : has_byte 10 (below line.out_dir line.image) ≡ false
   pub paths : AllByRecursion CanBeTold names.paths
@@ -64,9 +64,9 @@ pub record IsSmall (setup : Setup) : Type 0 where
   pub flags : is_mentioned setup.flags (codes "--extern") ≡ false
   pub runner : RunsAlone setup.runner
 
--- The unit belongs to a project that was read and planned. The project is settled and has its plan.
--- The project's paths and the path of the unit's source are normalised absolute paths. A run has no
--- source.
+-- The unit is in the plan of a project that was read and planned. The project's workspace is
+-- settled. The project's paths and the path of the unit's source are normalised absolute paths. A
+-- run has no source.
 pub record IsOfProject (project : Project) (u : Planned) : Type 0 where
   pub settled : IsSettled project.workspace
   pub paths : HasPaths project

@@ -39,9 +39,9 @@ SmallSessionsGive = (options : Options) (pick : PickBy) (steps : List SessionSte
     → Sound reading judge small_compiler (records_of options mid.moment.world.variables) before.moment.world.files → SmallCourse (records_of options mid.moment.world.variables) steps before mid
     → IsSmallBuild options mid.moment.world → (built : CarriesBuild small_compiler options pick mid after) → GivesCleanResult TrustedRecords small_compiler (ByPicked pick options) options built.answer mid.moment built.ended
 
--- Take a session file whose session begins without files and has these target folders, which lie
--- apart. If `AllTold` is true of its steps, each of its builds produces what a clean build of the
--- workspace at that time produces.
+-- Take a session file whose session begins without files. No two of the folders in `targets`
+-- overlap. If `AllTold` is true of the session's steps, each build of the session produces what a
+-- clean build of the workspace at that time produces.
 abbrev pub SessionFilesGive : Type 0
 SessionFilesGive = (bytes : List ℕ) (targets : List (List ℕ)) (steps : List SessionStep) (before after : Point) → session_of bytes ≡ Ok steps → before.moment.world.files ≡ finite.empty
     → StandApart targets → (course : Course small_compiler steps before after) → AllTold targets steps before after course → AllGive steps before after course

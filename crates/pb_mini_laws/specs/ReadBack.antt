@@ -29,11 +29,12 @@ pub record CanBeAsked (variable : List ℕ × Option (List ℕ)) : Type 0 where
   pub told : CanBeTold variable.0
   pub no_equals : has_byte 61 variable.0 ≡ false
 
--- each of these texts is among the others
+-- each text in `texts` is also in `others`
 abbrev pub AreAmong : List (List ℕ) → List (List ℕ) → Type 0
 AreAmong texts others = (text : List ℕ) → is_mentioned texts text ≡ true → is_mentioned others text ≡ true
 
--- Reading back finds all names that were written.
+-- If dep-info can express the output and the names, reading the dep-info back finds all names that
+-- were written.
 abbrev pub ReadsBack : List ℕ → Names → DepInfo → Type 0
 ReadsBack output names info = is_absolute output ≡ true → has_byte 10 output ≡ false → AllByRecursion CanBeTold names.paths → AllByRecursion CanBeAsked names.variables
     → dep_info_of (dep_info_text output names) ≡ Ok info → AreAmong names.paths info.words × AreAmong (names_of names.variables) info.variables

@@ -99,8 +99,8 @@ outside at out err = record { kept = kept at; out = out; err = err }
 abbrev pub WritesAll : Bool → Bool → List (List ℕ) → World → Reply → Outside → Outside → Type 0
 WritesAll shows is_modelled words shown reply old new = Puts shows is_modelled words shown reply old.kept new.kept × Writes reply.stdout old.out new.out × Writes reply.stderr old.err new.err
 
--- A write failed: the write of a file, the write of the output after all files, or the write of
--- standard error after the whole output.
+-- A write failed. It was the write of a file, or of the output after all files, or of standard
+-- error after the whole output.
 abbrev pub WriteFails : Bool → Bool → List (List ℕ) → World → Reply → Outside → Outside → Type 0
 WriteFails shows is_modelled words shown reply old new =
     ((folder : List ℕ) × IsFolder shows words shown (Some folder) × FailsToPut is_modelled folder reply.files old.kept new.kept × (new.out ≡ old.out) × (new.err ≡ old.err))

@@ -72,7 +72,7 @@ pub record SpawnFailed (e : StartFault) (out : Option (List ℕ)) (old new : Hel
   pub deaths : new.deaths ≡ deaths_past e out old.fuse old.deaths
   pub most : new.most ≡ old.most
 
--- What a start uses up if its child was spawned: two calls, which are the spawn and the wait for
+-- What a start uses up if its child was spawned: two calls. These are the spawn and the wait for
 -- the end, whatever the end was.
 pub record ChildFlew (out : Option (List ℕ)) (old new : Held) : Type 0 where
   pub fuse : new.fuse ≡ old.fuse - 2

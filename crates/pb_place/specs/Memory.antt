@@ -69,8 +69,8 @@ fate_in (Some f) = f.kept
 abbrev pub fate_at : ℕ → List (Flying (Option StartFault)) → Option StartFault
 fate_at ticket flying = fate_in (entry_at ticket flying)
 
--- Says whether a death waits for a child with this output folder. `fate_of` is the kind of the
--- first such death, and `other_deaths` are the other deaths.
+-- The death waits for a child with this output folder. `fate_of` is the kind of the first death
+-- that waits for such a child, and `other_deaths` are the other deaths.
 abbrev pub is_for : Option (List ℕ) → Death → Bool
 is_for None d = false
 is_for (Some out) d = bytes_eq d.key (last_part out)

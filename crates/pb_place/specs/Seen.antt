@@ -17,8 +17,8 @@ start_failed (Ok x) = false
 start_failed (Err start.OutOfMemory) = false
 start_failed (Err e) = true
 
--- The state after one more call. A state says if a call has failed, and how many calls have come
--- after the first failure.
+-- The state after one more call. A state says whether a call has failed, and how many calls have
+-- come after the first failure.
 abbrev pub seen : Bool → Bool × ℕ → Bool × ℕ
 seen failed (faulted, after) = (faulted || failed, if faulted then up after else after)
 

@@ -41,8 +41,8 @@ pub record EndFails (ticket : ℕ) (result : Result Ended StartFault) (old : Hel
   pub quiet : old.fuse ≢ 1 → fate_at ticket old.flying ≡ None → IfErr result (λ e. e ≡ start.OutOfMemory)
   pub fault : IfErr result (λ e. e ≢ start.OutOfMemory → (e ≡ start.Died) ⊎ (e ≡ start.Capture))
 
--- The place after the end of a child. If the wait succeeded, the child's files are there. If the
--- child gave no reply, no file changed. The child is no longer in flight.
+-- The place after the end of a child. If the wait succeeded, the child's files are in its folder.
+-- If the child gave no reply, no file changed. The child is no longer in flight.
 pub record EndsIn (ticket : ℕ) (result : Result Ended StartFault) (old new : Held) : Type 0 where
   pub lands : IfOk result (λ ended. IfSome (child_at ticket (children_in old.flying)) (λ spawned. LandsAs spawned old.world ended new.world))
   pub stands : IfErr result (λ e. e ≢ start.OutOfMemory → new.world ≡ old.world)
@@ -62,7 +62,7 @@ pub record StartFails (out : Option (List ℕ)) (result : Result Ended StartFaul
   pub quiet : old.fuse ≢ 1 → old.fuse ≢ 2 → fate_of out old.deaths ≡ None → IfErr result (λ e. e ≡ start.OutOfMemory)
 
 -- The place after a start. No more children are in flight than before. If the child could not be
--- started, no file changed. If the child gave no reply, half of its files are there.
+-- started, no file changed. If the child gave no reply, half of its files are in its folder.
 pub record StartsIn (child : Answers) (command : Command) (result : Result Ended StartFault) (old new : Held) : Type 0 where
   pub nothing : IfErr result (λ e. e ≡ start.CannotStart → new.world ≡ old.world)
   pub half : IfErr result (λ e. e ≢ start.CannotStart → e ≢ start.OutOfMemory → new.world ≡ put_half command.out (child command (seen_by command old.world)).files old.world)

@@ -12,7 +12,7 @@ value_over name before [] = before
 value_over name before (pair ∷ pairs) = value_over name (if bytes_eq pair.0 name then Some (Some pair.1) else before) pairs
 
 -- The process has the program at this path, the command's arguments in order, and the command's
--- folder. In the inherited environment, only the command's pairs are set.
+-- folder. Its environment is the inherited one, changed only by the command's pairs.
 pub record IsProcessOf {A : Type 0} (path : List ℕ) (command : Command) (made : process.Command A) : Type 0 where
   pub program : command_program made ≡ path
   pub words : command_args made ≡ command.words

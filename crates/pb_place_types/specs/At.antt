@@ -21,8 +21,8 @@ pub record At : Type 1 where
   pub counts : Counts
   -- the greatest number of children that were ever in flight at once
   pub most : ℕ
-  -- Says of a ticket that its child still sees what it saw at the spawn. No file of the child's
-  -- folder has changed since then, either.
+  -- `still` is true of a ticket if, since the spawn, neither what the ticket's child sees nor a
+  -- file of the child's folder has changed.
   pub still : ℕ → Type 0
   -- the paths that changed while a child was running, as far as `watch` has looked
   pub moved : List Moved

@@ -26,7 +26,7 @@ child_spawned child command w ticket = record {
   before = inside_out command.out w.files;
 }
 
--- Says whether a child with this ticket is in flight. `child_at` is the first such child.
+-- A child with this ticket is in flight. `child_at` is the first child with this ticket.
 abbrev pub is_flying : ℕ → List ChildInFlight → Bool
 is_flying ticket [] = false
 is_flying ticket (f ∷ fs) = (f.ticket == ticket) || is_flying ticket fs

@@ -5,7 +5,7 @@ use Rattle.std.specs.List.{list_any}
 use Rattle.pb_place_types.specs.Paths.{is_below, is_at_or_below}
 use Rattle.pb_place_types.specs.World.{World, Map, put_files, is_same_path}
 
--- the map after an option is put at a path: its bytes if it has a value, else no change
+-- the map after the option's bytes are put at a path; without bytes the map does not change
 abbrev pub put_one : List ℕ → Option (List ℕ) → Map → Map
 put_one path None m = m
 put_one path (Some bytes) m = map.insert m path bytes

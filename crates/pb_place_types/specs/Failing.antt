@@ -1,4 +1,4 @@
--- what a failed call leaves unchanged; the fault of the call is recorded as the last fault
+-- What a failed call leaves unchanged. The fault of the call is recorded as the last fault.
 use Rattle.std.specs.Prelude.{◌≡◌, ◌≢◌, ◌⊎◌, ◌++◌, ℕ, Bool, false, List, Option, Some, None}
 use Rattle.std.specs.FinMap as map
 use Rattle.pb_place_types.specs.Paths.{is_below, is_at_or_below}
@@ -20,7 +20,7 @@ abbrev pub TornLeaves : Type 0
 TornLeaves = (path bytes : List ℕ) (old new : World) → Torn path bytes old new
     → (map.get new.files path ≡ map.get old.files path) ⊎ ((map.get new.files path ≡ None) ⊎ ((first : List ℕ) × (rest : List ℕ) × (bytes ≡ first ++ rest) × (map.get new.files path ≡ Some first)))
 
--- after a failed removal, every path outside the tree has its old content
+-- after a failed removal, every path that is not at or below the removed path has its old content
 abbrev pub PartlySparesOthers : Type 0
 PartlySparesOthers = (path q : List ℕ) (old new : World) → PartlyRemoved path old new → is_at_or_below path q ≡ false → map.get new.files q ≡ map.get old.files q
 
@@ -53,6 +53,6 @@ abbrev pub CallTellsFault : Type 0
 CallTellsFault = (call : Call) (e : PlaceFault) (c : Counts) → e ≢ place.OutOfMemory → past_place_fault call e c ≡ record (past_fault (Called e) c) { calls = up c.calls; failing = Some call }
 
 -- if a start failed and memory did not run out, the start is counted, and its fault is recorded as
--- the last
+-- the last fault
 abbrev pub StartTellsFault : Type 0
 StartTellsFault = (e : StartFault) (c : Counts) → e ≢ start.OutOfMemory → past_start_fault e c ≡ record (past_fault (Started e) c) { calls = up c.calls }

@@ -52,8 +52,8 @@ FolderStays = (f g : List ℕ) (old new : World) → LieApart f g → ChangesOnl
 abbrev pub SourcesStayed : Type 0
 SourcesStayed = (target folder : List ℕ) (old new : World) → is_at_or_below target folder ≡ true → ChangesOnly (is_at_or_below folder) old new → from_nothing target new ≡ from_nothing target old
 
--- Two changes in a folder are together one change in this folder. A change in a folder is also a
--- change in each folder above it.
+-- Two changes at or below a folder are together one change at or below this folder. A change at or
+-- below a folder is also a change at or below each folder above it.
 abbrev pub ChangesJoin : Type 0
 ChangesJoin = (folder : List ℕ) (old mid new : World) → ChangesOnly (is_at_or_below folder) old mid → ChangesOnly (is_at_or_below folder) mid new → ChangesOnly (is_at_or_below folder) old new
 

@@ -99,8 +99,8 @@ leads_below [] (b ∷ c ∷ rest) = b == slash
 leads_below (a ∷ stem) [] = false
 leads_below (a ∷ stem) (b ∷ path) = (a == b) && leads_below stem path
 
--- A path is strictly below a folder if this is true by whole parts. `/a/b` is below `/a`, but `/ab`
--- is not.
+-- The path is strictly below the folder, compared part by part. `/a/b` is below `/a`, but `/ab` is
+-- not.
 unfoldable pub is_below : List ℕ → List ℕ → Bool
 is_below folder path = leads_below (stem folder) path
 

@@ -16,8 +16,9 @@ AtOrBelow = (folder path : List ℕ) → (is_at_or_below folder path ≡ true) �
 abbrev pub AtOrBelowGoesOn : Type 0
 AtOrBelowGoesOn = (above folder path : List ℕ) → is_at_or_below above folder ≡ true → is_at_or_below folder path ≡ true → is_at_or_below above path ≡ true
 
--- Take a folder at or below an upper folder, and a path at or below this folder. If one of the two
--- is strictly below, the path is strictly below the upper folder.
+-- Let a folder be at or below `above`, and a path be at or below the folder. If the folder is
+-- strictly below `above`, the path is strictly below `above`. The same is true if the path is
+-- strictly below the folder.
 abbrev pub BelowThenAt : Type 0
 BelowThenAt = (above folder path : List ℕ) → is_below above folder ≡ true → is_at_or_below folder path ≡ true → is_below above path ≡ true
 
@@ -41,8 +42,8 @@ ShareNoPath = (f g q : List ℕ) → is_path f ≡ true → is_path g ≡ true �
 abbrev pub RootIsAbove : Type 0
 RootIsAbove = (path : List ℕ) → is_path path ≡ true → is_at_or_below (codes "/") path ≡ true
 
--- If two different names without a slash are put below one folder, neither path is at or below the
--- other.
+-- Put two different names below the same folder. If `name` is not empty and `other` has no slash,
+-- the path of `other` is not at or below the path of `name`.
 abbrev pub NamesLieApart : Type 0
 NamesLieApart = (folder name other : List ℕ) → name ≢ [] → list_any (λ b. b == slash) other ≡ false → name ≢ other → is_at_or_below (below folder name) (below folder other) ≡ false
 

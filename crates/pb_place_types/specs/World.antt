@@ -70,8 +70,8 @@ first_folder [] = None
 first_folder (part ∷ []) = None
 first_folder (part ∷ next ∷ parts) = Some part
 
--- the folder directly in a folder through which a path leads: for `/a/b/c/d` in `/a` it is `/a/b`;
--- for `/a/b` in `/a` there is none
+-- The folder directly in `folder` through which a path leads, if there is one. In `/a`, the path
+-- `/a/b/c/d` leads through `/a/b`, and `/a/b` leads through no folder.
 abbrev pub folder_towards : List ℕ → List ℕ → Option (List ℕ)
 folder_towards folder path = option_and_then (λ rest. option_map (below folder) (first_folder (parts_of rest))) (inside folder path)
 
@@ -85,7 +85,7 @@ abbrev pub with_new : List (List ℕ) → Option (List ℕ) → List (List ℕ)
 with_new folders None = folders
 with_new folders (Some folder) = if is_last folder folders then folders else folders ++ folder ∷ []
 
--- The folders directly in a folder through which these paths lead, in the order of the paths. No
+-- The folders directly in `folder` through which these paths lead, in the order of the paths. No
 -- folder occurs twice in a row.
 abbrev pub folders_among : List ℕ → List (List ℕ) → List (List ℕ)
 folders_among folder paths = fold with_new [] (each (folder_towards folder) paths)
@@ -100,7 +100,7 @@ listed_folders folder w = folders_among folder (listed folder w)
 abbrev pub from_nothing : List ℕ → World → World
 from_nothing target w = removed target w
 
--- two maps agree at each path to which `may` does not apply
+-- two maps agree at each path of which `may` is not true
 abbrev pub AgreeBut : (List ℕ → Bool) → Map → Map → Type 0
 AgreeBut may old new = (q : List ℕ) → may q ≡ false → map.get new q ≡ map.get old q
 

@@ -51,6 +51,6 @@ pub record ComesBack (profiles : List Profile) (from : Seen) : Type 0 where
 abbrev pub TellsCycles : Type 0
 TellsCycles = (profiles : List Profile) (name : List ℕ) → line_of profiles name ≡ Err InheritsCycle → ComesBack profiles (seen_at profiles name)
 
--- for each key some location has a value, whatever the profiles contain
+-- along each line, some location has a value for each key, whatever the profiles contain
 abbrev pub FindsValues : Type 0
 FindsValues = (profiles : List Profile) (s : Seen) (line : List Seen) → IsLine profiles s line → (p : Package) (role : Side) (k : ProfileKey) → IsSome (looked_up k (places_of p role) line)

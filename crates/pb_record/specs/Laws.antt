@@ -42,8 +42,8 @@ NoZeroLeads = (n d : ℕ) (rest more : List ℕ) → number n ++ rest ≡ 48 ∷
 abbrev pub NumbersHaveDigits : Type 0
 NumbersHaveDigits = (n : ℕ) (rest more : List ℕ) → number n ++ rest ≢ line_feed ∷ more
 
--- If the run number in a record begins with 0, it is 0. The next two laws say that the run number
--- has at least one digit, and fits in 64 bits.
+-- If the digits of a record's run number begin with 0, the 0 is the only digit. The next two laws
+-- say that the run number has at least one digit, and fits in 64 bits.
 abbrev pub NoZeroLeadsRecord : Type 0
 NoZeroLeadsRecord = (r : Record) (d : ℕ) (more : List ℕ) → Says (line (codes "record 2") ++ 48 ∷ d ∷ more) r → d ≡ 10
 
@@ -57,6 +57,6 @@ RecordNumbersFit = (r : Record) (n : ℕ) (more : List ℕ) → Says (line (code
 abbrev pub HasOneReading : Type 0
 HasOneReading = (text : List ℕ) (found other : Option Record) → ReadsAs text found → ReadsAs text other → found ≡ other
 
--- There is a function that reads every text.
+-- There is a function that reads every text as `ReadsAs` defines.
 abbrev pub HasReading : Type 0
 HasReading = (read : List ℕ → Option Record) × FindsAsReading read

@@ -24,7 +24,7 @@ IsCommandOf project u c = (setup : Setup) × (done : List (Option (List Directiv
 abbrev pub records_folder : Project → List ℕ
 records_folder project = profile_folder project.workspace project.profile
 
--- the folder `f` is the output folder of a unit that this unit needs, or is read by such a unit
+-- this unit needs a unit that has the output folder `f`, or that reads the folder `f`
 pub record IsReadByNeed (project : Project) (u : Planned) (f : List ℕ) : Type 0 where
   pub place : ℕ
   pub needed : Contains u.needs place

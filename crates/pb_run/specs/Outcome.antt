@@ -68,7 +68,7 @@ view_of done sources u = record sources { files = with_made done u.reaches sourc
 
 -- How the reply of a unit's child is judged.
 
--- what came of a unit, given how its child ended and the result of the check of its reply
+-- what came of a unit, given how its child ended and how the child's reply was judged
 abbrev pub ran_by : Project → Planned → Ended → Result CheckedReply UnitFault → Ran
 ran_by project u e (Ok a) = record { started = true; bad = None; directives = a.directives; messages = good_messages project u e.stderr a.directives }
 ran_by project u e (Err fault) = record { started = true; bad = Some record { fault = fault; said = said_by u.unit.what fault e }; directives = None; messages = bad_messages u.unit.what fault e }

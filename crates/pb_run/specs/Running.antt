@@ -1,5 +1,5 @@
--- What a step of one unit does. The unit begins, with or without a child, or it answers, or it does
--- both, one after the other.
+-- What a step of one unit does. In a step the unit begins, or it answers, or it begins and then
+-- answers. A unit begins with or without a child.
 use Rattle.std.specs.Prelude.{◌≡◌, ◌⊎◌, ℕ, Bool, List, Option, Some, None, Result, Ok, MatchResult, ◌++◌, ◌∷◌, if◌then◌else◌, is_some, [], map, Err, IsOk, IfOk, IfErr, IfSome, ◌≢◌, ◌+◌, true, IsTrue, IsSome, MatchOption, OnOk, length, max, slice_set, false, slice_get}
 use Rattle.std.specs.FinMap as finite
 use Rattle.pb_build_result.specs.declared.bad_unit.BadUnit.{BadUnit}
@@ -83,8 +83,8 @@ RemovalEnds path (step.Store store.NumbersSpent) old new = ⊥
 RemovalEnds path (step.Store store.OutOfMemory) old new = (new ≡ old) ⊎ (new ≡ past_call old)
 RemovalEnds path (step.Start fault) old new = ⊥
 
--- How a step that removes a record, and needs a run number, ended with this fault. If no number is
--- left, no call was made. Any other fault is one of `RemovalEnds`.
+-- How a step ended with this fault. The step needs a run number and removes a record. If no number
+-- is left, no call was made. Any other fault is one of `RemovalEnds`.
 abbrev pub DropEnds : List ℕ → StepFault → Counts → Counts → Type 0
 DropEnds path (step.Store store.NumbersSpent) old new = new ≡ old
 DropEnds path e old new = RemovalEnds path e old new
@@ -109,7 +109,7 @@ abbrev pub SpawnsAnew : Answers → Command → ℕ → Counts → Counts → Ty
 SpawnsAnew child c ticket old new = Spawns child c ticket (past_call old) new
 
 -- Two calls removed the record and the files of the output folder, and then the child was spawned.
--- `LaunchEnds` shows the order of these calls: it says which of them were made if one failed.
+-- `LaunchEnds` says which of these calls were made if a call failed, and so it shows their order.
 abbrev pub Launches : Answers → Command → ℕ → Counts → Counts → Type 0
 Launches child c ticket old new = SpawnsAnew child c ticket (past_call old) new
 
@@ -204,9 +204,9 @@ abbrev pub answered_called : Project → Planned → Command → World → Await
 answered_called project u c w by ended =
     dep_info_looked (dep_info_of project u) ++ judged_called project u c w by (judgement_by project u ended (answered_of project u c ended (file_at (dep_info_of project u) w.files)))
 
--- If there is an answer, these calls were made in this order, up to the first that failed. Only a
--- replayed record can lack a number. If the child gave no answer, no call was made, and the fault
--- is the child's.
+-- If there is an answer, these calls were made in this order, up to the first that failed. Only the
+-- replay of a record can fail because no run number is left. If the child gave no answer, no call
+-- was made, and the fault is the child's.
 abbrev pub CallsBehind : {T : Type 0} → Awaited → (Ended → List Call) → Result Ended StartFault → Result T StepFault → Counts → Counts → Type 0
 CallsBehind (awaited.Child launched) calls (Ok ended) result old new = StepMakes result (calls ended) old new
 CallsBehind (awaited.Record again) calls (Ok ended) result old new = NumbersInTurn result (calls ended) old new
@@ -216,7 +216,7 @@ CallsBehind by calls (Err fault) result old new = (new ≡ old) × IfErr result 
 abbrev pub Differs : Project → Planned → Command → World → Type 0
 Differs project u c w = (difference : Difference) × FirstDifference (records_folder project) u.key c w (Some difference)
 
--- The calls that compare a unit with its record. `past_look` are the counters after these calls.
+-- The calls that compare a unit with its record. `past_look` is the counters after these calls.
 abbrev pub unit_looks : Project → Planned → Command → World → List Call
 unit_looks project u c w = unit_looked (records_folder project) u.key c w
 
@@ -275,9 +275,9 @@ pub record KeepsStore {T : Type 0} (is_modelled : Bool) (result : Result T StepF
   pub next : TakesNumber before.next now.next
   pub numbers : IsTrue is_modelled → OnOk result (HasNumbers (records before.folder new.world) now.numbers)
 
--- Only this unit's folder and record change. All other children stay in flight. Another child
--- stands still unless a change at these paths touches what it sees. At most one call failed, and no
--- call came after it.
+-- Only this unit's folder and record change. All children in flight, except the child `ended`, stay
+-- in flight. Such a child stands still unless a change at these paths touches what it sees. At most
+-- one call failed, and no call came after it.
 pub record ChangesUnit {T : Type 0} (folder key : List ℕ) (ended : Option SpawnedChild) (Goes : T → Starts → Starts → Type 0) (May : StepFault → Starts → Starts → Type 0) (result : Result T StepFault) (old new : At) : Type 0 where
   pub only : ChangesOnly (is_of folder key) old.world new.world
   pub still : KeepsOthersStill ended (is_of folder key) old.counts.starts.flying old.still new.still
@@ -293,7 +293,7 @@ pub record IsOf (project : Project) (u : Planned) (begun : Begun) : Type 0 where
   pub unit : begun.unit ≡ u.key
   pub asks : IsCommandOf project u begun.command
 
--- The answer has come, and then `Then` was true of the world and the counters at that moment.
+-- The answer has come. At that moment `Then` was true of the world and the counters.
 pub record AnswersThen (by : Awaited) (answer : Result Ended StartFault) (well : Type 0) (old : At) (Then : World → Counts → Type 0) : Type 0 where
   pub world : World
   pub counts : Counts
@@ -308,7 +308,7 @@ pub record AnswersUnit (is_modelled : Bool) (project : Project) (u : Planned) (b
   pub judged : IsTrue is_modelled → (ended : Ended) × AnswersThen begun.awaited (Ok ended) (IsTrue true) old (λ w counts. IsJudged project u begun.command begun.awaited ended w ran)
   pub kept : IsTrue is_modelled → is_some ran.bad ≡ false → (ended : Ended) × AnswersThen begun.awaited (Ok ended) (IsTrue true) old (λ w counts.
       records (records_folder project) new.world u.key ≡ record_left project u begun.command begun.awaited ended before.next w)
-  -- if the unit is bad, its record is unchanged and no number is taken
+  -- if the unit is bad, nothing changes outside its output folder, and no number is taken
   pub unkept : IsSome ran.bad → ChangesOnly (is_at_or_below u.out) old.world new.world
   pub bad : IsSome ran.bad → now.next ≡ before.next
   -- if the unit is good and its record had no number, the next number is taken

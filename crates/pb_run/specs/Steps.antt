@@ -117,7 +117,8 @@ StepCause (step.Store store.OutOfMemory) old new = new.failures ≡ old.failures
 StepCause (step.Start fault) old new = FailedLast (Started fault) old new
 
 -- How a step changes the counters. After a success no call has failed, and the starts changed as
--- `Goes` says. Otherwise `May` allows the fault with these starts, and the fault has its cause.
+-- `Goes` says. After a fault, `May` allows the fault with this change of the starts, and the fault
+-- has its cause.
 abbrev pub StepTakes : {T : Type 0} → (T → Starts → Starts → Type 0) → (StepFault → Starts → Starts → Type 0) → Result T StepFault → Counts → Counts → Type 0
 StepTakes Goes May result old new = MatchResult result (λ x. (new.failures ≡ old.failures) × Goes x old.starts new.starts) (λ e. May e old.starts new.starts × StepCause e old new)
 
@@ -154,8 +155,8 @@ MayAnswer next launched (step.Store store.NumbersSpent) old new = (next ≡ None
 MayAnswer next launched (step.Store store.OutOfMemory) old new = LandsBy launched old new
 MayAnswer next launched (step.Start fault) old new = IsSome launched × ((fault ≡ start.Died) ⊎ (fault ≡ start.Capture)) × LandsBy launched old new
 
--- The fault comes from a step that a unit takes only if something differs: a run number is taken,
--- the record or the files are removed, or the child is spawned.
+-- The fault comes from a step that a unit takes only if something differs. Such a step takes a run
+-- number, removes the record or the files, or spawns the child.
 abbrev pub starts : StepFault → Bool
 starts (step.Store (store.Place place.Remove)) = true
 starts (step.Store (store.Place fault)) = false
@@ -171,7 +172,7 @@ HasCause fault old new = StepCause (fault_in fault) old new
 abbrev pub is_of_start : BuildFault → Bool
 is_of_start fault = starts (fault_in fault)
 
--- Calls that are made one after the other, for faults without a key.
+-- Calls that are made one after the other. Here the faults have no key.
 
 -- How these calls ended with this fault of a step. Either one of the calls failed; then all calls
 -- before it succeeded, and no call came after it. Or memory ran out after the first n calls.

@@ -206,8 +206,8 @@ abbrev pub WritesTo : List ℕ → Option SpawnedChild → List ChildInFlight �
 WritesTo out None flying = Unit {0}
 WritesTo out (Some launched) flying = IfSome (child_at launched.ticket flying) (λ spawned. spawned.command.out ≡ Some out)
 
--- Take another child that stood still before. If changes at these paths cannot touch what that
--- child sees, it stands still afterwards.
+-- Take a child that stood still before and is not the child `launched`. If changes at these paths
+-- cannot touch what it sees, it stands still afterwards.
 abbrev pub KeepsOthersStill : Option SpawnedChild → (List ℕ → Bool) → List ChildInFlight → (ℕ → Type 0) → (ℕ → Type 0) → Type 0
 KeepsOthersStill launched inside flying before after =
     (ticket : ℕ) → IfSome launched (λ its. ticket ≢ its.ticket) → ((v w : World) → ChangesOnly inside v w → StandsStill ticket flying v w) → before ticket → after ticket
@@ -228,8 +228,8 @@ pub record CanAnswer (b : BuildContext) (states : List (State BadUnit)) (done : 
   pub reaches : are_good states u.reaches ≡ true
   pub begun_so : IsBegun b index begun next w flying still
 
--- Another unit has begun, and reaches only good units. If both units have a child, their tickets
--- differ, and so do their run numbers.
+-- The unit `other` is not the unit at `index`. It has begun, and reaches only good units. If both
+-- units have a child, their tickets differ, and so do their run numbers.
 pub record BeginsApart (b : BuildContext) (states : List (State BadUnit)) (index : ℕ) (launched : Option SpawnedChild) (other : ℕ) (its : Begun) (next : Option ℕ) (w : World) (flying : List ChildInFlight) (still : ℕ → Type 0) : Type 0 where
   pub another : other ≢ index
   pub unit : Planned

@@ -27,7 +27,7 @@ table_after needs [] = fresh needs
 table_after needs (Noted e ∷ cs) = noted e (table_after needs cs)
 table_after needs (Emitted ∷ cs) = emitted (table_after needs cs)
 
--- the lines that a further call hands out
+-- given the table, the lines that the next call hands out
 abbrev pub handed_by : {F : Type 0} → Table F → List ℕ
 handed_by t = due_after t.given t.states
 

@@ -36,8 +36,9 @@ HandsOutAllDue F = (needs : List (List ℕ)) (cs : List (Call F)) → IsLawful n
 abbrev pub EndsAs : {F : Type 0} → List (State F) → List (State F) → Type 0
 EndsAs {F} states end = (u : ℕ) (answer : Answer F) → slice_get states u ≡ Some (Answered answer) → slice_get end u ≡ Some (Answered answer)
 
--- The lines due now are those of the units due now. These lines are a prefix of the lines due at
--- the end.
+-- Let each unit that has answered keep its answer to the end. If the lines of n units are due now,
+-- they are the lines of the first n units at the end. They are a prefix of all lines due at the
+-- end.
 abbrev pub DueIsStart : (F : Type 0) → Type 0
 DueIsStart F = (states end : List (State F)) → EndsAs states end → (due states ≡ due_first (count_due states) end) × ((rest : List ℕ) × (due end ≡ due states ++ rest))
 
@@ -67,13 +68,13 @@ SomethingIsLeft F = (needs : List (List ℕ)) (es : List (Event F)) → IsInPlan
 abbrev pub StepsAreLawful : {S : Type 0} → (F : Type 0) → (S → List ℕ → List ℕ → Step → S → Type 0) → Type 0
 StepsAreLawful {S} F Turns = (needs : List (List ℕ)) (from now : S) (es : List (Event F)) → Flies Turns needs Anyhow Anything from es now → IsLawful needs es
 
--- If a unit has a child if and only if it differs, the started units are exactly those that have
--- begun and differ.
+-- Let a unit have a child if and only if it differs. The started units are then exactly those that
+-- have begun and differ.
 abbrev pub StartedDiffers : {S : Type 0} → (F : Type 0) → (S → List ℕ → List ℕ → Step → S → Type 0) → Type 0
 StartedDiffers {S} F Turns = (needs : List (List ℕ)) (different : List ℕ) (from now : S) (es : List (Event F)) → Flies Turns needs (SpawnsAs (Contains different)) Anything from es now
     → (u : ℕ) → Contains (started_by es) u ↔ (Contains (begun_by es) u × Contains different u)
 
--- at no time are more units in flight than there are jobs
+-- at no time are more units in flight than there are jobs; zero jobs count as one
 abbrev pub JobsBoundFlying : {S : Type 0} → (F : Type 0) → (S → List ℕ → ℕ → S → Type 0) → Type 0
 JobsBoundFlying {S} F Picks = (needs : List (List ℕ)) (from now : Jobs S) (es : List (Event F)) → Flies (TurnsOfJobs Picks) needs Anyhow Anything from es now → length (flying_after es) ≤ max from.jobs 1
 

@@ -15,8 +15,8 @@ IsWithin ready flying (step.Begin i) = i < ready
 IsWithin ready flying (step.Answer i) = i < flying
 
 -- A turn has decided the steps that produced these events. Each step started from the state after
--- the last step, and the flight was not finished then. Each step chose a unit that might begin or
--- was in flight. `Spawns` says if a unit has a child, and `Gives` which answer it may give.
+-- the step before it, and the flight was not finished then. Each step chose a unit that might begin
+-- or was in flight. `Spawns` says whether a unit has a child, and `Gives` which answer it may give.
 pub data Flies {F S : Type 0} (Turns : S → List ℕ → List ℕ → Step → S → Type 0) (needs : List (List ℕ)) (Spawns : ℕ → Bool → Type 0) (Gives : ℕ → Answer F → Type 0) (from : S) : List (Event F) → S → Type 0 where
   nothing : Flies Turns needs Spawns Gives from [] from
   begin : (es : List (Event F)) (now next : S) (i u : ℕ) (spawned : Bool) (before : Flies Turns needs Spawns Gives from es now) (missing : is_finished (states_after needs es) ≡ false)
@@ -26,9 +26,9 @@ pub data Flies {F S : Type 0} (Turns : S → List ℕ → List ℕ → Step → 
       (turned : Turns now (ready_of needs (states_after needs es)) (flying_after es) (step.Answer i) next) (unit : slice_get (flying_after es) i ≡ Some u) (gives : Gives u given)
       → Flies Turns needs Spawns Gives from (Gave u given ∷ es) next
 
--- After these events, the state after the last event is returned. There is one exception. If a
--- fault ended the answer of a unit while the flight was not finished, the state after the step that
--- chose this unit is returned.
+-- After these events, the state after the last event is returned, with one exception. A fault may
+-- end the answer of a unit before the flight is finished. In this case the state after the step
+-- that chose this unit is returned.
 abbrev pub HandsBack : {F S : Type 0} → (S → List ℕ → List ℕ → Step → S → Type 0) → List (List ℕ) → List (Event F) → S → Option ℕ → S → Type 0
 HandsBack Turns needs es last None back = back ≡ last
 HandsBack Turns needs es last (Some u) back = (i : ℕ) × (is_finished (states_after needs es) ≡ false) × (slice_get (flying_after es) i ≡ Some u) × Turns last (ready_of needs (states_after needs es)) (flying_after es) (step.Answer i) back

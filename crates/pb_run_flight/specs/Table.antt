@@ -52,7 +52,8 @@ is_open states s needs = is_untouched s && are_good states needs
 abbrev pub if_so : Bool → ℕ → List ℕ
 if_so so u = if so then u ∷ [] else []
 
--- the units from the i-th on that are open, if no bad unit comes before them; these may begin
+-- The open units from the i-th on, up to the first bad unit. If no unit before the i-th is bad,
+-- these units may begin.
 abbrev pub ready_from : {F : Type 0} → List (State F) → ℕ → List (List ℕ) → List (State F) → List ℕ
 ready_from states i needs [] = []
 ready_from states i [] (s ∷ ss) = []
@@ -64,8 +65,8 @@ ready_of needs states = ready_from states 0 needs states
 
 -- Which lines are due.
 
--- the lines of the units in plan order, up to the first unit that has not answered, or up to and
--- including the first bad unit
+-- The lines of the units in plan order, up to the first unit that has not answered. A bad unit also
+-- ends the lines, after its own lines.
 abbrev pub due : {F : Type 0} → List (State F) → List ℕ
 due (Answered answer ∷ ss) = answer.lines ++ (if is_none answer.fault then due ss else [])
 due _ = []

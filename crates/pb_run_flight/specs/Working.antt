@@ -15,7 +15,8 @@ count_met states (u ∷ us) = if is_good_at (slice_get states u) then suc (count
 abbrev pub units_at : List (List ℕ) → ℕ → List ℕ
 units_at lists u = slice_index_or lists u []
 
--- for each need of the first `upto` units, the needed unit's list in `needed_by` contains the unit
+-- if one of the first `upto` units needs a unit, the needed unit's list in `needed_by` contains the
+-- unit that needs it
 pub record AreListed (needs : List (List ℕ)) (upto : ℕ) (needed_by : List (List ℕ)) : Type 0 where
   pub each : (u v : ℕ) → u < upto → Contains (units_at needs u) v → v < length needed_by → Contains (units_at needed_by v) u
 
@@ -29,9 +30,9 @@ pub record AreKnown {F : Type 0} (needs : List (List ℕ)) (states : List (State
   pub each : (u : ℕ) → u < length needs → slice_index met u ≤ count_met states (units_at needs u)
   pub right : (u : ℕ) → u < length needs → (slice_index met u ≡ count_met states (units_at needs u)) ⊎ Contains units u
 
--- What the table stores. `needed_by` has the needs the other way round. `met` has the number of met
--- needs of each unit. From `reach` on, no unit has all its needs met. Only lines that are due have
--- been handed out.
+-- What the table stores. `needed_by` lists, for each unit, the units that need it. `met` has the
+-- number of met needs of each unit. From `reach` on, no unit has all its needs met. Only lines that
+-- are due have been handed out.
 pub record IsStored {F : Type 0} (needs needed_by : List (List ℕ)) (met : List ℕ) (reach : ℕ) (states : List (State F)) (given : ℕ) : Type 0 where
   pub states_long : length states ≡ length needs
   pub lists_long : length needed_by ≡ length needs
@@ -49,8 +50,8 @@ abbrev pub ends_badly : {F : Type 0} → ℕ → List (State F) → Bool
 ends_badly zero states = false
 ends_badly (suc n) states = is_bad_at (slice_get states n)
 
--- Says that a unit has not begun and all its needs are met. The value is `None` if the unit has
--- answered and is bad, or does not exist.
+-- The value is true if the unit has not begun and all its needs are met, and otherwise false. There
+-- is no value if the unit has answered and is bad, or does not exist.
 abbrev pub opening_by : {F : Type 0} → List (State F) → Option (List ℕ) → Option (State F) → Option Bool
 opening_by states None s = None
 opening_by states (Some wanted) None = None

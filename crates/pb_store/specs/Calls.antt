@@ -113,7 +113,7 @@ EndsOnce call OutOfMemory old new = (new ≡ old) ⊎ (new ≡ past_call old)
 abbrev pub CallsOnce : {T : Type 0} → Call → Result T StoreFault → Counts → Counts → Type 0
 CallsOnce call result old new = MatchResult result (λ x. new ≡ past_call old) (λ e. EndsOnce call e old new)
 
--- if the fault says that a write failed, it was the write of this file that failed
+-- if the fault says that a write failed, the failed call was the write of this file
 abbrev pub FailsToWrite : {T : Type 0} → List ℕ → Result T StoreFault → Counts → Type 0
 FailsToWrite path result new = IfErr result (λ e. e ≡ Place place.Write → new.failing ≡ Some (call.Write path))
 

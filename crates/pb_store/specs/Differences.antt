@@ -24,8 +24,8 @@ use Rattle.pb_store.specs.declared.replaying.Compared.{Compared}
 use Rattle.pb_store.specs.declared.replaying.Compared.TheVariants.{Differs, Same}
 use Rattle.pb_store.specs.declared.replaying.Replayed.{Replayed}
 
--- In the row, `b` reports the first item for which `Holds` is false. For all items before it,
--- `Holds` is true.
+-- `b` is what `told` says about the first item of the row for which `Holds` is false. For all items
+-- before that one, `Holds` is true.
 pub record IsFirst {A B : Type 0} (Holds : A → Type 0) (told : A → B) (row : List A) (b : B) : Type 0 where
   pub before : List A
   pub here : A
@@ -60,8 +60,8 @@ HasNumber at need = number_if (at need.0) ≡ Some need.1
 abbrev pub HasFiles : List ℕ → Map → (List ℕ × List (List ℕ × List ℕ)) → Type 0
 HasFiles folder files need = (is_relative need.0 ≡ true) × (contents (out_of folder need.0) files ≡ need.1)
 
--- The needed units are as the record names them, in its format. `FirstNeed` is the first unit, in
--- the record's order, that is not as the record names it.
+-- The needed units are as the record names them, by numbers or by copies. `FirstNeed` is the first
+-- unit, in the record's order, that is not as the record names it.
 abbrev pub AreNeeded : List ℕ → RecordMap → Map → Needed → Type 0
 AreNeeded folder at files (Copies copies) = AllByRecursion (HasFiles folder files) copies
 AreNeeded folder at files (Numbers number needs) = AllByRecursion (HasNumber at) needs
@@ -70,8 +70,8 @@ abbrev pub FirstNeed : List ℕ → RecordMap → Map → Needed → List ℕ �
 FirstNeed folder at files (Copies copies) need = IsFirst (HasFiles folder files) (λ c. c.0) copies need
 FirstNeed folder at files (Numbers number needs) need = IsFirst (HasNumber at) (λ n. n.0) needs need
 
--- nothing differs from the record: the record has this command, its inputs have their present
--- values, and the needed units are as the record names them
+-- Nothing differs from the record. The record has this command, and its inputs have their present
+-- values. The needed units are as the record names them.
 pub record IsAsRecorded (folder : List ℕ) (at : RecordMap) (c : commands.Command) (w : World) (r : Record) : Type 0 where
   pub asked : command_of r.asked ≡ c
   pub inputs : Agrees c.target r.inputs w
@@ -86,7 +86,7 @@ DiffersFrom folder at c w r (Pair name) = AsksAs r.asked c × IsFirstName r.aske
 DiffersFrom folder at c w r (Input name) = (command_of r.asked ≡ c) × IsFirst (IsPresent c.target w) name_of r.inputs name
 DiffersFrom folder at c w r (Dependency need) = (command_of r.asked ≡ c) × Agrees c.target r.inputs w × FirstNeed folder at w.files r.needed need
 
--- the report on a record: its first difference, or nothing if nothing differs from it
+-- the report on a record: the first difference from the record, or `None` if nothing differs
 abbrev pub FirstFrom : List ℕ → RecordMap → commands.Command → World → Record → Option Difference → Type 0
 FirstFrom folder at c w r None = IsAsRecorded folder at c w r
 FirstFrom folder at c w r (Some d) = DiffersFrom folder at c w r d
@@ -115,7 +115,7 @@ pub record UnchangedIsSame : Type 0 where
   pub same : (folder key : List ℕ) (c : commands.Command) (w : World) → FirstDifference folder key c w None → (r : Record) × IsSame reading folder key c w r
   pub none : (folder key : List ℕ) (c : commands.Command) (w : World) (r : Record) → IsSame reading folder key c w r → NamesPaths r.needed → FirstDifference folder key c w None
 
--- A unit has at most one first difference in one world.
+-- Given a command and a world, a unit has at most one first difference.
 abbrev pub DifferencesAreOne : Type 0
 DifferencesAreOne = (folder key : List ℕ) (c : commands.Command) (w : World) (found other : Option Difference) → FirstDifference folder key c w found → FirstDifference folder key c w other → found ≡ other
 

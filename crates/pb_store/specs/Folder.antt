@@ -43,8 +43,8 @@ IsHeld table need = number_in table need.0 ≡ Some need.1
 abbrev pub HasNumbers : RecordMap → List (List ℕ × Option ℕ) → Type 0
 HasNumbers at table = (key : List ℕ) → number_in table key ≡ number_if (at key)
 
--- The folder `f` is the output folder of one of these units, or is read by the command in such a
--- unit's record.
+-- One of these units has the output folder `f`, or has a record with a command that reads the
+-- folder `f`.
 pub data ReadBy (at : RecordMap) (folder : List ℕ) (needs : List (List ℕ)) (f : List ℕ) : Type 0 where
   itself : (need : List ℕ) → Contains needs need → f ≡ out_of folder need → ReadBy at folder needs f
   further : (need : List ℕ) (s : Record) → Contains needs need → at need ≡ Some s → Contains s.asked.reads f → ReadBy at folder needs f
@@ -82,16 +82,16 @@ kept_of folder key c inputs number pairs ended = record { key = key; asked = of_
 abbrev pub Leaves : Option Record → Option Record → Option Record → Type 0
 Leaves put old new = (new ≡ None) ⊎ ((new ≡ old) ⊎ (new ≡ put))
 
--- When a record may be kept, so that the kept record is true. The answer is earned, the needed
--- units have their records, and no record has or names this number.
+-- When a record may be kept. The answer is earned, the needed units have their records, and no
+-- record has or names this number. The kept record is then true.
 pub record IsKept (judge : Judge) (child : Answers) (folder key : List ℕ) (c : Command) (needs : List (List ℕ)) (names : List InputName) (ended : Ended) (number : ℕ) (w : World) : Type 0 where
   pub earned : IsEarned judge child folder key c names ended w
   pub needs_stand : HasNeeds (records folder w) folder c.reads needs number
   pub unnamed : NoneNames (records folder w) number
 
 -- When a record may be put into the folder. The record contains the reply of an honest child in
--- this world, and names records that are there. No record that counts contains this unit's key
--- together with this run number.
+-- this world. Each unit that the record names has a record with the named number. No record that
+-- counts contains this unit's key together with this run number.
 pub record MayPut (read : RecordParser) (judge : Judge) (child : Answers) (folder key : List ℕ) (w : World) (r : Record) (number : ℕ) : Type 0 where
   pub honest : IsHonest judge child (command_of r.asked) w
   pub agree : Agrees r.asked.target r.inputs w
@@ -124,9 +124,9 @@ abbrev pub migrated : Option ℕ → List (List ℕ × ℕ) → Option Record �
 migrated next pairs None = None
 migrated next pairs (Some r) = migrated_by (number_of r) next pairs r
 
--- When a record may be migrated, so that the new record is true. Nothing differs from the old
--- record, and the child is honest on its command. All units with a folder in the command's `reads`
--- are grounded. The needed units have their records. No record has or names the new number.
+-- When a record may be migrated. Nothing differs from the old record, and the child is honest on
+-- its command. All units with a folder in the command's `reads` are grounded. The needed units have
+-- their records. No record has or names the new number. The new record is then true.
 pub record IsMigrated (judge : Judge) (child : Answers) (folder key : List ℕ) (c : Command) (needs : List (List ℕ)) (number : ℕ) (w : World) (r : Record) : Type 0 where
   pub same : IsSame reading folder key c w r
   pub honest : IsHonest judge child c w
@@ -134,7 +134,7 @@ pub record IsMigrated (judge : Judge) (child : Answers) (folder key : List ℕ) 
   pub needs_stand : HasNeeds (records folder w) folder c.reads needs number
   pub unnamed : NoneNames (records folder w) number
 
--- the next number was taken, and the number after it is now the next one
+-- the next number was taken, and the number after it is now the next number
 abbrev pub TakesNext : Option ℕ → Option ℕ → Type 0
 TakesNext old new = (number : ℕ) × (old ≡ Some number) × (new ≡ after number)
 
@@ -195,7 +195,7 @@ abbrev pub IsAfterPut : {T : Type 0} → Result T StoreFault → Option Record �
 IsAfterPut result put old new = MatchResult result (λ x. new ≡ put) (λ e. Leaves put old new)
 
 -- What removing a record guarantees. The folder stays sound, and no record counts for the key after
--- a success. A number above all others stays above them.
+-- a success. If a number was above all numbers in the records, it still is.
 pub record RemovesRecord (child : Answers) (folder key : List ℕ) (result : Result Unit StoreFault) (old new : World) : Type 0 where
   pub sound : (judge : Judge) → Sound reading judge child folder old.files → Sound reading judge child folder new.files
   pub stands : IsAfterPut result None (records folder old key) (records folder new key)
@@ -212,8 +212,8 @@ pub record DropsRecord (child : Answers) (key : List ℕ) (result : Result ℕ S
   pub spent : old.next ≡ None → now ≡ before
 
 -- What putting a record guarantees. If `MayPut` is true, the folder stays sound. After a success
--- the record counts for its key. A number above all others stays above them, if it is also above
--- the numbers that the record has and names.
+-- the record counts for its key. If a number was above all numbers in the old records and in the
+-- new record, it is above all numbers in the records afterwards.
 pub record PutsRecord (child : Answers) (folder key : List ℕ) (r : Record) (result : Result Unit StoreFault) (old new : World) : Type 0 where
   pub sound : (judge : Judge) (number : ℕ) → MayPut reading judge child folder key old r number → Sound reading judge child folder old.files → Sound reading judge child folder new.files
   pub stands : IsAfterPut result (Some r) (records folder old key) (records folder new key)

@@ -157,7 +157,7 @@ opened_looked folder w = call.ListDirectly folder ∷ records_looked (listed_dir
 abbrev pub names_looked : List ℕ → World → List InputName → List Call
 names_looked target w names = looked_up_to (λ name. true) (name_looked target w) names
 
--- the calls that keep a record: those for its inputs, and then the one that writes the record
+-- the calls that keep a record: the calls for its inputs, and then the call that writes the record
 abbrev pub kept_called : List ℕ → List ℕ → List ℕ → World → List InputName → List Call
 kept_called folder key target w names = names_looked target w names ++ (call.Write (place_of folder key) ∷ [])
 

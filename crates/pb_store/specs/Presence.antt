@@ -38,8 +38,8 @@ files_looked folder paths = looked_up_to (λ path. true) (λ path. file_looked p
 abbrev pub numbered_by : List (List ℕ × Option ℕ) → List (List ℕ) → List (List ℕ × ℕ)
 numbered_by numbers needs = map (λ (need : List ℕ). (need, or_zero (number_in numbers need))) needs
 
--- the greatest of a record's own run number and those that it names; 0 if there is no record, or if
--- the record is of format 1
+-- The greatest of a record's own run number and the numbers that the record names. This is 0 if
+-- there is no record, or if the record is of format 1.
 abbrev pub greatest_said : Option (ℕ × List (List ℕ × ℕ)) → ℕ
 greatest_said None = 0
 greatest_said (Some (own, needs)) = max own (fold (λ g (pair : List ℕ × ℕ). max g pair.1) 0 needs)

@@ -6,7 +6,8 @@ use Rattle.pb_place_types.specs.World.{World, ChangesOnly, seen_by}
 use Rattle.pb_place_types.specs.declared.command.Command.{Command}
 use Rattle.pb_store_soundness.specs.Records.{RecordParser, is_key, out_of, place_of, record_at}
 
--- a path belongs to a unit if it is at or below the unit's output folder or the path of its record
+-- a path belongs to a unit if it is at or below the unit's output folder, or at or below the path
+-- of its record
 abbrev pub is_of : List ℕ → List ℕ → List ℕ → Bool
 is_of folder key q = is_at_or_below (out_of folder key) q || is_at_or_below (place_of folder key) q
 

@@ -1,5 +1,5 @@
--- Grounded units: their records name other records by run numbers, step by step down to records
--- that name no others.
+-- Grounded units. The record of a grounded unit names other records by run numbers. These name
+-- further records, and so on, down to records that name no records.
 use Rattle.std.specs.Prelude.{◌≡◌, ◌<◌, ℕ, List, Option, Some, Contains}
 use Rattle.pb_record.specs.declared.record.Record.{Record}
 use Rattle.pb_store_soundness.specs.Records.{number_of, needs_of}

@@ -23,9 +23,9 @@ abbrev pub path_input : List ℕ → Map → Option (List ℕ) → Input
 path_input path m (Some bytes) = File path bytes
 path_input path m None = Tree path (contents path m)
 
--- The input with this name and its present value. The value of a path is what the sources have
--- there, so nothing at or below the target folder counts. The value of a variable is the inherited
--- text, if there is one.
+-- The input with this name and its present value. The value of a path is what the sources have at
+-- the path, so nothing at or below the target folder counts. The value of a variable is the
+-- inherited text, if there is one.
 abbrev pub input_in : List ℕ → World → InputName → Input
 input_in target w (Path path) = path_input path (from_nothing target w).files (finite.get (from_nothing target w).files path)
 input_in target w (Variable name) = Value name (finite.get w.variables name)
@@ -52,9 +52,9 @@ reply_in child c w = child c (seen_by c w)
 abbrev pub Judge : Type 0
 Judge = Command → Reply → Option (List InputName)
 
--- A child is honest on a command in a world if it repeats its good reply in each world that agrees
--- on two things. These are the values of the inputs that the reply has, and the files below the
--- folders that the command may read. A bad reply need not be repeated.
+-- A child is honest on a command in a world if the child repeats its good reply in each world that
+-- agrees on two things. These are the values of the inputs that the reply has, and the files below
+-- the folders that the command may read. A bad reply need not be repeated.
 abbrev pub IsHonest : Judge → Answers → Command → World → Type 0
 IsHonest judge child c v = (w : World) (names : List InputName) → judge c (reply_in child c v) ≡ Some names
     → AllByRecursion (λ name. input_in c.target w name ≡ input_in c.target v name) names → SameBelow c.reads v.files w.files → reply_in child c w ≡ reply_in child c v

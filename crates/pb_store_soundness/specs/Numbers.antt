@@ -4,13 +4,13 @@ use Rattle.pb_record.specs.declared.record.Record.{Record}
 use Rattle.pb_store_soundness.specs.Records.{number_of, needs_of}
 use Rattle.pb_store_soundness.specs.Grounded.{RecordMap}
 
--- among the records that count, none has this number and none names a unit with it
+-- among the records that count, none has this number, and none names a unit with this number
 abbrev pub NoneNames : RecordMap → ℕ → Type 0
 NoneNames at number = (other : List ℕ) (r : Record) → at other ≡ Some r → (number_of r ≢ Some number) × ((need : List ℕ) → Contains (needs_of r) (need, number) → ⊥)
 
--- If a number is in no record, dropping the record of another unit does not change this. Replacing
--- that record does not change it, either, if the new record has another number and names only
--- records that are there.
+-- Take a number that no record has or names. This stays true if the record of one unit is dropped.
+-- It also stays true if that record is replaced by a record that has another number and names only
+-- records that count.
 abbrev pub NumberWaitsLaw : Type 0
 NumberWaitsLaw = (old new : RecordMap) (key : List ℕ) (number : ℕ) → ((l : List ℕ) → l ≢ key → new l ≡ old l)
     → NoneNames old number → ((r : Record) → new key ≡ Some r → (number_of r ≢ Some number) × ((need : List ℕ) (n : ℕ) → Contains (needs_of r) (need, n) → (s : Record) × (old need ≡ Some s) × (number_of s ≡ Some n))) → NoneNames new number
@@ -29,8 +29,7 @@ pub record NamesBefore (next : Option ℕ) (r : Record) : Type 0 where
   pub own : (n : ℕ) → number_of r ≡ Some n → IsBefore next n
   pub named : (need : List ℕ) (n : ℕ) → Contains (needs_of r) (need, n) → IsBefore next n
 
--- for each record that counts, the next number is above its own number and above all numbers that
--- it names
+-- the next number is above each number that some record that counts has or names
 abbrev pub IsAhead : RecordMap → Option ℕ → Type 0
 IsAhead at next = (key : List ℕ) (r : Record) → at key ≡ Some r → NamesBefore next r
 

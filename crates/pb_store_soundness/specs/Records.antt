@@ -36,8 +36,7 @@ abbrev pub read_text : RecordParser → Option (List ℕ) → Option Record
 read_text read None = None
 read_text read (Some text) = read text
 
--- The record, if its own key is the key by which its file is named. Otherwise the record does not
--- count.
+-- The record, if it has the key that names its file. A record with another key does not count.
 abbrev pub if_of_key : List ℕ → Option Record → Option Record
 if_of_key key None = None
 if_of_key key (Some r) = if bytes_eq r.key key then Some r else None

@@ -38,21 +38,21 @@ pub record IsSame (read : RecordParser) (folder key : List ℕ) (c : Command) (w
 abbrev pub AreGrounded : RecordMap → List ℕ → List (List ℕ) → Type 0
 AreGrounded at folder reads = (v : List ℕ) → Contains reads (out_of folder v) → (n : ℕ) × Grounded at v n
 
--- If nothing differs from a unit's record of format 2, and all units with a folder in the command's
--- `reads` are grounded, the unit is grounded.
+-- Take a sound folder in which all units with a folder in the command's `reads` are grounded. If
+-- nothing differs from a unit's record of format 2, the unit is grounded.
 abbrev pub GroundsLaw : Type 0
 GroundsLaw = (read : RecordParser) (judge : Judge) (child : Answers) (folder key : List ℕ) (c : Command) (w : World) (r : Record) (number : ℕ) → Sound read judge child folder w.files
     → IsSame read folder key c w r → AreGrounded (record_at read folder w.files) folder c.reads → number_of r ≡ Some number → Grounded (record_at read folder w.files) key number
 
--- If nothing differs from a unit's record, and all units with a folder in the command's `reads` are
--- grounded, the child's reply would now be the recorded reply. The files of the reply would be
--- those in the unit's folder.
+-- Take a sound folder in which all units with a folder in the command's `reads` are grounded. If
+-- nothing differs from a unit's record, the child's reply would now be the recorded reply. The
+-- files of the reply would be those in the unit's folder.
 abbrev pub ReuseLaw : Type 0
 ReuseLaw = (read : RecordParser) (judge : Judge) (child : Answers) (folder key : List ℕ) (c : Command) (w : World) (r : Record) → Sound read judge child folder w.files
     → IsSame read folder key c w r → AreGrounded (record_at read folder w.files) folder c.reads → Backs judge r (out_of folder key) (files_in (out_of folder key) w.files) (reply_in child c w)
 
--- The folder `f` is the output folder of one of the named units, or is read by the command in such
--- a unit's record.
+-- One of the named units has the output folder `f`, or has a record with a command that reads the
+-- folder `f`.
 pub data ReadByNeeds (at : RecordMap) (folder : List ℕ) (needs : List (List ℕ × ℕ)) (f : List ℕ) : Type 0 where
   own : (need : List ℕ) (n : ℕ) → Contains needs (need, n) → f ≡ out_of folder need → ReadByNeeds at folder needs f
   beyond : (need : List ℕ) (n : ℕ) (s : Record) → Contains needs (need, n) → at need ≡ Some s → Contains s.asked.reads f → ReadByNeeds at folder needs f
@@ -89,7 +89,7 @@ abbrev pub SparesLaw : Type 0
 SparesLaw = (old new : RecordMap) (key v : List ℕ) (n : ℕ) → ((l : List ℕ) → l ≢ key → new l ≡ old l) → Grounded old v n → v ≢ key → (Reaches old v key → ⊥) → Grounded new v n
 
 -- Take a new record whose unit was not grounded before. The unit is grounded now if all named units
--- were grounded with the named numbers, and these numbers are lower than the record's own.
+-- were grounded with the named numbers. These numbers must be lower than the record's own number.
 abbrev pub PutGroundsLaw : Type 0
 PutGroundsLaw = (old new : RecordMap) (key : List ℕ) (r : Record) (number : ℕ) → ((l : List ℕ) → l ≢ key → new l ≡ old l) → new key ≡ Some r → number_of r ≡ Some number → ((n : ℕ) → Grounded old key n → ⊥)
     → ((need : List ℕ) (n : ℕ) → Contains (needs_of r) (need, n) → (n < number) × Grounded old need n) → Grounded new key number

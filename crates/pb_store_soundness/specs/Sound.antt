@@ -44,8 +44,8 @@ pub record Rests (judge : Judge) (child : Answers) (folder : List ℕ) (at : Rec
   pub gives : (x : World) → Agrees r.asked.target r.inputs x → SameBelow r.asked.reads files x.files → Backs judge r (out_of folder key) (files_in (out_of folder key) files) (reply_in child (command_of r.asked) x)
 
 -- A true record of format 2. The record's command reads the folder of each unit that the record
--- names. The number of each of these units is less than the record's. If the record is grounded, it
--- rests on the present files.
+-- names. The number of each of these units is less than the record's own number. If the record is
+-- grounded, it rests on the present files.
 pub record TrueNumbers (judge : Judge) (child : Answers) (folder : List ℕ) (at : RecordMap) (files : Map) (key : List ℕ) (r : Record) (number : ℕ) (needs : List (List ℕ × ℕ)) : Type 0 where
   pub read : (need : List ℕ) (n : ℕ) → Contains needs (need, n) → Contains r.asked.reads (out_of folder need)
   pub less : (need : List ℕ) (n : ℕ) → Contains needs (need, n) → n < number

@@ -21,7 +21,7 @@ use Rattle.pb_tool_arguments.specs.declared.here.Here.{Here}
 use Rattle.pb_tool_arguments.specs.declared.invocation.ArgumentsError.{ArgumentsError}
 use Rattle.pb_tool_arguments.specs.declared.invocation.ArgumentsError.TheVariants.{Help, Wrong, OutOfMemory}
 
--- says whether an option without a value was given
+-- `given` is true if this option, which has no value, was given
 pub record IsFlag (name : Text) (rows : List Row) (given : Bool) : Type 0 where
   pub absent : one_of name rows ≡ None → given ≡ false
   pub on : one_of name rows ≡ Some (codes "true") → given ≡ true
@@ -97,9 +97,9 @@ ShowsProgress here rows progress =
 abbrev pub ShowsCounts : Here → List Row → Bool → Type 0
 ShowsCounts here rows counts = (quiet : Bool) × IsFlag (codes "quiet") rows quiet × (counts ≡ (here.is_terminal && not quiet))
 
--- Says whether levels have colours. They always have colours if the option's value is `always`, and
--- never if it is `never`. With any other value, or without the option, levels have colours if
--- `shows` is true.
+-- `colors` is true if levels have colours. They always have colours if the option's value is
+-- `always`, and never if it is `never`. With any other value, or without the option, levels have
+-- colours if `shows` is true.
 abbrev pub IsColored : Bool → Option Text → Bool → Type 0
 IsColored shows None colors = colors ≡ shows
 IsColored shows (Some text) colors =
@@ -115,7 +115,8 @@ pub record IsShown (here : Here) (rows : List Row) (shown : Shown) : Type 0 wher
   pub counts : ShowsCounts here rows shown.counts
   pub colors : IsColored here.shows_colors (first_of (codes "color") rows) shown.colors
 
--- the form in which a plan is printed: JSON or Graphviz if this form was given, and otherwise lines
+-- the form in which a plan is printed: JSON if `--json` was given, Graphviz if `--dot` was given,
+-- and otherwise lines
 abbrev pub IsForm : List Row → PlanForm → Type 0
 IsForm rows Lines = IsFlag (codes "json") rows false × IsFlag (codes "dot") rows false
 IsForm rows Json = IsFlag (codes "json") rows true × IsFlag (codes "dot") rows false
@@ -125,7 +126,7 @@ IsForm rows Dot = IsFlag (codes "json") rows false × IsFlag (codes "dot") rows 
 abbrev pub HasTwoForms : List Row → Type 0
 HasTwoForms rows = IsFlag (codes "json") rows true × IsFlag (codes "dot") rows true
 
--- says whether a profile was given, by `--release` or by `--profile`
+-- `named` is true if a profile was given, by `--release` or by `--profile`
 abbrev pub NamesProfile : List Row → Bool → Type 0
 NamesProfile rows named = (release : Bool) × IsFlag (codes "release") rows release × (named ≡ (release || is_some (first_of (codes "profile") rows)))
 

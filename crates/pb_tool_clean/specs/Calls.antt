@@ -91,8 +91,8 @@ removed_each (path ∷ paths) w = removed_each paths (removed path w)
 abbrev pub Cut : List ℕ → World → World → Type 0
 Cut path w new = (new ≡ w) ⊎ PartlyRemoved path w new
 
--- Removals, one after another, ended early. The removal at one path failed. What was at the paths
--- before it is gone, and what is at the paths after it is unchanged.
+-- Removals, one after another, ended early. The removal at one path failed. What was at the earlier
+-- paths is gone, and what is at the later paths is unchanged.
 abbrev pub CutsEach : List (List ℕ) → World → World → Type 0
 CutsEach [] w new = new ≡ w
 CutsEach (path ∷ paths) w new = Cut path w new ⊎ CutsEach paths (removed path w) new

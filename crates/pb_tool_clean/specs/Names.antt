@@ -57,8 +57,8 @@ is_chosen_record choice path = is_record (words_in (last_part path)) && is_chose
 abbrev pub is_chosen_folder : Choice → List ℕ → Bool
 is_chosen_folder choice path = is_unit (words_in (last_part path)) && is_chosen choice (words_in (last_part path)) path
 
--- Of these paths, those of chosen records, in order. `folders_among` lists those of chosen units'
--- folders.
+-- Those of these paths that are chosen records, in order. `folders_among` lists those that are
+-- chosen units' folders.
 abbrev pub records_among : Choice → List (List ℕ) → List (List ℕ)
 records_among choice [] = []
 records_among choice (path ∷ paths) = if is_chosen_record choice path then path ∷ records_among choice paths else records_among choice paths

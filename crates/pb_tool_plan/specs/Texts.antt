@@ -62,7 +62,7 @@ abbrev pub objects : List Planned → List Planned → List ℕ
 objects units [] = []
 objects units (p ∷ ps) = unit_object units p ++ objects_rest units ps
 
--- a JSON list with an object for each unit, in plan order, one object a line
+-- a JSON list with an object for each unit, in plan order, one object per line
 abbrev pub plan_json : Plan → List ℕ
 plan_json plan = codes "[\n" ++ objects plan.planned plan.planned ++ codes "\n]\n"
 
@@ -86,6 +86,6 @@ abbrev pub statements : List Planned → List Planned → List ℕ
 statements units [] = []
 statements units (p ∷ ps) = unit_statements units p ++ statements units ps
 
--- a node for each unit with its arrows, in plan order, one statement a line
+-- a node for each unit with its arrows, in plan order, one statement per line
 abbrev pub plan_dot : Plan → List ℕ
 plan_dot plan = codes "digraph plan {\n" ++ statements plan.planned plan.planned ++ codes "}\n"

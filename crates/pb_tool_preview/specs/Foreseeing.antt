@@ -60,7 +60,7 @@ waits_for fates index = if ends_badly (slice_get fates index) then Unreached ind
 
 -- Units that can be compared.
 
--- if a unit was judged with this result, it has these directives, and its fate is kept or bad
+-- a unit that was judged with this result has these directives, and its fate is `Bad` or `Kept`
 abbrev pub Judges : Ran → Fate → Option (List Directive) → Type 0
 Judges ran fate said = (fate ≡ (if is_some ran.bad then Bad else Kept)) × (said ≡ ran.directives)
 
@@ -91,7 +91,7 @@ abbrev pub IsFate : Setup → Project → World → List Fate → List (Option (
 IsFate setup project w fates done u fate said =
     MatchOption (first_unkept fates u.reaches) (IsCompared project w u (command_of setup project u done) fate said) (λ index. (fate ≡ waits_for fates index) × (said ≡ None))
 
--- the fates of the first units of a plan, each of which follows from the fates before it
+-- the fates of these units, each of which follows from the fates before it
 pub data Foresees (setup : Setup) (project : Project) (w : World) : List Planned → List Fate → List (Option (List Directive)) → Type 0 where
   nothing : Foresees setup project w [] [] []
   more : (units : List Planned) (fates : List Fate) (done : List (Option (List Directive))) (u : Planned) (fate : Fate) (said : Option (List Directive))

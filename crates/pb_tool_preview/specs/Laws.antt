@@ -23,8 +23,8 @@ foreseen Bad = None
 foreseen (Waits index) = None
 foreseen (Unreached index) = None
 
--- If a unit begins in the world that was looked at, and with the same command, its first difference
--- is the foreseen difference.
+-- Take a unit that begins in the world that was looked at, with the command of that look. Its first
+-- difference is the foreseen difference.
 abbrev pub BeginsAsForeseen : {P : Type 0} → (P → At) → Bool → Answers → Type 0
 BeginsAsForeseen {P} at is_modelled child =
     (setup : Setup) (project : Project) (u : Planned) (done : List (Option (List Directive))) (before now : Store) (old new : P) (begun : Begun) (fate : Fate) (said : Option (List Directive))

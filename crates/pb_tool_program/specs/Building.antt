@@ -39,8 +39,8 @@ status_of (Err fault) = 101
 abbrev pub moved_note : List ℕ → List ℕ → List ℕ
 moved_note path key = codes "note: " ++ path ++ codes " was changed while " ++ key ++ codes " was built: that unit will be built again\n"
 
--- a line for each path that was changed; the key of its unit is the name of the unit's output
--- folder
+-- A line for each path that was changed. The line names the unit by its key, which is the last part
+-- of the path of the unit's output folder.
 abbrev pub moved_notes : List Moved → List ℕ
 moved_notes [] = []
 moved_notes (one ∷ others) = moved_note one.path (last_part one.out) ++ moved_notes others
@@ -49,8 +49,8 @@ moved_notes (one ∷ others) = moved_note one.path (last_part one.out) ++ moved_
 abbrev pub error_of : Result Summary BuildFault → List ℕ
 error_of answer = codes "error: " ++ result_line answer ++ codes "\n"
 
--- What is written if memory runs out for the reason of a failure. The next definitions are for
--- notes, moved files, reasons, a child's output, and the detail of a fault.
+-- What is written if memory runs out for the reason of a failure. The next definitions are the same
+-- for notes, moved files, reasons, a child's output, and the detail of a fault.
 abbrev pub why_lost : List ℕ
 why_lost = codes "error: the build failed; there is no memory to show the reason\n"
 
@@ -90,8 +90,8 @@ abbrev pub TellsStarted : ℕ → List (List ℕ) → List Difference → List D
 TellsStarted units keys differences details kept old new = Tells (explanation units keys differences details kept) old new ⊎ Tells reasons_lost old new
 
 -- The reasons, if a build with this number of units ended without a fault. The summary has the
--- started units and what differed. The place has noted how it differs, and nothing is promised
--- about these details.
+-- started units and what differed. The place has noted the details of each difference. Nothing is
+-- promised about these details.
 abbrev pub TellsSummary : ℕ → Summary → SinkState → SinkState → Type 0
 TellsSummary units summary old new = (details : List Detail) × TellsStarted units summary.started summary.differences details (length summary.kept) old new
 

@@ -57,7 +57,7 @@ TellsEnd (Ok done) status old new = (status ≡ 0) × (new ≡ old)
 TellsEnd (Err (Nothing some folder)) status old new = (status ≡ 101) × (Tells (nothing_told some folder) old new ⊎ Tells why_lost old new)
 TellsEnd (Err fault) status old new = TellsFault (build_fault_of fault) status old new
 
--- the target folder of the choice, if there is one
+-- the target folder of the choice, if there is a choice
 abbrev pub target_in : Result Choice CleanFault → Option (List ℕ)
 target_in (Ok choice) = Some choice.target
 target_in (Err fault) = None

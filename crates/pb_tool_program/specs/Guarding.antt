@@ -8,9 +8,9 @@ use Rattle.pb_tool_program.specs.Writing.{Tells}
 abbrev pub waiting : List ℕ
 waiting = codes "note: another build has the target folder: waiting\n"
 
--- The guard was asked for this folder while the place had these counters. Without a folder it was
--- not asked. If another build had the folder, the line `waiting` was written, as far as the sink
--- took it, and then the guard waited.
+-- The guard was asked for this folder while the place had these counters. If there is no folder,
+-- the guard was not asked. If another build had the folder, the line `waiting` was written, as far
+-- as the sink took it. Then the guard waited.
 abbrev pub Guarded : {G : Type 0} → (G → List ℕ → Counts → SinkState → Bool → G → Type 0) → (G → Counts → SinkState → G → Type 0) → G → G → Option (List ℕ) → Counts → SinkState → SinkState → Type 0
 Guarded asks waits old new None counts before after = (new ≡ old) × (after ≡ before)
 Guarded {G} asks waits old new (Some folder) counts before after =

@@ -1,4 +1,4 @@
--- Notes on the packages that dependencies name and that have no library.
+-- Notes on packages that dependencies name although the packages have no library.
 use Rattle.std.specs.Prelude.{◌≡◌, ℕ, codes, List, Result, Ok, Err}
 use Rattle.pb_build.specs.declared.builder.BuildPlan.{BuildPlan}
 use Rattle.pb_build_result.specs.declared.fault.BuildFault.{BuildFault}

@@ -15,8 +15,8 @@ use Rattle.pb_tool_program.specs.Building.{status_of}
 use Rattle.pb_tool_program.specs.Running.{CarriesOut}
 use Rattle.pb_workspace_types.specs.declared.options.Options.{Options}
 
--- A build with these options, of which nothing is shown. The status is that of the build's answer.
--- Afterwards neither files, starts nor the output change.
+-- A build with these options was made. The status is that of the build's answer. After the build,
+-- neither the world, nor the starts, nor the output changed.
 pub record IsBuilt (is_modelled : Bool) (child : Answers) (options : Options) (status : ℕ) (old new : BuildState) : Type 0 where
   pub answer : Result Summary BuildFault
   pub built : BuildState

@@ -1,4 +1,4 @@
--- How lines about units are written. Many units with the same text have one line.
+-- How lines about units are written. Many units with the same text share a line.
 use Rattle.std.specs.Prelude.{ℕ, Bool, nat_lt, if◌then◌else◌, codes, count_by, List, [], ◌∷◌, ◌++◌}
 use Rattle.std.specs.Fmt.{decimal}
 use Rattle.std.specs.List.{list_any}

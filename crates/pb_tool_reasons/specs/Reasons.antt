@@ -28,7 +28,7 @@ reason (Input (Path path)) = path ++ codes " has changed"
 reason (Input (Variable name)) = name ++ codes " has changed"
 reason (Dependency key) = key ++ codes " was built again"
 
--- the reason of a difference, followed by a text about how the thing differs
+-- the reason of a difference, ending in a text that says how the differing part has changed
 abbrev pub changed_reason : Difference → List ℕ → List ℕ
 changed_reason NoRecord text = reason NoRecord
 changed_reason (Command changed) text = part changed ++ codes " " ++ text
@@ -37,8 +37,8 @@ changed_reason (Input (Path path)) text = path ++ codes " " ++ text
 changed_reason (Input (Variable name)) text = name ++ codes " " ++ text
 changed_reason (Dependency key) text = reason (Dependency key)
 
--- The reason of a difference. If the arguments of a command differ, it is the given text, which
--- says which argument differs.
+-- The reason of a difference. If the difference is in the arguments of a command, the reason is
+-- `text`, which says which argument differs.
 abbrev pub word_reason : Difference → List ℕ → List ℕ
 word_reason (Command Words) text = text
 word_reason difference text = reason difference
@@ -47,8 +47,8 @@ word_reason difference text = reason difference
 abbrev pub is_plain : List ℕ → Bool
 is_plain text = list_all (nat_lt 31) text
 
--- Why a unit's child was started, and how the thing differs. How it differs is left out if this is
--- not known, or if the text about it has a control character.
+-- Why a unit's child was started, with the detail of the difference. The detail is left out if it
+-- is not known, or if its text has a control character.
 abbrev pub reason_with : Difference → Detail → List ℕ
 reason_with difference Nothing = reason difference
 reason_with difference Unseen = codes "something differs from its record"

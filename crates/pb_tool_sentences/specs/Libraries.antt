@@ -1,4 +1,4 @@
--- Notes on the packages that dependencies name and that have no library.
+-- Notes on packages that dependencies name although the packages have no library.
 use Rattle.std.specs.Prelude.{ℕ, if◌then◌else◌, codes, List, [], ◌∷◌, ◌++◌}
 use Rattle.std.specs.Str.{bytes_eq}
 use Rattle.pb_workspace_types.specs.declared.package.Package.{Package}

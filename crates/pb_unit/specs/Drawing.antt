@@ -1,5 +1,6 @@
--- Units as the nodes of a graph. The first numbers are those of six nodes for each package. The
--- binaries that are roots come after all of these. Only private functions need these definitions.
+-- Units as the nodes of a graph. Each package has six nodes, which have the first numbers. The
+-- binaries that are roots have the numbers after these. Only private functions need these
+-- definitions.
 use Rattle.std.specs.Prelude.{◌≡◌, ◌↔◌, ℕ, ◌+◌, ◌*◌, Bool, true, false, not, ◌&&◌, ◌||◌, if◌then◌else◌, List, [], ◌∷◌, ◌++◌, map, Contains, Option, Some, None, slice_get}
 use Rattle.std.specs.List.{list_all}
 use Rattle.std.specs.List.Sorted.{IsStrictlySortedBy}

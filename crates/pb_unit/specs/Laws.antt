@@ -15,7 +15,7 @@ use Rattle.pb_unit.specs.Units.{what_name}
 abbrev pub has_point : List ℕ → Bool
 has_point text = list_any (λ b. b == dot) text
 
--- the last word of a text: what follows its last point, or the whole text if it has no point
+-- the last word of a text: what follows its last dot, or the whole text if it has no dot
 unfoldable pub last_word : List ℕ → List ℕ
 last_word [] = []
 last_word (b ∷ text) = if has_point text then last_word text else (if b == dot then text else b ∷ text)

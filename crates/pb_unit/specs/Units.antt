@@ -66,8 +66,8 @@ abbrev pub has_script : Option Package → Bool
 has_script None = false
 has_script (Some p) = is_some p.script
 
--- The package has a library and `links`, so its script passes metadata on. A package with `links`
--- must have a script.
+-- The package has a library, `links` and a script, so its script passes metadata on. In a workspace
+-- that was read, each package with `links` has a script.
 abbrev pub hands_on : Option Package → Bool
 hands_on None = false
 hands_on (Some p) = is_some p.library && is_some p.links && is_some p.script
@@ -122,9 +122,9 @@ abbrev pub own_run : Workspace → ℕ → Side → List Unit
 own_run ws p s = if has_script (slice_get ws.packages p) then unit p s Run ∷ [] else []
 
 -- What a unit needs. A library needs the libraries of its dependencies, and its package's run. A
--- binary needs its package's library, and what this library needs. A script needs the host's
--- libraries of its build dependencies. A run needs its script, and the runs of dependencies that
--- have a library and `links`.
+-- binary needs the same units, and its package's library. A script needs the host's libraries of
+-- its build dependencies. A run needs its script, and the runs of dependencies that have a library,
+-- `links` and a script.
 abbrev pub needs_of : Workspace → Features → ℕ → Side → What → List Unit
 needs_of ws features p s Lib = libraries ws features p s ++ own_run ws p s
 needs_of ws features p s (Bin name) = own_library ws p s ++ (libraries ws features p s ++ own_run ws p s)

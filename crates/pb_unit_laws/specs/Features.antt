@@ -7,7 +7,7 @@ use Rattle.pb_workspace_types.specs.declared.options.Selection.{Selection}
 use Rattle.pb_workspace_types.specs.declared.package.Side.{Side}
 use Rattle.pb_workspace_types.specs.declared.workspace.Workspace.{Workspace}
 
--- if features are resolved twice for one selection, both results answer each question about
+-- if features are resolved twice for the same selection, both results answer each question about
 -- features in the same way
 abbrev pub FeaturesAreOne : Type 0
 FeaturesAreOne = (ws : Workspace) (selection : Selection) (f g : Features) → IsResolved ws selection f → IsResolved ws selection g

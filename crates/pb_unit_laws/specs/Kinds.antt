@@ -27,7 +27,7 @@ RolesAreThese = (u : OfPlan) → role_of u ≡ (if is_script u.what then Host el
 abbrev pub FoldersArePackages : Type 0
 FoldersArePackages = (project : Project) (u : Planned) → folder_of project u ≡ option_map_or (λ (p : Package). p.folder) (package_of project u) project.workspace.root
 
--- The directives at an index are those of the run there. If no run has ended there, there are no
--- directives.
+-- The directives at an index are those of the run at this index. If no run at this index has ended,
+-- there are no directives.
 abbrev pub RunsSay : Type 0
 RunsSay = (done : List (Option (List Directive))) (index : ℕ) → said_at done index ≡ unwrap_or (option_flatten (slice_get done index)) []

@@ -15,7 +15,8 @@ use Rattle.pb_workspace_package.specs.Settling.{comes_again}
 abbrev pub has_same_names : List UnresolvedPackage → Bool
 has_same_names drafts = comes_again [] (map (λ (d : UnresolvedPackage). d.name) drafts)
 
--- an entry leads to a package that is not there, or that has another name than the entry requests
+-- an entry leads to a folder without a package, or to a package with another name than the entry
+-- requests
 abbrev pub has_other_name : Wanted → Option UnresolvedPackage → Bool
 has_other_name w None = true
 has_other_name w (Some d) = not (bytes_eq w.name d.name)
@@ -24,8 +25,8 @@ abbrev pub matches_if : Option (List ℕ) → List ℕ → Bool
 matches_if None version = true
 matches_if (Some requirement) version = matches requirement version
 
--- an entry leads to a package that is not there, or that has a version that the entry does not
--- accept
+-- an entry leads to a folder without a package, or to a package with a version that the entry does
+-- not accept
 abbrev pub has_other_version : Wanted → Option UnresolvedPackage → Bool
 has_other_version w None = true
 has_other_version w (Some d) = not (matches_if w.version d.version)

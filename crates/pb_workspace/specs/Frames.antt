@@ -28,8 +28,8 @@ abbrev pub frame_of : List ℕ → List ℕ → Option WorkspaceTable → Worksp
 frame_of root manifest None = record { root = root; manifest = manifest; is_workspace = false; members = []; exclude = []; default_members = None; given = nothing }
 frame_of root manifest (Some w) = record { root = root; manifest = manifest; is_workspace = true; members = w.members; exclude = w.exclude; default_members = w.default_members; given = record { «package» = keys_or_none w.package; dependencies = w.dependencies } }
 
--- The root package is a member. In a workspace, a folder is also a member if `members` means it, or
--- if it is inside the root folder and `exclude` does not list it.
+-- The root package is a member. In a workspace, each folder that `members` means is also a member.
+-- So is each folder inside the root folder that `exclude` does not list.
 abbrev pub is_member : WorkspaceRoot → List (List ℕ × Unit {0}) → List ℕ → Bool
 is_member f meant folder = bytes_eq folder f.root || (f.is_workspace && (has folder meant || (is_at_or_below f.root folder && not (is_excluded f.root f.exclude folder))))
 

@@ -39,7 +39,7 @@ unfoldable pub root_read : World → WorkspaceRoot → Tables → Option Package
 root_read sources f tables None = Ok nothing_read
 root_read sources f tables (Some p) = draft_of sources (at_root f) true f.given p tables >>= (λ d. Ok (with_draft nothing_read f.root d))
 
--- What was read in the end, after all other packages. The other members are read first. Then come
+-- What was read once all other packages were read, too. The other members are read first. Then come
 -- the packages to which path dependencies lead, in rounds.
 unfoldable pub others_read : World → WorkspaceRoot → LoadState → Result LoadState LoadFault
 others_read sources f begun =

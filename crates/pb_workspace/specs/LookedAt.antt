@@ -69,8 +69,8 @@ walk_looked target sources f (part ∷ parts) folders = flat_map (step_looked ta
 abbrev pub manifest_looked : List ℕ → List ℕ → List Call
 manifest_looked target folder = looked target (call.IsFile (below folder (codes "Cargo.toml")))
 
--- The calls for a glob. The glob is walked first. Then the place is asked about each folder to
--- which the glob leads: whether it has a manifest. Folders of `exclude` are left out.
+-- The calls for a glob. The glob is walked first. Then one call for each folder to which the glob
+-- leads asks whether the folder has a manifest. Folders of `exclude` are left out.
 abbrev pub glob_looked : List ℕ → World → WorkspaceRoot → List Part → List Call
 glob_looked target sources f parts = walk_looked target sources f parts (codes "/" ∷ []) ++ flat_map (manifest_looked target) (folders_kept sources f parts)
 

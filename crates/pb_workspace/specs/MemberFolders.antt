@@ -48,7 +48,7 @@ folders_kept sources f parts = filter (is_kept f) (led_to sources f parts (codes
 abbrev pub has_manifest : World → List ℕ → Bool
 has_manifest sources folder = has_own_file folder sources (codes "Cargo.toml")
 
--- the folders to which a glob leads and that have a manifest
+-- the folders with a manifest to which a glob leads
 abbrev pub folders_taken : World → WorkspaceRoot → List Part → List (List ℕ)
 folders_taken sources f parts = filter (has_manifest sources) (folders_kept sources f parts)
 

@@ -20,17 +20,17 @@ abbrev pub plain_cells : List ℕ → List Cell
 plain_cells [] = []
 plain_cells (b ∷ before) = record { byte = b; matched = false } ∷ plain_cells before
 
--- the cells of the pattern that consists of `*` and the pattern of the given cells
+-- given the cells of a pattern, the cells of the pattern with `*` in front
 abbrev pub star_cells : Bool → List Cell → List Cell
 star_cells shorter [] = []
 star_cells shorter (x ∷ xs) = record { byte = x.byte; matched = x.matched || shorter } ∷ star_cells (x.matched || shorter) xs
 
--- the cells of the pattern that consists of `?` and the pattern of the given cells
+-- given the cells of a pattern, the cells of the pattern with `?` in front
 abbrev pub one_cells : Bool → List Cell → List Cell
 one_cells past [] = []
 one_cells past (x ∷ xs) = record { byte = x.byte; matched = past } ∷ one_cells (if goes_on x.byte then past else x.matched) xs
 
--- the cells of the pattern that consists of the byte `c` and the pattern of the given cells
+-- given the cells of a pattern, the cells of the pattern with the byte `c` in front
 abbrev pub byte_cells : ℕ → Bool → List Cell → List Cell
 byte_cells c shorter [] = []
 byte_cells c shorter (x ∷ xs) = record { byte = x.byte; matched = (x.byte == c) && shorter } ∷ byte_cells c x.matched xs

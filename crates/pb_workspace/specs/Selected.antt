@@ -50,15 +50,15 @@ root_or_members (Some index) packages = index ∷ []
 root_or_members None packages = members_of packages
 
 -- The indices of the packages that are built if neither `--workspace` nor `-p` is given. Only in
--- this case must each folder in `default-members` be a member.
+-- this case must each folder in `default-members` be the folder of a member.
 abbrev pub by_default : DefaultMembers → Option ℕ → List Package → Result (List ℕ) LoadFault
 by_default Unwritten root packages = Ok (root_or_members root packages)
 by_default (Named places) root packages = Ok places
 by_default Unknown root packages = Err NoSuchPackage
 
 -- The indices of the packages to build. With `--workspace` these are all members. Otherwise `-p`
--- decides, then `default-members`, and then the root package: the first of the three that exists
--- counts. Without any of the three, these are all members, too.
+-- decides, or else `default-members`, or else the root package. Without any of the three, these are
+-- all members, too.
 abbrev pub selected_packages : Workspace → Bool → List (List ℕ) → Result (List ℕ) LoadFault
 selected_packages ws all names =
     if all then Ok (members_of ws.packages)

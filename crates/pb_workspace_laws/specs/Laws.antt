@@ -51,12 +51,12 @@ abbrev pub WorkspacesAreRead : Type 0
 WorkspacesAreRead = (manifest target : List ℕ) (w : World) (ws : Workspace) → is_path manifest ≡ true → workspace_of manifest target w ≡ Ok ws
     → (ws.target ≡ target) × ((r : Manifest) × IsWorkspaceOf (from_nothing target w) manifest r ws)
 
--- A root manifest has at most one workspace, if each file of the sources has a normalised absolute
--- path.
+-- Let each file of the sources have a normalised absolute path. A root manifest then has at most
+-- one workspace with a given target folder.
 abbrev pub WorkspacesAreOne : Type 0
 WorkspacesAreOne = (sources : World) (manifest : List ℕ) (r s : Manifest) (v w : Workspace) → FilesHavePaths sources → IsWorkspaceOf sources manifest r v → IsWorkspaceOf sources manifest s w → v.target ≡ w.target → v ≡ w
 
--- A workspace that was read is settled. So its names have valid letters, and its entries lead to
--- packages.
+-- A workspace that was read is settled, if the path of its manifest is a normalised absolute path.
+-- So its names have valid letters, and its entries lead to packages.
 abbrev pub AllAreSettled : Type 0
 AllAreSettled = (manifest target : List ℕ) (w : World) (ws : Workspace) → is_path manifest ≡ true → workspace_of manifest target w ≡ Ok ws → IsSettled ws

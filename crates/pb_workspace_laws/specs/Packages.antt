@@ -78,7 +78,7 @@ readme_path (readme.At path) = Some path
 -- Targets.
 
 -- The build script's path. If `build` is missing, the path is `build.rs`, provided that there is
--- such a file. Otherwise `build` decides, which is `true`, `false` or a path.
+-- such a file. Otherwise the value of `build` decides: `true`, `false` or a path.
 abbrev pub script : World → List ℕ → Build → Option (List ℕ)
 script sources folder build.Discovered = first_path sources folder (codes "build.rs" ∷ [])
 script sources folder build.Standard = Some (below folder (codes "build.rs"))

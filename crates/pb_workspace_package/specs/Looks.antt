@@ -1,6 +1,5 @@
 -- Which calls of the place a step makes, in order, up to the first refusal. Each call has its path.
--- Which calls are made for a package's folder is our own choice, since The Cargo Book does not
--- define it.
+-- The calls for a package's folder are our own choice, since The Cargo Book does not define them.
 use Rattle.std.specs.Prelude.{◌≡◌, ℕ, false, true, if◌then◌else◌, List, [], ◌∷◌, ◌++◌, Result, Ok, Err, MatchResult}
 use Rattle.std.specs.List.{flat_map}
 use Rattle.pb_place_types.specs.CallsInTurn.{FailsAt, MakesSome, past_calls}

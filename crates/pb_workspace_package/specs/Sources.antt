@@ -20,8 +20,8 @@ has_own_file folder sources name = has_file (below folder name) sources
 abbrev pub own_source : List ℕ → World → List ℕ → Option (List ℕ)
 own_source folder sources name = if has_own_file folder sources name then Some (below folder name) else None
 
--- the README of a package whose manifest does not mention one: the first of these three names that
--- is a file in the package's folder
+-- The README of a package whose manifest does not mention a README. It is the first of these three
+-- names for which the package's folder has a file.
 abbrev pub found_readme : List ℕ → World → List ℕ
 found_readme folder sources =
     if has_own_file folder sources (codes "README.md") then codes "README.md"

@@ -49,8 +49,8 @@ abbrev pub between_or : List ℕ → List ℕ → Result (List ℕ) PathFault �
 between_or folder text (Ok path) = text_between folder path
 between_or folder text (Err fault) = text
 
--- a path of the workspace, which starts at the root, rewritten so that it starts at the member's
--- folder
+-- A path of the workspace, rewritten so that it starts at the member's folder. In the workspace,
+-- the path starts at the root.
 abbrev pub from_member : List ℕ → List ℕ → List ℕ → List ℕ
 from_member root folder text = between_or folder text (joined root text)
 

@@ -34,7 +34,7 @@ pub record IsPackage (count : ℕ) (p : Package) : Type 0 where
   pub leads : All (λ (entry : Entry). entry.to < count) p.entries
   pub entry_keys : All (λ (entry : Entry). is_name entry.key ≡ true) p.entries
 
--- if `default-members` names only members, this is true of their indices
+-- if `default-members` names only members, `Holds` is true of their indices
 abbrev pub IfNamed : DefaultMembers → (List ℕ → Type 0) → Type 0
 IfNamed Unwritten Holds = Unit {0}
 IfNamed (Named places) Holds = Holds places
