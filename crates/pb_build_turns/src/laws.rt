@@ -25,8 +25,8 @@ pub fn success_leaves_records<T: Turn>()
 {}
 
 /// Take a run of units that ended without a fault. If each unit had its record before this run, and
-/// nothing differed, no child was started, and no unit is reported as started. By the law above, a
-/// second build after a successful one is such a run.
+/// nothing differed, no child was started, and no unit is reported as started. By the law above,
+/// the repetition of a successful build is such a run.
 pub fn same_build_starts_none<T: Turn>()
     ensures { StartsNoneAgain T.turns }
 {}

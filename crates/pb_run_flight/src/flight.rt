@@ -115,8 +115,9 @@ fn ends_badly<F>(states: &[State<F>], count: usize) -> bool
     }
 }
 
-/// Returns whether the unit at an index may begin, if no unit before it has answered and is bad.
-/// The result is `None` if the unit itself has answered and is bad, or does not exist.
+/// Returns whether the unit at an index may begin. The function assumes that no earlier unit has
+/// answered and is bad. The result is `None` if the unit itself has answered and is bad, or does
+/// not exist.
 fn may_begin<F>(
     needs: &[Items<usize>],
     met: &[usize],
