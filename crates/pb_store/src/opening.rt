@@ -168,7 +168,7 @@ fn greatest_of<P: Place>(
 {
     let mut greatest = 0;
     for path in paths.into_vec() {
-        // Every record may name the greatest number, even a record at another key's path.
+        // Any record may name the greatest number, even a record at another key's path.
         let number = greatest_at(alloc, place, folder, numbers, path)?;
         greatest = greater(greatest, number);
     }
