@@ -94,7 +94,7 @@ fn read_at<P: Place + Remembering>(
     }
 }
 
-/// Returns the path of the nth ask, if there are so many asks.
+/// Returns the path of the ask with this number, if there is such an ask.
 fn path_of(alloc: Global, pages: &Pages, number: usize) -> Result<Option<PathText>, AllocError> {
     match pages.asks.get(number) {
         Some(ask) => Ok(Some(ask.path.copy(alloc)?)),

@@ -327,7 +327,7 @@ pub fn build_options<P: Noting + Reporting + Remembering, G: Guard<P, E>, O: Out
 {
     let plan = plan_build(alloc, place, options);
     note(alloc, err, &plan);
-    // The lock comes after the plan: a refused build makes no folder.
+    // The lock comes after the plan, so that a refused build makes no folder.
     hold(guard, place, err, &plan);
     let units = units_if(explain, &plan);
     let answer = build_watched(alloc, place, out, line, options, plan);

@@ -163,8 +163,8 @@ impl Notes {
         }
     }
 
-    /// Ends the comparison of a unit if a read of this path cannot belong to the comparison. The
-    /// unit was then kept, and a unit answers.
+    /// Ends the comparison of a unit if a read of this path cannot belong to the comparison. Then
+    /// the compared unit was kept, and the read belongs to a unit that answers.
     fn pass(&mut self, path: &PathText) {
         if self.is_past(path) {
             self.end();
@@ -307,8 +307,8 @@ impl Notes {
         }
     }
 
-    /// Notes a read that failed. If this is the read of a record, the unit before has begun, and
-    /// the record's unit has not.
+    /// Notes a read that failed. If a record was to be read, the unit that was compared before has
+    /// begun, and the unit of this record has not.
     pub(crate) fn note_failed_read(&mut self, path: &PathText) {
         if self.key_at(path).is_some() {
             self.end();
