@@ -112,8 +112,8 @@ pub fn listed_sources<P: Place>(
     }
 }
 
-/// Returns the folders directly in a folder that contain sources, each once. A folder at or below
-/// the target folder is not listed.
+/// Returns those folders directly in a folder that contain sources. Each folder is returned once. A
+/// folder at or below the target folder is not listed.
 ///
 /// Errors: `Place`, if the listing failed, with its path; `OutOfMemory`.
 #[tactic(auto, using(crate::proofs::SourceLemmas::listing_laws))]
