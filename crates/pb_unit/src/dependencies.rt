@@ -121,8 +121,8 @@ fn leads(workspace: &SettledWorkspace, need: Need, entry: &Entry) -> bool
     }
 }
 
-/// Returns the number of the unit that a need of this kind means. A unit on this side has the need,
-/// and the need leads to the package at this index.
+/// Returns the number of the unit that is needed. `side` is the side of the unit that has the need,
+/// and `owner` is the index of the needed unit's package.
 fn needed_number(need: Need, owner: usize, side: Side) -> usize
     requires { owner < 256 }
     ensures { result ≡ number (needed need owner side) }

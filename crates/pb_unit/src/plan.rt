@@ -61,8 +61,8 @@ pub struct Plan {
     pub without_library: Items<Text>,
 }
 
-/// Returns the workspace from which packages are selected. The facts that the selection's type
-/// promises are taken from the selection.
+/// Returns the workspace from which packages are selected. The contract repeats what the
+/// selection's type promises.
 fn workspace_of<'a>(selected: &'a SelectedWorkspace<'_>) -> &'a Workspace
     ensures value { result.now ≡ selected.now.workspace }
     ensures settled { IsSettled selected.now.workspace }
