@@ -46,8 +46,9 @@ pub fn units_tell()
     ensures bad { BadUnitsTell }
 {}
 
-/// A law about the outcomes of a build. A list contains these outcomes if and only if each unit has
-/// its outcome in the list. The outcome of a unit follows from the outcomes of the units before it.
+/// A law about the outcomes of a build's units. A list is the list of these outcomes if and only if
+/// each unit has its outcome in the list. The outcome of a unit follows from the outcomes of the
+/// units before it.
 pub fn outcomes_are_these()
     ensures { OutcomesAreThese }
 {}

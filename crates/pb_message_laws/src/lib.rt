@@ -20,9 +20,10 @@ pub fn diagnostics_are_lines()
     ensures { DiagnosticsAreLines }
 {}
 
-/// A law: if two messages of one package and target have the same line, the messages are of the
-/// same kind. If they are diagnostics or notes, the messages are equal. For artifacts and executed
-/// scripts we promise no more, since the lines of these messages contain less than the messages.
+/// A law: if two messages of the same package and target have the same line, the messages are of
+/// the same kind. If they are diagnostics or notes, the messages are equal. For artifacts and
+/// executed scripts we promise no more, since the lines of these messages contain less than the
+/// messages.
 pub fn lines_tell_messages()
     ensures { LinesTellMessages }
 {}

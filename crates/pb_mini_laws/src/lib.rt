@@ -20,9 +20,11 @@ pub fn names_are_read_back()
 {}
 
 /// A law: the small compiler is honest on the command of each unit of a project, whatever earlier
-/// scripts have printed. The small compiler returns a good reply again in every world that agrees
-/// on two things. The first is the values of the inputs that the builder finds in the reply. The
-/// second is the contents of the folders that the command may read.
+/// scripts have printed. If a reply is good, the small compiler returns the same reply in every
+/// world in which these are the same:
+///
+/// - the values of the inputs that the builder finds in the reply;
+/// - the contents of the folders that the command may read.
 ///
 /// The law has these conditions. The project was read and planned: it is settled, has its plan, and
 /// has normalised absolute paths. The user's flags name no libraries, and the small compiler runs
@@ -48,9 +50,10 @@ pub fn small_builds_give<T: Turn>()
 {}
 
 /// A law about a build of a session with the small compiler. Suppose that only edits and builds
-/// came before this build. The edits were outside of the folder of its records, and the builds were
-/// as in `small_builds_give`. Then the build produces what a clean build of the present workspace
-/// produces. If a fault ends the build, only a prefix of these lines has been written.
+/// came before this build. The edits were outside of the folder of this build's records, and the
+/// earlier builds were as in `small_builds_give`. Then the build produces what a clean build of the
+/// present workspace produces. If a fault ends the build, only a prefix of these lines has been
+/// written.
 ///
 /// If a session file begins without files, the same is true of each of its builds under fewer
 /// conditions:
