@@ -11,7 +11,7 @@ use pb_manifest_types::{Inheritable, Key, ManifestFault, WrittenPath};
 use std::alloc::{AllocError, Global};
 use toml::{Table, Value};
 
-/// Returns the value of a name.
+/// Returns the value at the key with this name.
 #[tactic(auto, using(crate::proofs::Tables::found_laws))]
 fn value_named<'a>(table: &'a Table, name: &str) -> Option<&'a Value>
     ensures { option_map (λ v. view v.now) result ≡ get_member name.now (table_view table.now) }
