@@ -349,7 +349,7 @@ fn nothing_of(alloc: Global, setup: &Setup, project: &Project) -> Result<Command
 ///
 /// A run starts the build script in its package's folder, after the runner if there is one. The
 /// variables are those of The Cargo Book, Environment Variables, and those that the package's
-/// script has set. If both set a variable, the script's value counts. The child may read the
+/// script has set. If a variable is among both, the script's value counts. The child may read the
 /// folders of all units that its unit reaches.
 ///
 /// Errors: out of memory.
