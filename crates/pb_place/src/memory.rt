@@ -193,7 +193,7 @@ impl<C> Memory<C> {
 }
 
 impl<C: Copy> Memory<C> {
-    /// Takes the place out, and leaves an empty place over the same child.
+    /// Returns the place, and leaves an empty place over the same child behind the reference.
     pub fn take(&mut self, alloc: Global) -> Memory<C>
         ensures taken { result ≡ self.old }
         ensures left { self.new ≡ no_held }

@@ -58,7 +58,7 @@ fn take_child(
     take_out(flying, ticket)
 }
 
-/// Returns the child of a command with the reply that it will return.
+/// Returns the child of a command, with the reply that the child will return.
 fn child_in_flight(
     alloc: Global,
     files: &FileMap,
