@@ -1,5 +1,5 @@
-//! Laws of the small compiler. As a child it is honest on the commands of units. So the headline is
-//! true for a build with this child, and nothing is assumed about the child.
+//! Laws of the small compiler. As a child, the small compiler is honest on the commands of units.
+//! So the headline is true for a build with this child, and nothing is assumed about the child.
 #![tactic(auto)]
 
 ghost use Rattle.pb_directive.specs.declared.dep_info.DepInfo.{DepInfo};
@@ -52,8 +52,8 @@ pub fn small_builds_give<T: Turn>()
 /// A law about a build of a session with the small compiler. Suppose that only edits and builds
 /// came before this build. The edits were outside of the folder of this build's records, and the
 /// earlier builds were as in `small_builds_give`. Then the build produces what a clean build of the
-/// present workspace produces. If a fault ends the build, only a prefix of these lines has been
-/// written.
+/// present workspace produces. If a fault ends the build, only a prefix of the clean build's lines
+/// has been written.
 ///
 /// If a session file begins without files, the same is true of each of its builds under fewer
 /// conditions:
