@@ -420,8 +420,8 @@ pub fn build_plan<P: Place, O: Out>(
 /// The turn chooses which unit begins or answers next. The turns end when all units have answered,
 /// or when all units up to and including the first bad unit have answered. A unit's child is
 /// started only if something differs from the unit's record. Message lines are written in plan
-/// order, as units answer. At the end, or after a fault, the children in flight are awaited, in the
-/// order in which they began, and their answers are dropped.
+/// order, as units answer. At the end, or after a fault, the build waits for the children in
+/// flight, in the order in which they began. Their answers are dropped.
 ///
 /// Errors:
 ///

@@ -43,7 +43,8 @@ pub fn records_stay_true()
 {}
 
 /// After any edits and builds, a build of a session produces what a clean build of the present
-/// workspace produces. If a fault ends the build, only a prefix of these lines has been written.
+/// workspace produces. If a fault ends the build, only a prefix of the clean build's lines has been
+/// written.
 pub fn any_build_gives()
     ensures { AnyBuildGives }
 {}
@@ -54,8 +55,9 @@ pub fn same_build_starts_none<T: Turn, U: Turn>()
     ensures { SameBuildStartsNone T.turns U.turns }
 {}
 
-/// The headline follows from `Builds`, and from `BuildsFirst`. These definitions say how the work
-/// of a build ended and what was written afterwards. The program promises no more than that.
+/// The headline follows from `Builds`, and also from `BuildsFirst`. Both definitions say how the
+/// work of a build ended, and what was written afterwards. The program promises no more about a
+/// build.
 pub fn builds_keep_the_headline<T: Turn>()
     ensures turns { BuildsKeepHeadline T.turns }
     ensures first { FirstBuildsKeepHeadline }

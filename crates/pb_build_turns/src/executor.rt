@@ -54,7 +54,7 @@ pub struct UnitExecutor {
     pub reasons: Vec<Option<Option<Difference>>>,
 }
 
-/// Adds an item to a list that has space for it.
+/// Adds an item to a list that has space for one more item.
 fn put<T: Drop>(items: &mut Vec<T>, item: T)
     requires { vec_len items.old < vec_capacity items.old }
     ensures { items.new.items ≡ items.old.items ++ item ∷ [] }
@@ -221,7 +221,7 @@ fn answer_at<P: Place>(
         StoryEnds P.is_modelled P.child e (Some unit) first at crew.new
         (moment (P.at place.new) heard) (P.at place.new).still es) }
 {
-    // The unit leaves the list first: even after a fault it is no longer in flight.
+    // The unit leaves the list first, so that it is no longer in flight even after a fault.
     let RunningUnit { unit, begun } = crew.running.remove(index);
     let project = &crew.project;
     let planned = &project.units()[unit];

@@ -5,9 +5,9 @@ ghost use Rattle.pb_build_turns.specs.Ends.{SaysFirstRows, StartsNothing, Leaves
 use pb_run_flight::Turn;
 
 /// Suppose that the outcome of each answered unit is the unit's outcome in a clean build. Then the
-/// lines due are those of a clean build's first rows. After all units up to and including the first
-/// bad unit have answered, all lines of all rows are due. The order in which units begin and answer
-/// does not matter, nor who decides this order.
+/// lines that are due are the lines of a clean build's first rows. After all units up to and
+/// including the first bad unit have answered, all lines of all rows are due. The order in which
+/// units begin and answer does not matter, nor who decides this order.
 pub fn answers_say_rows()
     ensures { SaysFirstRows }
 {}

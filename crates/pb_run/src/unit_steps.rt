@@ -208,8 +208,8 @@ fn outcome_of(
 /// it was the last call, and the store may lack the numbers of its records.
 ///
 /// - `Child` if the child did not answer.
-/// - `Device` if a file, a folder or a variable cannot be read, if the record cannot be written, or
-///   if no run number is left for a record without a run number.
+/// - `Device` if a file, a folder or a variable cannot be read, or if the record cannot be written.
+///   Also `Device` if the record has no run number, and no run number is left.
 /// - `OutOfMemory`. If memory runs out only for the message lines, the record of a good unit is
 ///   kept.
 #[tactic(auto, using(crate::proofs::Naming::naming_laws))]
