@@ -144,8 +144,9 @@ pub(crate) fn are_files<P: Place>(
     }
 }
 
-/// Returns whether a path is a file with these bytes. If there is no file at the path, the function
-/// looks for a folder there. The function that reads the present value makes the same calls.
+/// Returns whether the file at a path has these bytes. If there is no file at the path, the
+/// function looks for a folder there. The function that reads the present value makes the same
+/// calls.
 fn is_file_present<P: Place>(
     alloc: Global,
     place: &mut P,
