@@ -297,8 +297,8 @@ pub(crate) fn conclude<E: Out>(
 ///   The next build builds this unit again.
 /// - If requested, why each child was started. After a fault, this is what the place has noted.
 /// - What the child of a bad unit printed, except what the message lines contain.
-/// - The sentence of the fault. If a compiler failed and its messages were not rendered, also where
-///   these messages are.
+/// - The sentence of the fault. If a compiler failed and its messages were not rendered, a note
+///   says where these messages are.
 /// - What the place reports of a fault of the outside world.
 /// - The notes of a second look.
 /// - For a build that failed or was refused, `error: ` and its result line.

@@ -196,8 +196,8 @@ impl Notes {
         }
     }
 
-    /// Notes that the record of a unit was read. If the unit has not begun, it begins: it counts as
-    /// kept until its child is started.
+    /// Notes that the record of a unit was read. If the unit has not begun, the unit begins. It
+    /// then counts as kept until its child is started.
     fn begin(&mut self, alloc: Global, key: &str, text: Option<&Bytes>) -> Result<(), AllocError> {
         self.end();
         let key = Text::from_str(alloc, key)?;
