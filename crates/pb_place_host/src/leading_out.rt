@@ -8,7 +8,7 @@ use std::alloc::{AllocError, Global};
 use std::fs;
 use std::rt::Files;
 
-/// The end of the name of the output folder of a script's run.
+/// How the name of the output folder of a script's run ends.
 const RUN: &str = ".run";
 
 /// The greatest number of links and folders that are looked at. There are no notes on further

@@ -93,8 +93,8 @@ impl FileMap {
         Ok(paths_of(alloc, names)?)
     }
 
-    /// Returns the paths of the files below a folder, except those at or below another path, in
-    /// byte order.
+    /// Returns the paths of the files below a folder, in byte order. Files at or below the path
+    /// `left_out` are not listed.
     ///
     /// Errors: out of memory only.
     pub fn list_outside(

@@ -302,8 +302,8 @@ pub trait Place {
 
     /// Waits for the end of a child in flight. Whatever the result, the child's ticket is then used
     /// up. Suppose that the child replies. Suppose also that nothing that it sees, and nothing in
-    /// its folder, has changed since the spawn. Then its reply and its folder are determined by the
-    /// world at the spawn.
+    /// its folder, has changed since the spawn. Then the world at the spawn determines the child's
+    /// reply and the contents of its folder.
     ///
     /// Errors:
     ///
