@@ -1,4 +1,4 @@
-//! Reads the keys of an entry of any table of dependencies.
+//! Reads the keys of a dependency's entry, in any of the tables of dependencies.
 
 ghost use Rattle.std.specs.Prelude.{◌≡◌, true};
 ghost use Rattle.toml.specs.View.{table_view};

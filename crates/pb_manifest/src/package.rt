@@ -190,7 +190,7 @@ fn readme_or_taken(alloc: Global, value: &Value) -> Result<Inheritable<Readme>, 
     Ok(Inheritable::Written(readme))
 }
 
-/// Returns the value at `readme`, which may be inherited from the workspace.
+/// Returns the value at `readme`. The value may be inherited from the workspace.
 fn inheritable_readme_at(alloc: Global, table: &Table) -> Result<Inheritable<Readme>, ManifestFault>
     ensures { UnlessOom result (inheritable_readme_at (table_view table.now)) }
 {

@@ -300,7 +300,7 @@ fn texts_or_taken(
     Ok(Inheritable::Written(texts))
 }
 
-/// Returns the text at a key, which may be inherited from the workspace.
+/// Returns the text at a key. The text may be inherited from the workspace.
 pub(crate) fn inheritable_text_at(
     alloc: Global,
     table: &Table,
@@ -314,7 +314,7 @@ pub(crate) fn inheritable_text_at(
     }
 }
 
-/// Returns the list of texts at a key, which may be inherited from the workspace.
+/// Returns the list of texts at a key. The list may be inherited from the workspace.
 pub(crate) fn inheritable_texts_at(
     alloc: Global,
     table: &Table,

@@ -9,7 +9,7 @@ use std::alloc::{AllocError, Global};
 #[derive(Drop)]
 pub struct PathSource {
     /// The path of the package's folder. The path is relative to the manifest's folder. In
-    /// `[workspace.dependencies]` it is relative to the workspace's root.
+    /// `[workspace.dependencies]` the path is relative to the workspace's root.
     pub path: WrittenPath,
     /// The package's name. `None` means the entry's key.
     pub package: Option<Text>,
