@@ -109,10 +109,10 @@ fn reply_to<V: View>(
 ///
 /// If there is no image, the status is 2, with `mini: no image` on standard error.
 ///
-/// Our own choices: if the path of the source is not absolute, the error is also `no source`. An
-/// output folder that is not an absolute path, or a crate name that is not a file name, is a bad
-/// command line. A library whose path is not absolute has no file. A line of an image is ignored if
-/// it is not UTF-8.
+/// Our own choices: if the path of the source is not absolute, the error is also `no source`. A
+/// command line is bad if its output folder is not an absolute path, or if its crate name is not a
+/// file name. A library whose path is not absolute has no file. A line of an image is ignored if it
+/// is not UTF-8.
 ///
 /// `pairs` are names and values that override the variables of the view. If several pairs have the
 /// same name, the last one counts.

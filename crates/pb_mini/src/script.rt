@@ -178,7 +178,7 @@ fn full_path<V: View>(
     Ok(text)
 }
 
-/// Returns a text as a path, or none if it is not an absolute path.
+/// Returns a text as a path, or none if the text is not an absolute path.
 fn path_in(alloc: Global, text: Text) -> Result<Option<PathText>, AllocError>
     ensures { IfOk result (λ path. path ≡ path_of text) }
 {

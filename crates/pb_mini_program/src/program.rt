@@ -88,8 +88,8 @@ fn leave_files<P: Place, V: View>(
 }
 
 /// Replies to arguments as the small compiler does, and returns the status of the reply. The files
-/// of the reply are written into its output folder, and then its two streams are written. Nothing
-/// is written after a failure; earlier writes stay.
+/// of the reply are written into the output folder, and then the reply's two streams are written.
+/// Nothing is written after a failure; earlier writes stay.
 ///
 /// Errors:
 /// - `Read`: the view failed. In this case nothing was written.
