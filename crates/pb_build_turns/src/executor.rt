@@ -1,4 +1,5 @@
-//! The executor of a build's units, which begins them, takes their answers, and writes their lines.
+//! The executor of a build's units: it begins the units, takes their answers, and writes their
+//! lines.
 
 ghost use Rattle.std.specs.Prelude.{◌≡◌, ◌<◌, ◌++◌, ◌∷◌, [], ℕ, Bool, is_some, vec_len, vec_capacity, List, Option, length, IfOk, OnOk, MatchResult, Some, Contains, slice_get, slice_set, take};
 ghost use Rattle.std.specs.Io.KnownBytes.{Appends};

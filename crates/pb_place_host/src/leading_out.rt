@@ -140,8 +140,8 @@ fn report_links<R: Files + AllocGlobal>(
 }
 
 /// Returns a report on links that lead out of the target folder. The script of a command left these
-/// links in its output folder, and did not print the paths to which they lead. For a command of a
-/// compiler, and if memory runs out, the report may be empty.
+/// links in its output folder, and did not print the paths to which they lead. The report may be
+/// empty for the command of a compiler, or if memory runs out.
 pub(crate) fn links_out<R: Files + AllocGlobal>(
     runtime: &R,
     alloc: Global,

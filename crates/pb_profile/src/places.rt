@@ -102,7 +102,7 @@ fn along(source: Source, line: &[Ancestor], key: ProfileKey) -> Option<Setting>
     None
 }
 
-/// Returns the value of a key of a package in a role, from its locations in order.
+/// Returns the value of a key for a package in a role. The locations are looked at in order.
 #[tactic(auto, using(crate::proofs::Located::or_none))]
 pub(crate) fn looked_up(
     owner: &Package,

@@ -73,7 +73,7 @@ pub fn page_at<P: Place + Remembering>(
     }
 }
 
-/// Reads the manifest at a path, unless it was read.
+/// Reads the manifest at a path, unless the manifest was already read.
 fn read_at<P: Place + Remembering>(
     alloc: Global,
     place: &mut P,

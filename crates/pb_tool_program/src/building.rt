@@ -232,7 +232,7 @@ fn look_at_refusal<P: Place + Remembering>(
 }
 
 /// Looks again at the workspace of a build that was refused or ended without a fault, for notes.
-/// After any other fault it makes no call of the place.
+/// After any other fault, the function makes no call of the place.
 pub(crate) fn look<P: Place + Remembering>(
     alloc: Global,
     place: &mut P,

@@ -218,7 +218,8 @@ fn led_to<P: Place>(
     Ok(led)
 }
 
-/// Returns `/` as a list. The text is a path, so only memory can run out.
+/// Returns a list that contains only the folder `/`. The text `/` is a path, so the call can only
+/// run out of memory.
 ///
 /// Errors: out of memory only.
 fn root_alone(alloc: Global) -> Result<Items<PathText>, AllocError>

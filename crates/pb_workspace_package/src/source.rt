@@ -16,7 +16,7 @@ use pb_place_types::{PathText, Place, PlaceFault, RelativePath};
 use pb_workspace_types::LoadFault;
 use std::alloc::{AllocError, Global};
 
-/// Returns the fault of a failed call on a path. Out of memory stays out of memory. No memory is
+/// Returns the fault of a failed call on a path. `OutOfMemory` stays `OutOfMemory`. No memory is
 /// used.
 pub fn call_fault(path: PathText, fault: PlaceFault) -> LoadFault
     ensures { result ≡ fault_at path fault }
