@@ -18,7 +18,8 @@ use std::alloc::Global;
 
 /// Writes files in a folder, one after another, at their paths relative to the folder.
 ///
-/// Errors: `Write`; `OutOfMemory`. Then the files before the failing file have been written.
+/// Errors: `Write`; `OutOfMemory`. After an error, the files before the failing file have been
+/// written.
 fn write_files<P: Place>(
     alloc: Global,
     place: &mut P,

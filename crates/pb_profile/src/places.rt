@@ -88,7 +88,7 @@ fn value_in(source: Source, ancestor: &Ancestor, key: ProfileKey) -> Option<Sett
     }
 }
 
-/// Returns the value of a key at a location along a line of inheritance.
+/// Returns the first value that a key has at a location, in the profiles of a line of inheritance.
 fn along(source: Source, line: &[Ancestor], key: ProfileKey) -> Option<Setting>
     ensures { result ≡ along key (sought source.entry) (map seen line.now) }
 {

@@ -235,7 +235,7 @@ fn stood_still<P: Place>(
 }
 
 /// Writes a record, unless the child of this command read something that has moved. The check comes
-/// after the record is made. Whatever changes later then differs from the recorded value.
+/// after the record is made. So whatever changes after the check differs from the recorded value.
 fn put_still<P: Place>(
     alloc: Global,
     place: &mut P,

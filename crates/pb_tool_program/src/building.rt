@@ -45,7 +45,7 @@ fn status_of(answer: &Result<Summary, BuildFault>) -> u8
     }
 }
 
-/// Returns the line of a unit that will be built again.
+/// Returns the line that says that a unit will be built again, because this path has moved.
 fn moved_note(alloc: Global, path: &str, key: &str) -> Result<String, AllocError>
     ensures { IfOk result (λ text. string_bytes text ≡ moved_note path.now key.now) }
 {
@@ -56,7 +56,7 @@ fn moved_note(alloc: Global, path: &str, key: &str) -> Result<String, AllocError
     Ok(text)
 }
 
-/// Adds the line of a unit that will be built again.
+/// Adds the line that says that a unit will be built again.
 fn push_moved(alloc: Global, notes: &mut String, moved: &Moved) -> Result<(), AllocError>
     ensures { OnOk result (string_bytes notes.new
         ≡ string_bytes notes.old ++ moved_note moved.now.path (last_part moved.now.out)) }
@@ -215,7 +215,7 @@ fn tell_detail<E: Out>(
     };
 }
 
-/// Looks again at a workspace that was refused, for notes on why.
+/// Looks again at a workspace that was refused, and returns notes on why it was refused.
 fn look_at_refusal<P: Place + Remembering>(
     alloc: Global,
     place: &mut P,
@@ -231,8 +231,8 @@ fn look_at_refusal<P: Place + Remembering>(
     }
 }
 
-/// Looks again at the workspace of a build that was refused or ended without a fault, for notes.
-/// After any other fault, the function makes no call of the place.
+/// Looks again at the workspace of a build that was refused or ended without a fault, and returns
+/// notes. After any other fault, the function makes no call of the place.
 pub(crate) fn look<P: Place + Remembering>(
     alloc: Global,
     place: &mut P,

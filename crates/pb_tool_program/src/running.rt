@@ -114,8 +114,9 @@ fn build<P: Speaking + Noting + Remembering, G: Guard<P, E>, O: Screen, E: Color
 ///
 /// A build requests its target folder from the guard once the build is planned. A removal requests
 /// its target folder once the folder is listed. Four parameters decide what a build shows besides
-/// its message lines. `place` names its children, `out` shows its lines as text, `err` has colours,
-/// and `line` shows which unit begins. The page contains the meanings of the names of result lines.
+/// its message lines. `place` names the children that it starts, `out` shows lines as text, `err`
+/// has colours, and `line` shows which unit begins. The page contains the meanings of the names of
+/// result lines.
 ///
 /// The status is:
 ///
