@@ -282,9 +282,9 @@ pub fn prepare<P: Place>(
     }
 }
 
-/// Runs a planned build, but does not write its finish line. Suppose that no other call of the
-/// place came between the planning and this call. Then the contract describes all changes since the
-/// planning began.
+/// Runs a planned build, but does not write its finish line. Suppose that no call of the place came
+/// between the planning and this call. Then the contract describes all changes since the planning
+/// began.
 fn work<P: Place, O: Out, T: Turn>(
     alloc: Global,
     place: &mut P,

@@ -335,7 +335,7 @@ fn do_line<V: View>(
     do_by(alloc, output, pairs, view, deed_of(word), rest)
 }
 
-/// Carries out lines in turn, until one of them ends the script.
+/// Carries out lines, one after another, until a line ends the script.
 fn run_lines<V: View>(
     alloc: Global,
     pairs: &Table<Text>,

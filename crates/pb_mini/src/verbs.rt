@@ -296,7 +296,7 @@ fn add_line<V: View>(
     Ok(())
 }
 
-/// Carries out lines in turn. The first line has the number 1.
+/// Carries out lines, one after another. The first line has the number 1.
 #[tactic(auto, using(crate::proofs::DoingLemmas::followed_nothing))]
 pub(crate) fn add_lines<V: View>(
     alloc: Global,

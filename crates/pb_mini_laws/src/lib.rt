@@ -28,8 +28,8 @@ pub fn names_are_read_back()
 ///
 /// The law has these conditions. The project was read and planned: it is settled, has its plan, and
 /// has normalised absolute paths. The user's flags name no libraries, and the small compiler runs
-/// the scripts. The dep-info can express the names of what is read. Each name is not empty, is one
-/// line, and ends so that it is read back.
+/// the scripts. The dep-info can express the names of what is read. Each name is one line, is not
+/// empty, and ends with a byte that is read back as it was written.
 pub fn small_compiler_is_honest()
     ensures { SmallCompilerIsHonest }
 {}

@@ -182,8 +182,8 @@ pub trait Place {
         ensures looks { LooksOnce (call.List folder.now) result (at self.old) (at self.new) }
         ensures fails { IfErr result (λ e. e ≢ PlaceFault.OutOfMemory → fails self.old) };
 
-    /// Returns the paths of all files below a folder, except the files at or below another path, in
-    /// byte order. The call does not look at anything at or below that other path.
+    /// Returns the paths of all files below a folder, in byte order, except the files at or below
+    /// the path `left_out`. The call does not look at anything at or below `left_out`.
     ///
     /// Errors: `List`; `OutOfMemory`.
     fn list_outside(

@@ -27,8 +27,7 @@ fn version_of<'a>(pages: &'a Pages, page: &'a Page) -> &'a str {
     }
 }
 
-/// Returns the version or the requirement that was read. Returns `None` if the text is not one of
-/// these.
+/// Returns what was read: a version or a requirement. Returns `None` if the text was refused.
 fn read<T: Drop>(found: Result<T, ManifestFault>) -> Result<Option<T>, AllocError> {
     match found {
         Ok(found) => Ok(Some(found)),

@@ -396,7 +396,7 @@ fn one_read<P: Place>(
     Ok(made)
 }
 
-/// Reads folders in turn, up to the first fault.
+/// Reads folders, one after another, up to the first fault.
 pub fn all_read<P: Place>(
     alloc: Global,
     place: &mut P,

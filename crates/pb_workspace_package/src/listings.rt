@@ -59,8 +59,8 @@ fn is_there<P: Place>(
     is_source(alloc, place, target, &path)
 }
 
-/// Returns the files at fixed paths that a package's folder has. Each of these files is looked up
-/// in turn. A file at or below the target folder is not looked up.
+/// Returns the files at fixed paths that a package's folder has. These files are looked up one
+/// after another. A file at or below the target folder is not looked up.
 ///
 /// Errors: `Place` with the call's path, if a call failed; `OutOfMemory`.
 fn files_there<P: Place>(
