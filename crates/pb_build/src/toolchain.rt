@@ -86,8 +86,8 @@ fn start<P: Place>(
     ensures only { ChangesOnlyInSome command.now.out (P.at place.old).world
         (P.at place.new).world }
 
-    // How the greatest number of children in flight changes. After a fault, it may not count this
-    // child.
+    // How the greatest number of children in flight changes. After a fault, the number may or may
+    // not count this child.
     ensures most { OnOk result ((P.at place.new).most
         ≡ max (P.at place.old).most (length (P.at place.old).counts.starts.flying + 1)) }
     ensures most_else { OnErr result (((P.at place.new).most ≡ (P.at place.old).most)

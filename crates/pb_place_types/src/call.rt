@@ -19,12 +19,12 @@ pub enum Call {
     IsFile(PathText),
     /// All files below a folder are listed.
     List(PathText),
-    /// The files below the first path are listed, except files at or below the second path.
+    /// The files below the first folder are listed, except files at or below the second path.
     ListOutside(PathText, PathText),
     /// The files directly in a folder are listed.
     ListDirectly(PathText),
-    /// The folders directly in the first path are listed, except folders in which all files are at
-    /// or below the second path.
+    /// The folders directly in the first folder are listed, except folders in which all files are
+    /// at or below the second path.
     ListFolders(PathText, PathText),
     /// A file is written.
     Write(PathText),
