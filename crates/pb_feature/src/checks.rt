@@ -60,7 +60,7 @@ fn first_of(
     }
 }
 
-/// Of the packages with a wrong item, returns the first in byte order of names.
+/// Returns the first package with a wrong item, in byte order of names.
 fn first_fault(packages: &[Package]) -> Option<First>
     ensures { IsSofar packages.now (length packages.now) result }
 {

@@ -70,9 +70,9 @@ fn carry_out<O: Out>(alloc: Global, bytes: &[u8], out: &mut O) -> Result<bool, B
     Ok(written)
 }
 
-/// The session program. A session is read from bytes and run in memory with the small compiler as
-/// its child. All message lines of its builds are written to `out`, and then one result line for
-/// each build, followed by a line feed.
+/// Runs a session, and returns the exit status. The session is read from bytes and run in memory
+/// with the small compiler as its child. All message lines of its builds are written to `out`, and
+/// then one result line for each build, followed by a line feed.
 ///
 /// The status is 0, or 1 with `error: bad session` and a line feed on `err`. The status is 1 if:
 ///

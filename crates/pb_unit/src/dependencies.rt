@@ -134,7 +134,8 @@ fn needed_number(need: Need, owner: usize, side: Side) -> usize
     }
 }
 
-/// For the package at an index, adds the needs of this kind to which its enabled entries lead.
+/// Adds the numbers of the units that the package at an index needs in this way, because its
+/// enabled entries lead to them.
 pub(crate) fn add_needed(
     numbers: &mut Vec<usize>,
     workspace: &SettledWorkspace,
