@@ -76,7 +76,7 @@ pub enum WorkspaceSource {
 /// An entry of `[workspace.dependencies]`. Its `optional` has no effect.
 #[derive(Drop)]
 pub struct WorkspaceDependency {
-    /// The name by which packages inherit it, with the letters of package names.
+    /// The name by which packages inherit this entry, with the letters of package names.
     pub key: Text,
     /// The source of the dependency.
     pub source: WorkspaceSource,

@@ -15,7 +15,8 @@ use std::alloc::{AllocError, Global};
 use std::process::{Child, Processes};
 use std::rt::{Env, Files};
 
-/// When a child was spawned, by the clock of the file system of its output folder.
+/// When a child was spawned, by the clock of the file system that contains the child's output
+/// folder.
 #[derive(Drop)]
 pub(crate) struct Spawned {
     /// The output folder.

@@ -35,8 +35,8 @@ pub struct Planned {
     pub unit: Unit,
     /// Its key.
     pub key: Text,
-    /// Its output folder: the folder with the unit's key as its name, in the folder of the profile,
-    /// in the target folder.
+    /// Its output folder. This folder has the unit's key as its name. It is in the folder of the
+    /// profile, which is in the target folder.
     pub out: PathText,
     /// Its level: 0 if the unit needs nothing, and otherwise one more than the greatest level of
     /// the units that it needs.
