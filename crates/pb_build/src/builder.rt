@@ -282,8 +282,9 @@ pub fn prepare<P: Place>(
     }
 }
 
-/// Runs a planned build, but does not write its finish line. If no call came between the planning
-/// and this call, the contract describes all changes since the planning began.
+/// Runs a planned build, but does not write its finish line. Suppose that no call of the place came
+/// between the planning and this call. Then the contract describes all changes since the planning
+/// began.
 fn work<P: Place, O: Out, T: Turn>(
     alloc: Global,
     place: &mut P,
@@ -346,13 +347,13 @@ fn close<O: Out>(out: &mut O, inner: Result<Summary, BuildFault>) -> Result<Summ
 /// Builds what was planned, as `build_turns` does after its plan. A turn chooses the steps. If the
 /// plan failed, the build ends as `build_turns` ends after a failed plan.
 ///
-/// Suppose that since the planning began no other call of the place was made and nothing was
-/// written. Then the build ends as `build_turns` promises (`builds`), from the moment before the
-/// planning.
+/// Suppose that no call of the place came between the planning and this call, and that nothing was
+/// written. Then the build ends as `build_turns` promises (`builds`), seen from the moment before
+/// the planning.
 ///
-/// The plan may be older, or made with other options. Then this call runs the units of the plan's
-/// own project in the plan's own environment, but with these options. It uses the records of the
-/// plan's own profile folder.
+/// The plan may be older, or may have been made with options that differ from `options`. Even then
+/// this call takes the project, the environment and the folder of records from the plan. All else
+/// is as `options` say.
 pub fn build_plan_turns<P: Place, O: Out, T: Turn>(
     alloc: Global,
     place: &mut P,
@@ -419,8 +420,8 @@ pub fn build_plan<P: Place, O: Out>(
 /// The turn chooses which unit begins or answers next. The turns end when all units have answered,
 /// or when all units up to and including the first bad unit have answered. A unit's child is
 /// started only if something differs from the unit's record. Message lines are written in plan
-/// order, as units answer. At the end, or after a fault, the children in flight are awaited, in the
-/// order in which they began, and their answers are dropped.
+/// order, as units answer. At the end, or after a fault, the build waits for the children in
+/// flight, in the order in which they began. Their answers are dropped.
 ///
 /// Errors:
 ///

@@ -22,8 +22,8 @@ pub fn earlier_builds_change_nothing()
 {}
 
 /// A world has only one result. The result is a refusal with its reason, a compiler without a
-/// reported version, or the units of a plan with their outcomes. Two results of the same world are
-/// equal in this sense.
+/// reported version, or the units of a plan with their outcomes. Any two results of the same world
+/// agree in these parts.
 pub fn worlds_have_one_result()
     ensures { HasOneResult }
 {}
@@ -43,19 +43,21 @@ pub fn records_stay_true()
 {}
 
 /// After any edits and builds, a build of a session produces what a clean build of the present
-/// workspace produces. If a fault ends the build, only a prefix of these lines has been written.
+/// workspace produces. If a fault ends the build, only a prefix of the clean build's lines has been
+/// written.
 pub fn any_build_gives()
     ensures { AnyBuildGives }
 {}
 
-/// After a successful build over true records with an honest child, the same build reports no unit
-/// as started, whichever turn it uses.
+/// Take a successful build over true records with an honest child, and run the same build again.
+/// The second build reports no unit as started. The two builds may use different turns.
 pub fn same_build_starts_none<T: Turn, U: Turn>()
     ensures { SameBuildStartsNone T.turns U.turns }
 {}
 
-/// The headline follows from `Builds`, and from `BuildsFirst`. These definitions say how the work
-/// of a build ended and what was written afterwards. The program promises no more than that.
+/// The headline follows from `Builds`, and also from `BuildsFirst`. Both definitions say how the
+/// work of a build ended, and what was written afterwards. The program promises no more about a
+/// build.
 pub fn builds_keep_the_headline<T: Turn>()
     ensures turns { BuildsKeepHeadline T.turns }
     ensures first { FirstBuildsKeepHeadline }

@@ -175,8 +175,8 @@ fn light<C: Child>(memory: &mut Memory<C>, number: u64) -> Result<(), AllocError
     Ok(())
 }
 
-/// Takes steps in turn over a place in memory with no child in flight, and returns an answer for
-/// each build. All builds write their message lines to one sink.
+/// Takes steps, one after another, over a place in memory with no child in flight. Returns an
+/// answer for each build. All builds write their message lines to one sink.
 ///
 /// Each build ends as `build` promises, in the world that the earlier steps left. The session
 /// reports the cause of each end. If nothing was set to fail, and nothing has failed, no call of a

@@ -19,8 +19,8 @@ use pb_directive::texts::text_of;
 use pb_place_types::{Command, Ended, Place, StartFault};
 use std::alloc::Global;
 
-/// Returns whether a line reports the host: whether the line is `host: ` and then a text that is
-/// not empty.
+/// Returns whether a line reports the host: whether the line consists of `host: ` and a text that
+/// is not empty.
 fn is_host(line: &[u8]) -> bool
     ensures { result ≡ is_host line.now }
 {
@@ -58,8 +58,8 @@ fn toolchain_in(ended: Ended) -> Option<Bytes>
     }
 }
 
-/// Returns the fault of a child that did not answer, with the child's name. Out of memory has no
-/// name.
+/// Returns the fault of a child that did not answer, with the child's name. The fault `OutOfMemory`
+/// contains no name.
 fn childless(unit: Text, fault: StartFault) -> BuildFault
     ensures { result ≡ child_fault unit fault }
 {
@@ -86,7 +86,8 @@ fn start<P: Place>(
     ensures only { ChangesOnlyInSome command.now.out (P.at place.old).world
         (P.at place.new).world }
 
-    // The greatest number of children in flight. After a fault, this child may not be counted.
+    // How the greatest number of children in flight changes. After a fault, the number may or may
+    // not count this child.
     ensures most { OnOk result ((P.at place.new).most
         ≡ max (P.at place.old).most (length (P.at place.old).counts.starts.flying + 1)) }
     ensures most_else { OnErr result (((P.at place.new).most ≡ (P.at place.old).most)

@@ -1,5 +1,6 @@
-//! Laws of a build, stated independently of the code: its environment, the difference of a unit's
-//! command, the next unit, the states of units, what a unit produces and reports, and the summary.
+//! Laws of a build, stated independently of the code. They are about the build's environment, the
+//! difference of a unit's command, the next unit, and the states of units. They are also about what
+//! a unit produces and reports, and about the summary.
 #![tactic(auto)]
 
 ghost use Rattle.pb_build_laws.specs.Calls.{CallsAreTold};
@@ -19,9 +20,9 @@ pub fn asked_part_for_part()
     ensures { AskedPartForPart }
 {}
 
-/// A law: the first name at which the variables of a recorded command and of a unit's command
-/// differ is the least such name, in byte order. Either the texts of this name differ, or only one
-/// of the two commands has the name.
+/// A law about the first name at which the variables of a recorded command and of a unit's command
+/// differ. No lesser name, in byte order, differs. At the first name, either the two texts differ,
+/// or only one of the two commands has the name.
 pub fn first_name_is_least()
     ensures { FirstNameIsLeast }
 {}
@@ -31,9 +32,9 @@ pub fn summaries_say()
     ensures { SummariesSay }
 {}
 
-/// A law about the events of a build. If fewer units are in flight than there are jobs, a unit
-/// begins: the first unit, in plan order, that may begin. Otherwise the unit that began first
-/// answers.
+/// A law about the events of a build that always picks the first unit that may begin, in plan
+/// order. If fewer units are in flight than there are jobs, and some unit may begin, the first of
+/// these units begins. Otherwise the unit in flight that began first answers.
 pub fn builds_go_in_turn()
     ensures { BuildsGoInTurn }
 {}
@@ -46,8 +47,9 @@ pub fn units_tell()
     ensures bad { BadUnitsTell }
 {}
 
-/// A law about the outcomes of a build. A list contains these outcomes if and only if each unit has
-/// its outcome in the list. The outcome of a unit follows from the outcomes of the units before it.
+/// A law about the outcomes of a build's units. A list is the list of these outcomes if and only if
+/// each unit has its outcome in the list. The outcome of a unit follows from the outcomes of the
+/// units before it.
 pub fn outcomes_are_these()
     ensures { OutcomesAreThese }
 {}

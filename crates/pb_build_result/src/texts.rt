@@ -16,7 +16,7 @@ pub(crate) fn join_texts(alloc: Global, parts: &[&str]) -> Result<String, AllocE
     Ok(text)
 }
 
-/// Returns a text between two others.
+/// Returns a text, put between two other texts.
 pub(crate) fn between(
     alloc: Global,
     before: &str,

@@ -14,8 +14,8 @@ use pb_place_types::StartFault;
 pub enum Death {
     /// The program could not be started. No file remains.
     CannotStart,
-    /// The child ended without a status. Of the files of its reply, in byte order of their paths,
-    /// the first half remains. If the number of files is odd, the half is rounded down.
+    /// The child ended without a status. The first half of the reply's files remains, in byte order
+    /// of their paths. If the number of files is odd, the half is rounded down.
     Died,
     /// The child's output could not be captured. The same half of the files remains.
     Capture,

@@ -3,8 +3,9 @@
 ghost use Rattle.pb_build_session.specs.Laws.{StepsJoin, OptionsHaveDefaults};
 ghost use Rattle.pb_build_session.specs.Numbers.{DigitsAreTaken, MinusIsBad, PointIsBad, ExponentIsBad};
 
-/// A law: the steps are in the list's order. If two lists of values are joined, the steps of the
-/// first come before those of the second. The first bad value makes the session bad.
+/// A law: the steps of a session are in the order of its list. If two lists of values are joined,
+/// the steps of the first list come before the steps of the second list. The first bad value makes
+/// the session bad.
 pub fn steps_stand_in_order()
     ensures { StepsJoin }
 {}

@@ -248,7 +248,7 @@ fn default_tools(alloc: Global) -> Result<Tools, AllocError>
     Ok(Tools { runner, tool })
 }
 
-/// Returns the options made of their parts.
+/// Returns the options that consist of these parts.
 fn options_of_parts(
     asked: OptionValues,
     featured: Featured,

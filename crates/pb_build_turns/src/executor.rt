@@ -1,4 +1,5 @@
-//! The executor of a build's units, which begins them, takes their answers, and writes their lines.
+//! The executor of a build's units: it begins the units, takes their answers, and writes their
+//! lines.
 
 ghost use Rattle.std.specs.Prelude.{◌≡◌, ◌<◌, ◌++◌, ◌∷◌, [], ℕ, Bool, is_some, vec_len, vec_capacity, List, Option, length, IfOk, OnOk, MatchResult, Some, Contains, slice_get, slice_set, take};
 ghost use Rattle.std.specs.Io.KnownBytes.{Appends};
@@ -54,7 +55,7 @@ pub struct UnitExecutor {
     pub reasons: Vec<Option<Option<Difference>>>,
 }
 
-/// Adds an item to a list that has space for it.
+/// Adds an item to a list that has space for one more item.
 fn put<T: Drop>(items: &mut Vec<T>, item: T)
     requires { vec_len items.old < vec_capacity items.old }
     ensures { items.new.items ≡ items.old.items ++ item ∷ [] }
@@ -221,7 +222,7 @@ fn answer_at<P: Place>(
         StoryEnds P.is_modelled P.child e (Some unit) first at crew.new
         (moment (P.at place.new) heard) (P.at place.new).still es) }
 {
-    // The unit leaves the list first: even after a fault it is no longer in flight.
+    // The unit leaves the list first, so that it is no longer in flight even after a fault.
     let RunningUnit { unit, begun } = crew.running.remove(index);
     let project = &crew.project;
     let planned = &project.units()[unit];

@@ -154,7 +154,7 @@ fn kept_of(
     Ok(kept)
 }
 
-/// Returns the fault of a unit, if it has answered and is bad.
+/// Returns the fault of a unit, if the unit has answered and is bad.
 fn fault_of(state: State<BadUnit>) -> Option<BadUnit>
     ensures { result ≡ fault_of state }
 {
@@ -208,8 +208,8 @@ fn told_apart(alloc: Global, bad: Option<(Text, BadUnit)>) -> (Option<(Text, Uni
     }
 }
 
-/// Returns the number of reported units, from the start of plan order. These are all units, or all
-/// units up to and including the first bad unit.
+/// Returns the number of reported units, from the start of plan order. All units are reported, or
+/// else all units up to and including the first bad unit.
 fn count_told(units: usize, bad: Option<usize>) -> usize
     requires { IfSome bad (λ place. place < units) }
     ensures { result ≡ count_told units bad }

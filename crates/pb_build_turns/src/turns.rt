@@ -103,8 +103,8 @@ fn sum_up(
 /// Errors:
 ///
 /// - `Child` if a child cannot be spawned or does not answer.
-/// - `Device` if a file, a folder or a variable cannot be read, if a record or a file cannot be
-///   written or removed, or if no run number is left.
+/// - `Device` if a file, a folder or a variable cannot be read. Also `Device` if a record or a file
+///   cannot be written or removed, or if no run number is left.
 /// - `Sink` if the sink fails.
 /// - `OutOfMemory`.
 pub fn run_turns<P: Place, O: Out, T: Turn>(

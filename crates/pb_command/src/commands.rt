@@ -103,8 +103,8 @@ struct Asking {
     pairs: Items<(Text, Text)>,
 }
 
-/// The folders that a unit's child writes and may read, the target folder, and the compiler's
-/// version.
+/// The folder into which a unit's child writes, the folders that the child may read, the target
+/// folder, and the compiler's version.
 #[derive(Drop)]
 struct Surroundings {
     out: PathText,
@@ -113,8 +113,8 @@ struct Surroundings {
     reads: Items<PathText>,
 }
 
-/// Returns the folders that a unit's child writes and may read, the target folder, and the
-/// compiler's version.
+/// Returns the folder into which a unit's child writes, the folders that the child may read, the
+/// target folder, and the compiler's version.
 fn surroundings_of(
     alloc: Global,
     setup: &Setup,
@@ -349,8 +349,8 @@ fn nothing_of(alloc: Global, setup: &Setup, project: &Project) -> Result<Command
 ///
 /// A run starts the build script in its package's folder, after the runner if there is one. The
 /// variables are those of The Cargo Book, Environment Variables, and those that the package's
-/// script has set. If both set a variable, the script's value counts. The child may read the
-/// folders of all units that its unit reaches.
+/// script has set. If a variable is in both groups, the script's value counts. The child may read
+/// the folders of all units that its unit reaches.
 ///
 /// Errors: out of memory.
 pub fn command(

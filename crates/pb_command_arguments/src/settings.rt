@@ -36,7 +36,7 @@ fn is_binary(what: &What) -> bool
     }
 }
 
-/// Returns whether the other value exists and is equal to this value.
+/// Returns whether `other` is a value, and is equal to `value`.
 fn is_value(other: Option<Setting>, value: Setting) -> bool
     ensures { result ≡ is_value other value }
 {

@@ -18,8 +18,8 @@ pub fn compiles_say()
     ensures { CompilesSay }
 {}
 
-/// A law: arguments that were read by this grammar can be made again from the result. So no
-/// argument is skipped.
+/// A law: if arguments are read by this grammar, the same arguments can be made from the result. So
+/// no argument is skipped.
 pub fn sayings_keep_words()
     ensures { SayingsKeepWords }
 {}

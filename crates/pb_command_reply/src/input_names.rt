@@ -243,7 +243,7 @@ fn names_of(alloc: Global, command: &Command) -> Result<OrderedSet, AllocError>
     names_set(alloc, command.pairs.as_slice())
 }
 
-/// Returns the names that are not among the others.
+/// Returns the names that are not among `others`.
 fn names_but(alloc: Global, names: &[Text], others: &OrderedSet) -> Result<Items<Text>, AllocError>
     ensures { IfOk result (λ left. left
         ≡ filter (λ name. not (is_mentioned others.now name)) names.now) }

@@ -164,7 +164,7 @@ fn changed_variables(alloc: Global, said: &[Directive]) -> Result<Items<Text>, A
     Ok(names)
 }
 
-/// Returns the inputs for the paths and variables in lines.
+/// Returns the inputs for the paths and the names of variables that lines of a script contain.
 fn marked_inputs<M: Meaning>(
     alloc: Global,
     meaning: &M,

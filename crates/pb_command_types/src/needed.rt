@@ -68,7 +68,7 @@ fn is_run_of(project: &Project, place: usize, owner: usize) -> bool
     }
 }
 
-/// Returns the index of the library of a package, if a unit needs it.
+/// Returns the index of the library of a package, if a unit needs this library.
 fn needed_library(project: &Project, unit: &Planned, owner: usize) -> Option<usize>
     ensures { result ≡ needed is_library project.now unit.now owner }
 {
@@ -79,7 +79,7 @@ fn needed_library(project: &Project, unit: &Planned, owner: usize) -> Option<usi
         .find(|place| is_library_of(project, *place, owner))
 }
 
-/// Returns the index of the script of a package, if a unit needs it.
+/// Returns the index of the script of a package, if a unit needs this script.
 fn needed_script(project: &Project, unit: &Planned, owner: usize) -> Option<usize>
     ensures { result ≡ needed is_script project.now unit.now owner }
 {
@@ -90,7 +90,7 @@ fn needed_script(project: &Project, unit: &Planned, owner: usize) -> Option<usiz
         .find(|place| is_script_of(project, *place, owner))
 }
 
-/// Returns the index of the run of a unit's own package, if the unit needs it.
+/// Returns the index of the run of a unit's own package, if the unit needs this run.
 pub fn own_run(project: &Project, unit: &Planned) -> Option<usize>
     ensures { result ≡ own_run project.now unit.now }
 {
@@ -119,7 +119,7 @@ fn file_at(
     }
 }
 
-/// Returns the file of the library of a package, if a unit needs it.
+/// Returns the file of the library of a package, if a unit needs this library.
 ///
 /// Errors: only out of memory.
 pub fn library_file(
@@ -133,7 +133,7 @@ pub fn library_file(
     file_at(alloc, project, needed_library(project, unit, owner))
 }
 
-/// Returns the file of the script of a unit's own package, if the unit needs it.
+/// Returns the file of the script of a unit's own package, if the unit needs this script.
 ///
 /// Errors: only out of memory.
 pub fn script_file(

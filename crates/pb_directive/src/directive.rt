@@ -22,7 +22,7 @@ pub enum Directive {
     LinkArgExamples(Text),
     /// `rustc-link-arg-benches`: a flag that has no effect here.
     LinkArgBenches(Text),
-    /// `rustc-link-arg-bin`: a binary's name, and a flag for its linker.
+    /// `rustc-link-arg-bin`: a binary's name, and a flag for the linker of this binary.
     LinkArgBin(Text, Text),
     /// `rustc-link-lib`: a library to link.
     LinkLib(Text),

@@ -5,7 +5,8 @@ ghost use Rattle.pb_directive.specs.Directives.{key_of, new_key_of};
 
 use crate::directive::Key;
 
-/// Returns the key with this name. The key has the same name after `cargo::` and after `cargo:`.
+/// Returns the key that has this name both after `cargo::` and after `cargo:`, if there is such a
+/// key.
 pub fn key_of(name: &str) -> Option<Key>
     ensures { result ≡ key_of name.now }
 {

@@ -116,8 +116,8 @@ fn add_line(alloc: Global, line: &[u8], found: &mut Directives) -> Result<(), Pr
 /// with neither `cargo::` nor `cargo:`, means nothing. After the prefix comes the key, up to the
 /// first `=`.
 ///
-/// After `cargo:`, a line without `=` means nothing. Any other key after `cargo:` is metadata, and
-/// so are the keys `metadata` and `error`.
+/// After `cargo:`, a line without `=` means nothing. After `cargo:`, the keys `metadata` and
+/// `error` and all unknown keys are metadata.
 ///
 /// Errors: the error of the first faulty line, with the line's number, counted from 1:
 ///

@@ -8,7 +8,7 @@ use crate::texts::{has_nul, split_at_equals};
 use pb_data::Text;
 use std::alloc::Global;
 
-/// Returns a value, if it does not contain byte 0.
+/// Returns a value as a text, if the value does not contain byte 0.
 pub fn plain(alloc: Global, value: &str) -> Result<Text, Problem>
     ensures { LineGives result (plain value.now) }
 {
@@ -18,7 +18,7 @@ pub fn plain(alloc: Global, value: &str) -> Result<Text, Problem>
     Ok(Text::from_str(alloc, value)?)
 }
 
-/// Returns a value, if it is not empty and does not contain byte 0.
+/// Returns a value as a text, if the value is not empty and does not contain byte 0.
 pub fn unless_empty(alloc: Global, value: &str) -> Result<Text, Problem>
     ensures { LineGives result (filled value.now) }
 {
@@ -29,7 +29,8 @@ pub fn unless_empty(alloc: Global, value: &str) -> Result<Text, Problem>
     Ok(text)
 }
 
-/// Returns the name of a variable, if it is not empty and contains neither `=` nor byte 0.
+/// Returns a value as the name of a variable, if the value is not empty and contains neither `=`
+/// nor byte 0.
 pub fn variable(alloc: Global, value: &str) -> Result<Text, Problem>
     ensures { LineGives result (variable value.now) }
 {

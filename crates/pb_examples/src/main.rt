@@ -27,7 +27,7 @@ use std::{env, fs, io};
 /// The programs, by the names under which they are started.
 const PROGRAMS: [&str; 2] = ["pb_mini", "pb_tool"];
 
-/// The names of the files of sessions and scripts, in byte order.
+/// Returns the names of the files of sessions and scripts, in byte order.
 fn names(rt: &HostRuntime) -> io::Result<Vec<String>> {
     let mut names = Vec::new(rt.alloc());
     for entry in fs::read_dir(rt, ".")? {
@@ -41,7 +41,8 @@ fn names(rt: &HostRuntime) -> io::Result<Vec<String>> {
     Ok(names)
 }
 
-/// The name under which this program was started; empty if it is not known.
+/// Returns the name under which this program was started, or an empty text if the name is not
+/// known.
 fn own_name(rt: &HostRuntime) -> io::Result<String> {
     let mut bytes = [0u8; 4096];
     let Ok(length) = rt.arg(0, &mut bytes) else {

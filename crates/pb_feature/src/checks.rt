@@ -1,5 +1,5 @@
-//! Checks the items of all packages. The fault of the first package in byte order of names is
-//! returned.
+//! Checks the items of all packages. If several packages have wrong items, the fault of the first
+//! of them, in byte order of names, is returned.
 
 ghost use Rattle.std.specs.Prelude.{◌≡◌, ℕ, ◌+◌, ◌<◌, None, length, OnOk, IfErr};
 ghost use Rattle.pb_feature.specs.Checked.{is_lesser, is_lesser_at, picked, IsFirstBelow, IsSofar};
@@ -60,7 +60,7 @@ fn first_of(
     }
 }
 
-/// Of the packages with a wrong item, returns the first in byte order of names.
+/// Returns the first package with a wrong item, in byte order of names.
 fn first_fault(packages: &[Package]) -> Option<First>
     ensures { IsSofar packages.now (length packages.now) result }
 {

@@ -34,7 +34,7 @@ fn packages_of<'a>(selected: &'a SelectedWorkspace<'_>) -> &'a [Package]
     selected.workspace().get().packages.as_slice()
 }
 
-/// Returns which numbers follow from what is chosen.
+/// Returns, for each number, whether it follows from what is chosen.
 fn marks_of(
     alloc: Global,
     selected: &SelectedWorkspace<'_>,
@@ -111,8 +111,9 @@ fn resolve_checked(
     Ok(features)
 }
 
-/// Returns which packages, features and entries are on, on each of two sides. This is the least set
-/// of what is chosen and what the rules yield (The Cargo Book, Features, resolver 2).
+/// Returns which packages, features and entries are on, on each of two sides. The result is the
+/// least set that contains what is chosen and all that the rules yield from the set (The Cargo
+/// Book, Features, resolver 2).
 ///
 /// Errors: the first of these that occurs, or out of memory at any time.
 ///

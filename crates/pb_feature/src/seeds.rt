@@ -60,7 +60,7 @@ fn is_chosen(
     Ok(is)
 }
 
-/// Adds a feature of a selected package, if it is chosen.
+/// Adds a feature of a selected package, if the feature is chosen.
 fn add_chosen(
     alloc: Global,
     seeds: &mut Vec<usize>,

@@ -1,4 +1,5 @@
-//! A graph of nodes that need other nodes, a step of its order, and why there is no order.
+//! A graph of nodes that need other nodes, a step of the graph's order, and the reasons why there
+//! is no order.
 
 use pb_data::{Items, Text};
 use std::alloc::{AllocError, AllocFailed};

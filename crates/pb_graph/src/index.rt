@@ -26,7 +26,8 @@ pub(crate) struct Link {
 pub(crate) struct Index {
     /// For each thing, the number of its first link.
     pub heads: Vec<usize>,
-    /// The links. The chain of one thing's links goes from the thing's last link back to the first.
+    /// The links. The chain of a thing's links goes from the thing's last link back to its first
+    /// link.
     pub links: Vec<Link>,
 }
 

@@ -18,7 +18,7 @@ pub struct Extent {
     pub turns: bool,
 }
 
-/// Returns how many nodes one node reaches.
+/// Returns how many nodes a node reaches, and whether the node reaches itself.
 fn extent_of(
     alloc: Global,
     nodes: &[Node],
@@ -42,7 +42,7 @@ fn extent_of(
     })
 }
 
-/// Returns how many nodes each node of a list reaches.
+/// Returns, for each node of a list, how many nodes it reaches, and whether it reaches itself.
 pub fn extents_of(
     alloc: Global,
     nodes: &[Node],

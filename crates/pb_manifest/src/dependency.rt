@@ -30,7 +30,7 @@ fn own_path(taken: bool, path: Option<WrittenPath>) -> Result<Option<WrittenPath
     }
 }
 
-/// Returns the keys of an entry from `path` to `workspace`.
+/// Returns the keys of an entry, in byte order from `path` to `workspace`.
 fn last_keys(alloc: Global, table: &Table) -> Result<LastKeys, ManifestFault>
     ensures { UnlessOom result (last_keys (table_view table.now)) }
 {

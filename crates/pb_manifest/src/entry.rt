@@ -1,4 +1,4 @@
-//! Reads the keys of an entry of any table of dependencies.
+//! Reads the keys of a dependency's entry, in any of the tables of dependencies.
 
 ghost use Rattle.std.specs.Prelude.{◌≡◌, true};
 ghost use Rattle.toml.specs.View.{table_view};
@@ -12,7 +12,7 @@ use pb_manifest_types::{Key, ManifestFault, PathSource, Requirement, WrittenPath
 use std::alloc::Global;
 use toml::Table;
 
-/// The keys of an entry from `default-features` to `package`.
+/// The keys of an entry, in byte order from `default-features` to `package`.
 #[derive(Drop)]
 pub(crate) struct FirstKeys {
     pub default_features: Option<bool>,
@@ -21,8 +21,8 @@ pub(crate) struct FirstKeys {
     pub package: Option<Text>,
 }
 
-/// The keys of an entry from `path` to `workspace`. The field `path` is `None` if no path is
-/// written, or if the path has no effect.
+/// The keys of an entry, in byte order from `path` to `workspace`. The field `path` is `None` if no
+/// path is written, or if the path has no effect.
 #[derive(Drop)]
 pub(crate) struct LastKeys {
     pub path: Option<WrittenPath>,
@@ -56,8 +56,8 @@ fn workspace_at(table: &Table) -> Result<(), ManifestFault>
     }
 }
 
-/// Returns the keys of an entry from `default-features` to `package`. `git` is refused unless
-/// unsupported sources are kept.
+/// Returns the keys of an entry, in byte order from `default-features` to `package`. If `keeps` is
+/// false, `git` is refused.
 pub(crate) fn first_keys(
     alloc: Global,
     keeps: bool,

@@ -20,7 +20,7 @@ use pb_manifest_types::{
 use std::alloc::Global;
 use toml::{Table, Value};
 
-/// The keys of `[package]` from `authors` to `edition`.
+/// The keys of `[package]`, in byte order from `authors` to `edition`.
 #[derive(Drop)]
 struct FirstKeys {
     authors: Inheritable<Items<Text>>,
@@ -30,7 +30,7 @@ struct FirstKeys {
     edition: Inherited<Edition>,
 }
 
-/// The keys of `[package]` from `homepage` to `name`.
+/// The keys of `[package]`, in byte order from `homepage` to `name`.
 #[derive(Drop)]
 struct MiddleKeys {
     homepage: Inheritable<Text>,
@@ -40,7 +40,7 @@ struct MiddleKeys {
     name: Text,
 }
 
-/// The keys of `[package]` from `readme` to `version`.
+/// The keys of `[package]`, in byte order from `readme` to `version`.
 #[derive(Drop)]
 struct LastKeys {
     readme: Inheritable<Readme>,
@@ -190,7 +190,7 @@ fn readme_or_taken(alloc: Global, value: &Value) -> Result<Inheritable<Readme>, 
     Ok(Inheritable::Written(readme))
 }
 
-/// Returns the value at `readme`, which may be inherited from the workspace.
+/// Returns the value at `readme`. The value may be inherited from the workspace.
 fn inheritable_readme_at(alloc: Global, table: &Table) -> Result<Inheritable<Readme>, ManifestFault>
     ensures { UnlessOom result (inheritable_readme_at (table_view table.now)) }
 {
@@ -213,7 +213,7 @@ pub(crate) fn resolver_at(alloc: Global, table: &Table) -> Result<(), ManifestFa
     }
 }
 
-/// Returns the keys of `[package]` from `authors` to `edition`.
+/// Returns the keys of `[package]`, in byte order from `authors` to `edition`.
 fn first_keys(alloc: Global, table: &Table) -> Result<FirstKeys, ManifestFault>
     ensures { UnlessOom result (first_keys (table_view table.now)) }
 {
@@ -231,7 +231,7 @@ fn first_keys(alloc: Global, table: &Table) -> Result<FirstKeys, ManifestFault>
     })
 }
 
-/// Returns the keys of `[package]` from `homepage` to `name`.
+/// Returns the keys of `[package]`, in byte order from `homepage` to `name`.
 fn middle_keys(alloc: Global, table: &Table) -> Result<MiddleKeys, ManifestFault>
     ensures { UnlessOom result (middle_keys (table_view table.now)) }
 {
@@ -249,7 +249,7 @@ fn middle_keys(alloc: Global, table: &Table) -> Result<MiddleKeys, ManifestFault
     })
 }
 
-/// Returns the keys of `[package]` from `readme` to `version`.
+/// Returns the keys of `[package]`, in byte order from `readme` to `version`.
 fn last_keys(alloc: Global, table: &Table) -> Result<LastKeys, ManifestFault>
     ensures { UnlessOom result (last_keys (table_view table.now)) }
 {

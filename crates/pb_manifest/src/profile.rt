@@ -95,7 +95,7 @@ fn is_built_in(name: &str) -> bool
     name == "dev" || name == "release" || name == "test" || name == "bench"
 }
 
-/// Returns whether a profile with this name may be written, with this `inherits`.
+/// Returns whether a manifest may contain a profile with this name and this `inherits`.
 #[tactic(auto, unfolding(crate::specs::Profiles::may_be_profile))]
 fn may_be_profile(name: &str, inherits: &Option<Text>) -> bool
     ensures { result ≡ may_be_profile name.now inherits.now }

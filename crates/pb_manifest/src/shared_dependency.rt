@@ -16,7 +16,8 @@ use pb_manifest_types::{
 use std::alloc::Global;
 use toml::{Table, Value};
 
-/// Returns the path of an entry. Next to `git` or `registry`, the entry has no path.
+/// Returns the path of an entry. An entry with `git` or `registry` counts as an entry without a
+/// path.
 fn supported_path(table: &Table, path: Option<WrittenPath>) -> Option<WrittenPath>
     ensures { result ≡ supported_path (table_view table.now) path }
 {
@@ -27,7 +28,7 @@ fn supported_path(table: &Table, path: Option<WrittenPath>) -> Option<WrittenPat
     }
 }
 
-/// Returns the keys of an entry from `path` to `workspace`.
+/// Returns the keys of an entry, in byte order from `path` to `workspace`.
 fn shared_keys(alloc: Global, table: &Table) -> Result<LastKeys, ManifestFault>
     ensures { UnlessOom result (shared_keys (table_view table.now)) }
 {

@@ -11,7 +11,7 @@ use pb_manifest_types::{Inheritable, Key, ManifestFault, WrittenPath};
 use std::alloc::{AllocError, Global};
 use toml::{Table, Value};
 
-/// Returns the value of a name.
+/// Returns the value at the key with this name.
 #[tactic(auto, using(crate::proofs::Tables::found_laws))]
 fn value_named<'a>(table: &'a Table, name: &str) -> Option<&'a Value>
     ensures { option_map (λ v. view v.now) result ≡ get_member name.now (table_view table.now) }
@@ -300,7 +300,7 @@ fn texts_or_taken(
     Ok(Inheritable::Written(texts))
 }
 
-/// Returns the text at a key, which may be inherited from the workspace.
+/// Returns the text at a key. The text may be inherited from the workspace.
 pub(crate) fn inheritable_text_at(
     alloc: Global,
     table: &Table,
@@ -314,7 +314,7 @@ pub(crate) fn inheritable_text_at(
     }
 }
 
-/// Returns the list of texts at a key, which may be inherited from the workspace.
+/// Returns the list of texts at a key. The list may be inherited from the workspace.
 pub(crate) fn inheritable_texts_at(
     alloc: Global,
     table: &Table,

@@ -71,7 +71,7 @@ fn version_or_taken(alloc: Global, value: &Value) -> Result<Inheritable<Version>
     Ok(Inheritable::Written(version))
 }
 
-/// Returns the version at `version`, which may be inherited from the workspace.
+/// Returns the version at `version`. The version may be inherited from the workspace.
 fn inheritable_version_at(
     alloc: Global,
     table: &Table,

@@ -16,7 +16,7 @@ use pb_manifest_types::{
 use std::alloc::Global;
 use toml::Table;
 
-/// The keys of `[workspace.package]` from `authors` to `license`.
+/// The keys of `[workspace.package]`, in byte order from `authors` to `license`.
 #[derive(Drop)]
 struct FirstKeys {
     authors: Option<Items<Text>>,
@@ -26,7 +26,7 @@ struct FirstKeys {
     license: Option<Text>,
 }
 
-/// The keys of `[workspace.package]` from `license-file` to `version`.
+/// The keys of `[workspace.package]`, in byte order from `license-file` to `version`.
 #[derive(Drop)]
 struct LastKeys {
     license_file: Option<Text>,
@@ -36,7 +36,7 @@ struct LastKeys {
     version: Option<Version>,
 }
 
-/// Returns the keys of `[workspace.package]` from `authors` to `license`.
+/// Returns the keys of `[workspace.package]`, in byte order from `authors` to `license`.
 fn first_keys(alloc: Global, table: &Table) -> Result<FirstKeys, ManifestFault>
     ensures { UnlessOom result (first_keys (table_view table.now)) }
 {
@@ -54,7 +54,7 @@ fn first_keys(alloc: Global, table: &Table) -> Result<FirstKeys, ManifestFault>
     })
 }
 
-/// Returns the keys of `[workspace.package]` from `license-file` to `version`.
+/// Returns the keys of `[workspace.package]`, in byte order from `license-file` to `version`.
 fn last_keys(alloc: Global, table: &Table) -> Result<LastKeys, ManifestFault>
     ensures { UnlessOom result (last_keys (table_view table.now)) }
 {

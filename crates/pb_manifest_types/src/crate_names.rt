@@ -35,8 +35,9 @@ pub fn crate_name(alloc: Global, name: &str) -> Result<Text, AllocError>
     Ok(Text::new(made))
 }
 
-/// Returns the name of a package's library, which is also its crate's name. If `[lib]` writes no
-/// name, this is the package's name as a crate name (The Cargo Book, Cargo Targets).
+/// Returns the name of a package's library. The library's crate has the same name. If `[lib]`
+/// writes no name, the result is the package's name as a crate name (The Cargo Book, Cargo
+/// Targets).
 ///
 /// Errors: out of memory only.
 pub fn library_name(

@@ -9,7 +9,7 @@ use std::alloc::{AllocError, Global};
 #[derive(Drop)]
 pub struct PathSource {
     /// The path of the package's folder. The path is relative to the manifest's folder. In
-    /// `[workspace.dependencies]` it is relative to the workspace's root.
+    /// `[workspace.dependencies]` the path is relative to the workspace's root.
     pub path: WrittenPath,
     /// The package's name. `None` means the entry's key.
     pub package: Option<Text>,
@@ -76,7 +76,7 @@ pub enum WorkspaceSource {
 /// An entry of `[workspace.dependencies]`. Its `optional` has no effect.
 #[derive(Drop)]
 pub struct WorkspaceDependency {
-    /// The name by which packages inherit it, with the letters of package names.
+    /// The name by which packages inherit this entry, with the letters of package names.
     pub key: Text,
     /// The source of the dependency.
     pub source: WorkspaceSource,

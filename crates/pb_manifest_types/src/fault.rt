@@ -19,8 +19,8 @@ pub enum ManifestFault {
     #[error("the manifest is not TOML")]
     NotToml,
     /// A value outside `[profile]` has the wrong type, is not an allowed value, or is a path with
-    /// byte 0. The reported key is the key that the rule names. For an entry of a table of
-    /// dependencies or features, it is the key of that table.
+    /// byte 0. The reported key is the key that the rule names. For an entry in a table of
+    /// dependencies or features, the reported key is the key of that table.
     #[error("`{}` has a value that is not allowed", .0.name())]
     BadKind(Key),
     /// The name of a package, a binary or a dependency is missing. Or the name of a package, a

@@ -38,11 +38,12 @@ pub struct WorkspacePackage {
 /// The table `[workspace]` (The Cargo Book, Workspaces).
 #[derive(Drop)]
 pub struct WorkspaceTable {
-    /// Paths and globs, in the manifest's order.
+    /// `members`: paths and globs, in the manifest's order.
     pub members: Items<WrittenPath>,
-    /// Paths and globs, in the manifest's order. `None` if the key is not written.
+    /// `default-members`: paths and globs, in the manifest's order. `None` if the key is not
+    /// written.
     pub default_members: Option<Items<WrittenPath>>,
-    /// Paths, in the manifest's order.
+    /// `exclude`: paths, in the manifest's order.
     pub exclude: Items<WrittenPath>,
     /// `[workspace.package]`. `None` if it is not written.
     pub package: Option<WorkspacePackage>,

@@ -60,7 +60,7 @@ impl TryCopy for Readme {
 /// uses them.
 #[derive(Drop)]
 pub struct Package {
-    /// In the manifest's order.
+    /// `authors`, in the manifest's order.
     pub authors: Inheritable<Items<Text>>,
     /// Whether binaries are discovered. True if the key is not written: our own choice, in every
     /// edition.
@@ -69,24 +69,24 @@ pub struct Package {
     pub build: Build,
     /// `description`.
     pub description: Inheritable<Text>,
-    /// 2015 if it is not written.
+    /// `edition`: 2015 if it is not written.
     pub edition: Inherited<Edition>,
     /// `homepage`.
     pub homepage: Inheritable<Text>,
     /// `license`.
     pub license: Inheritable<Text>,
-    /// Any text.
+    /// `license-file`: any text.
     pub license_file: Inheritable<Text>,
-    /// Any text, even an empty text. `None` if the key is not written.
+    /// `links`: any text, even an empty text. `None` if the key is not written.
     pub links: Option<Text>,
-    /// ASCII letters, digits, `-` and `_`, not empty.
+    /// `name`: ASCII letters, digits, `-` and `_`, not empty.
     pub name: Text,
     /// If the key is not written, the README is discovered.
     pub readme: Inheritable<Readme>,
     /// `repository`.
     pub repository: Inheritable<Text>,
-    /// Any text.
+    /// `rust-version`: any text.
     pub rust_version: Inheritable<Text>,
-    /// 0.0.0 if it is not written.
+    /// `version`: 0.0.0 if it is not written.
     pub version: Inherited<Version>,
 }

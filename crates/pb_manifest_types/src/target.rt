@@ -23,16 +23,17 @@ pub struct Library {
     /// The crate's name: ASCII letters, digits and `_`, not empty. `None` means the package's name
     /// with `_` for each `-`.
     pub name: Option<Text>,
-    /// Relative to the package's folder. `None` means `src/lib.rs`.
+    /// The path of the source, relative to the package's folder. `None` means `src/lib.rs`.
     pub path: Option<WrittenPath>,
 }
 
 /// A table of `[[bin]]`.
 #[derive(Drop)]
 pub struct Binary {
-    /// ASCII letters, digits, `-` and `_`, not empty.
+    /// The name: ASCII letters, digits, `-` and `_`, not empty.
     pub name: Text,
-    /// Relative to the package's folder. `None` means that the file is discovered.
+    /// The path of the source, relative to the package's folder. `None` means that the file is
+    /// discovered.
     pub path: Option<WrittenPath>,
     /// The features that the binary requires.
     pub required_features: Items<Text>,

@@ -36,7 +36,7 @@ fn package_id(alloc: Global, subject: &Subject) -> Result<String, AllocError>
     join_texts(alloc, &["path+file://", folder, "#", name, "@", version])
 }
 
-/// Returns the member for the package of a line.
+/// Returns the member that names the package of a line.
 #[tactic(auto, unfolding(crate::specs::Message::id_text))]
 fn id_text(alloc: Global, subject: &Subject) -> Result<String, AllocError>
     ensures { IfOk result (λ text. string_bytes text ≡ id_text subject.now) }
@@ -120,7 +120,7 @@ fn target_text(alloc: Global, target: &Target) -> Result<String, AllocError>
     )
 }
 
-/// Returns the first members, after the reason, of the lines of a compiled unit. `manifest` and
+/// Returns the members that follow the reason in each line of a compiled unit. `manifest` and
 /// `target` are JSON.
 #[tactic(auto, unfolding(crate::specs::Message::subject_object))]
 fn subject_object(
@@ -138,7 +138,7 @@ fn subject_object(
     )
 }
 
-/// Returns the first members, after the reason, of the lines of a compiled unit.
+/// Returns the members that follow the reason in each line of a compiled unit.
 fn subject_text(alloc: Global, subject: &Subject) -> Result<String, AllocError>
     ensures { IfOk result (λ text. string_bytes text ≡ subject_text subject.now) }
 {

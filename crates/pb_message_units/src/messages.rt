@@ -105,7 +105,7 @@ fn add_notes(
     Ok(())
 }
 
-/// Returns the library to link in a directive.
+/// Returns the library to link that a directive names, if it names such a library.
 fn library_in(alloc: Global, directive: &Directive) -> Result<Option<Text>, AllocError>
     ensures { IfOk result (λ made. made ≡ library_in directive.now) }
 {
@@ -128,7 +128,7 @@ fn libraries_in(alloc: Global, directives: &[Directive]) -> Result<Items<Text>, 
     Ok(made)
 }
 
-/// Returns the search folder for libraries in a directive.
+/// Returns the search folder for libraries that a directive names, if it names such a folder.
 fn search_in(alloc: Global, directive: &Directive) -> Result<Option<Text>, AllocError>
     ensures { IfOk result (λ made. made ≡ search_in directive.now) }
 {
@@ -151,7 +151,7 @@ fn searches_in(alloc: Global, directives: &[Directive]) -> Result<Items<Text>, A
     Ok(made)
 }
 
-/// Returns the condition in a directive.
+/// Returns the condition that a directive turns on, if it turns on a condition.
 fn condition_in(alloc: Global, directive: &Directive) -> Result<Option<Text>, AllocError>
     ensures { IfOk result (λ made. made ≡ condition_in directive.now) }
 {
@@ -174,7 +174,7 @@ fn conditions_in(alloc: Global, directives: &[Directive]) -> Result<Items<Text>,
     Ok(made)
 }
 
-/// Returns the variable in a directive.
+/// Returns the variable that a directive sets, if it sets a variable.
 fn variable_in(alloc: Global, directive: &Directive) -> Result<Option<(Text, Text)>, AllocError>
     ensures { IfOk result (λ made. made ≡ variable_in directive.now) }
 {

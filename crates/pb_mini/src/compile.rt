@@ -238,7 +238,7 @@ fn dep_info_file(
     Ok((path, Bytes::new(text)))
 }
 
-/// Returns the files of a compile: the dep-info and, if it succeeded, the image.
+/// Returns the files of a compile: the dep-info and, if the compile succeeded, the image.
 fn files_of(
     alloc: Global,
     line: &CommandLine,

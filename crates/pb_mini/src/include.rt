@@ -67,7 +67,7 @@ fn variable_of<V: View>(
     }
 }
 
-/// Returns the path with a value instead of its first part.
+/// Returns a path in which a value replaces the first part.
 fn with_first_part(alloc: Global, value: &str, path: &str) -> Result<String, AllocError>
     ensures { IfOk result (λ text. string_bytes text ≡ value.now ++ from_slash path.now) }
 {
@@ -79,7 +79,7 @@ fn with_first_part(alloc: Global, value: &str, path: &str) -> Result<String, All
     Ok(text)
 }
 
-/// Returns the path with the variable's value instead of its first part. The value is empty if the
+/// Returns a path in which the variable's value replaces the first part. The value is empty if the
 /// variable is not set.
 fn expand_path(
     alloc: Global,

@@ -6,11 +6,14 @@ ghost use Rattle.pb_place_types.specs.declared.command.Command.{Command};
 ghost use Rattle.pb_mini.specs.Honesty.{AnswersHonestly, TellsNames};
 ghost use Rattle.pb_mini.specs.declared.command_line.CommandLine.{CommandLine};
 
-/// The small compiler is honest. It replies the same in every world that agrees on two things. The
-/// first is the files and inherited variables that were read. The second is the files below the
-/// folders that the command may read. The image of a run and the files of `--extern` must be
-/// strictly below these folders. If the pairs set a variable, the inherited value of this variable
-/// does not matter.
+/// The small compiler is honest. It returns the same reply in every world in which these are the
+/// same:
+///
+/// - the files and the inherited variables that were read;
+/// - the files below the folders that the command may read.
+///
+/// The image of a run and the files of `--extern` must be strictly below these folders. If the
+/// pairs set a variable, the inherited value of this variable does not matter.
 pub fn is_honest()
     ensures { (c : Command) (v w : World) → AnswersHonestly c v w }
 {}

@@ -67,8 +67,8 @@ fn reply_to<V: View>(
 
 /// Returns the reply of the small compiler to the arguments of a command line.
 ///
-/// - `-vV` alone prints the version. The status is 0. Standard output has a line with name and
-///   number, and a line `host:` with the platform.
+/// - `-vV` alone prints the version. The status is 0. Standard output has a line with the
+///   compiler's name and number, and a line `host:` with the platform.
 /// - `--run PATH` runs an image.
 /// - Other arguments are a compile: `--crate-name NAME` and `--out-dir FOLDER` once each,
 ///   `--crate-type TYPE` at least once, and one source. The first `--crate-type` counts. There may
@@ -87,8 +87,8 @@ fn reply_to<V: View>(
 ///   in front. The first `--extern NAME=PATH` names the file of the library. If there is no such
 ///   argument, the error is `no library NAME`.
 /// - `include PATH` adds each line of the file with `| ` in front. A relative path begins at the
-///   source's folder. If its first part is `$VAR`, the variable's value replaces this part. If
-///   there is no file, the error is `no file PATH`.
+///   source's folder. If the first part of the path is `$VAR`, the variable's value replaces this
+///   part. If there is no file, the error is `no file PATH`.
 /// - `env NAME` adds `env NAME=VALUE`, or `env NAME` if the variable is not set.
 /// - `when COND LINE` does the same as LINE if `--cfg COND` is an argument, and otherwise nothing.
 /// - `warn TEXT` reports a warning, and `fail TEXT` reports an error.
@@ -101,18 +101,18 @@ fn reply_to<V: View>(
 /// **A run** carries out the lines of the image and ignores unknown lines:
 ///
 /// - `print TEXT` writes the text.
-/// - `show NAME` declares a variable, and sets `SHOW_NAME` to its value.
-/// - `read PATH` declares a file, and sets `READ` to its first line.
+/// - `show NAME` declares a variable, and sets `SHOW_NAME` to the variable's value.
+/// - `read PATH` declares a file, and sets `READ` to the file's first line.
 /// - `put NAME TEXT` puts the file NAME into the output folder. If NAME is empty, `.` or `..`, or
 ///   contains a slash or byte 0, the run ends with status 2.
 /// - `exit N` ends with a status from 0 to 255, or with 2 for any other text.
 ///
 /// If there is no image, the status is 2, with `mini: no image` on standard error.
 ///
-/// Our own choices: if the path of the source is not absolute, the error is also `no source`. An
-/// output folder that is not an absolute path, or a crate name that is not a file name, is a bad
-/// command line. A library whose path is not absolute has no file. A line of an image is ignored if
-/// it is not UTF-8.
+/// Our own choices: if the path of the source is not absolute, the error is also `no source`. A
+/// command line is bad if its output folder is not an absolute path, or if its crate name is not a
+/// file name. A library whose path is not absolute has no file. A line of an image is ignored if it
+/// is not UTF-8.
 ///
 /// `pairs` are names and values that override the variables of the view. If several pairs have the
 /// same name, the last one counts.

@@ -178,7 +178,7 @@ fn full_path<V: View>(
     Ok(text)
 }
 
-/// Returns a text as a path, or none if it is not an absolute path.
+/// Returns a text as a path, or none if the text is not an absolute path.
 fn path_in(alloc: Global, text: Text) -> Result<Option<PathText>, AllocError>
     ensures { IfOk result (λ path. path ≡ path_of text) }
 {
@@ -335,7 +335,7 @@ fn do_line<V: View>(
     do_by(alloc, output, pairs, view, deed_of(word), rest)
 }
 
-/// Carries out lines in turn, until one of them ends the script.
+/// Carries out lines, one after another, until a line ends the script.
 fn run_lines<V: View>(
     alloc: Global,
     pairs: &Table<Text>,

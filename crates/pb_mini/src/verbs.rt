@@ -93,8 +93,8 @@ fn condition_of(line: &str) -> Option<(&str, &str)>
     Some(word_and_rest(rest))
 }
 
-/// Returns the line that remains of a line under these conditions: each leading `when COND` is
-/// removed. The remaining line is empty if one of the conditions is not given.
+/// Returns a line without each leading `when COND`. If one of these conditions is not given, the
+/// result is empty.
 fn line_meant<'a>(alloc: Global, given: &OrderedSet, line: &'a str) -> Result<&'a str, AllocError>
     ensures { IfOk result (λ meant. meant.now ≡ line_meant given.now line.now) }
 {
@@ -296,7 +296,7 @@ fn add_line<V: View>(
     Ok(())
 }
 
-/// Carries out lines in turn. The first line has the number 1.
+/// Carries out lines, one after another. The first line has the number 1.
 #[tactic(auto, using(crate::proofs::DoingLemmas::followed_nothing))]
 pub(crate) fn add_lines<V: View>(
     alloc: Global,

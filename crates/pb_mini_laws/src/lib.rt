@@ -1,5 +1,5 @@
-//! Laws of the small compiler. As a child it is honest on the commands of units. So the headline is
-//! true for a build with this child, and nothing is assumed about the child.
+//! Laws of the small compiler. As a child, the small compiler is honest on the commands of units.
+//! So the headline is true for a build with this child, and nothing is assumed about the child.
 #![tactic(auto)]
 
 ghost use Rattle.pb_directive.specs.declared.dep_info.DepInfo.{DepInfo};
@@ -20,14 +20,16 @@ pub fn names_are_read_back()
 {}
 
 /// A law: the small compiler is honest on the command of each unit of a project, whatever earlier
-/// scripts have printed. The small compiler returns a good reply again in every world that agrees
-/// on two things. The first is the values of the inputs that the builder finds in the reply. The
-/// second is the contents of the folders that the command may read.
+/// scripts have printed. If a reply is good, the small compiler returns the same reply in every
+/// world in which these are the same:
+///
+/// - the values of the inputs that the builder finds in the reply;
+/// - the contents of the folders that the command may read.
 ///
 /// The law has these conditions. The project was read and planned: it is settled, has its plan, and
 /// has normalised absolute paths. The user's flags name no libraries, and the small compiler runs
-/// the scripts. The dep-info can express the names of what is read. Each name is not empty, is one
-/// line, and ends so that it is read back.
+/// the scripts. The dep-info can express the names of what is read. Each name is one line, is not
+/// empty, and ends with a byte that is read back as it was written.
 pub fn small_compiler_is_honest()
     ensures { SmallCompilerIsHonest }
 {}
@@ -48,9 +50,10 @@ pub fn small_builds_give<T: Turn>()
 {}
 
 /// A law about a build of a session with the small compiler. Suppose that only edits and builds
-/// came before this build. The edits were outside of the folder of its records, and the builds were
-/// as in `small_builds_give`. Then the build produces what a clean build of the present workspace
-/// produces. If a fault ends the build, only a prefix of these lines has been written.
+/// came before this build. The edits were outside of the folder of this build's records, and the
+/// earlier builds were as in `small_builds_give`. Then the build produces what a clean build of the
+/// present workspace produces. If a fault ends the build, only a prefix of the clean build's lines
+/// has been written.
 ///
 /// If a session file begins without files, the same is true of each of its builds under fewer
 /// conditions:

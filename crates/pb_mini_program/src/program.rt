@@ -18,7 +18,8 @@ use std::alloc::Global;
 
 /// Writes files in a folder, one after another, at their paths relative to the folder.
 ///
-/// Errors: `Write`; `OutOfMemory`. Then the files before the failing file have been written.
+/// Errors: `Write`; `OutOfMemory`. After an error, the files before the failing file have been
+/// written.
 fn write_files<P: Place>(
     alloc: Global,
     place: &mut P,
@@ -88,8 +89,8 @@ fn leave_files<P: Place, V: View>(
 }
 
 /// Replies to arguments as the small compiler does, and returns the status of the reply. The files
-/// of the reply are written into its output folder, and then its two streams are written. Nothing
-/// is written after a failure; earlier writes stay.
+/// of the reply are written into the output folder, and then the reply's two streams are written.
+/// Nothing is written after a failure; earlier writes stay.
 ///
 /// Errors:
 /// - `Read`: the view failed. In this case nothing was written.

@@ -193,7 +193,7 @@ impl<C> Memory<C> {
 }
 
 impl<C: Copy> Memory<C> {
-    /// Takes the place out, and leaves an empty place over the same child.
+    /// Returns this place. Afterwards the reference leads to an empty place over the same child.
     pub fn take(&mut self, alloc: Global) -> Memory<C>
         ensures taken { result ≡ self.old }
         ensures left { self.new ≡ no_held }

@@ -15,7 +15,8 @@ use std::alloc::{AllocError, Global};
 use std::process::{Child, Processes};
 use std::rt::{Env, Files};
 
-/// When a child was spawned, by the clock of the file system of its output folder.
+/// When a child was spawned, by the clock of the file system that contains the child's output
+/// folder.
 #[derive(Drop)]
 pub(crate) struct Spawned {
     /// The output folder.
@@ -32,7 +33,7 @@ pub(crate) struct Running<K> {
     pub(crate) spawned: Option<Spawned>,
 }
 
-/// Starts the child of a command, and returns it with the time at which it started.
+/// Starts the child of a command, and returns the child with the time of its start.
 pub(crate) fn start_child<R: Files + Env + Processes + AllocGlobal>(
     runtime: &R,
     alloc: Global,
@@ -91,8 +92,8 @@ pub(crate) fn child_in_flight(
     })
 }
 
-/// Adds a child in flight, for which space is reserved, and returns the greatest number of children
-/// that were ever in flight at a time.
+/// Adds a child in flight, for which space must be reserved. Returns the greatest number of
+/// children that were ever in flight at a time.
 #[tactic(auto, using(pb_place::proofs::InFlight::fly_laws))]
 pub(crate) fn add_child<K: Drop>(flying: &mut Vec<Flying<K>>, most: u64, one: Flying<K>) -> u64
     requires room { vec_len flying.old < vec_capacity flying.old }

@@ -9,7 +9,7 @@ use std::{fs, io};
 
 /// Returns what is at an entry for which the system gave up following links. If the entry's own
 /// link leads in a circle, nothing is there. Otherwise the entry is too deep: some link leads to a
-/// folder above the link, so that it is followed again and again.
+/// folder above the link, so that the system follows this link again and again.
 fn standing_in_circle<R: Files + AllocGlobal>(
     runtime: &R,
     alloc: Global,

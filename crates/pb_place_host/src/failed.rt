@@ -10,7 +10,7 @@ use std::io::ErrorKind;
 /// The error of a call on real files, and the path at which the error occurred.
 #[derive(Drop)]
 pub(crate) struct Failed {
-    /// The system's error, or one of our own.
+    /// The system's error, or an error of our own.
     pub(crate) error: io::Error,
     /// The path at which the call failed, if this is not the path that was passed to the call.
     pub(crate) path: Option<String>,

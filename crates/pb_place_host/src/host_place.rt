@@ -52,9 +52,9 @@ use std::rt::{Env, Files};
 /// pipe holds waits for its `finish`. All children stay in the process group of this program. A
 /// child whose place is dropped before its `finish` is neither waited for nor ended.
 ///
-/// A path that a child read has moved if the path has changed since the child's output folder was
-/// made, just before the spawn. The change times of files and folders (`ctime`) decide whether a
-/// path has changed. No program can set these times.
+/// A child's output folder is made just before the spawn. A path that the child read has moved if
+/// the path has changed since the folder was made. The change times of files and folders (`ctime`)
+/// decide whether a path has changed. No program can set these times.
 #[derive(Drop)]
 pub struct HostPlace<'a, R: Processes> {
     runtime: &'a R,

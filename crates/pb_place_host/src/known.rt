@@ -44,7 +44,7 @@ pub(crate) struct Known {
 }
 
 impl Known {
-    /// Returns what is known before the first call. It uses no memory.
+    /// Returns what is known before the first call. The function uses no memory.
     pub(crate) fn new(alloc: Global) -> Known {
         Known {
             call: Report::new(alloc),

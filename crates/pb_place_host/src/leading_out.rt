@@ -8,7 +8,7 @@ use std::alloc::{AllocError, Global};
 use std::fs;
 use std::rt::Files;
 
-/// The end of the name of the output folder of a script's run.
+/// How the name of the output folder of a script's run ends.
 const RUN: &str = ".run";
 
 /// The greatest number of links and folders that are looked at. There are no notes on further
@@ -140,8 +140,8 @@ fn report_links<R: Files + AllocGlobal>(
 }
 
 /// Returns a report on links that lead out of the target folder. The script of a command left these
-/// links in its output folder, and did not print the paths to which they lead. For a command of a
-/// compiler, and if memory runs out, the report may be empty.
+/// links in its output folder, and did not print the paths to which they lead. The report may be
+/// empty for the command of a compiler, or if memory runs out.
 pub(crate) fn links_out<R: Files + AllocGlobal>(
     runtime: &R,
     alloc: Global,

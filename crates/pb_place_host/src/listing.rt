@@ -342,8 +342,8 @@ pub(crate) fn files_below<R: Files + AllocGlobal>(
     files_listed(runtime, alloc, None, folder)
 }
 
-/// Returns the same as `files_below`, without the files at or below another path. The call does not
-/// look at anything there, so nothing there can make the call fail.
+/// Returns the same as `files_below`, without the files at or below the path `left_out`. The call
+/// does not look at anything there, so nothing there can make the call fail.
 pub(crate) fn files_outside<R: Files + AllocGlobal>(
     runtime: &R,
     alloc: Global,

@@ -13,7 +13,8 @@ const MOST_TEXTS: usize = 10;
 /// The greatest number of bytes of a text that is not cut. A path of the system has at most 4,096.
 const LONGEST: usize = 8_192;
 
-/// Returns a text with `?` for each control character. A longer text is cut, and ends with `..`.
+/// Returns a text with `?` for each control character. If the text exceeds the greatest length,
+/// `..` replaces the rest.
 ///
 /// Errors: out of memory.
 fn plain_text(alloc: Global, text: &str) -> Result<String, AllocError> {

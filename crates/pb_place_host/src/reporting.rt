@@ -7,7 +7,8 @@ use pb_place::Memory;
 use pb_place_types::Child;
 
 /// What a place knows of a failure besides its fault, as texts for people: at most ten, without
-/// line feeds. A place may know nothing. These calls use no memory, and are not counted.
+/// line feeds. A place may know nothing. The functions of this trait use no memory, and are not
+/// counted as calls.
 pub trait Reporting {
     /// Returns what is known of the last call on files or variables that failed.
     fn failed_call(&self) -> &[Text]

@@ -117,7 +117,8 @@ fn make_out<R: Files>(
 }
 
 /// Starts the child of a command, after making the output folder. Returns the child with the moment
-/// at which the folder was made. Every later change counts as a change while the child runs.
+/// at which the folder was made. Every change after this moment counts as a change while the child
+/// runs.
 ///
 /// Errors:
 ///

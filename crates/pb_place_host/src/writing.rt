@@ -187,8 +187,8 @@ fn clear_folders<R: Files + AllocGlobal>(runtime: &R, path: &str) -> Result<Vec<
     Ok(cleared)
 }
 
-/// Removes a folder and the files and folders below it, one after another. Therefore the path that
-/// cannot be removed is known.
+/// Removes a folder and the files and folders below it, one after another. So if a removal fails,
+/// the path that cannot be removed is known.
 ///
 /// Errors: the first file or folder that cannot be removed; out of memory.
 fn remove_singly<R: Files + AllocGlobal>(runtime: &R, path: &str) -> Result<(), Failed> {

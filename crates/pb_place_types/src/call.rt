@@ -19,12 +19,12 @@ pub enum Call {
     IsFile(PathText),
     /// All files below a folder are listed.
     List(PathText),
-    /// The files below a folder are listed, except those at or below another path.
+    /// The files below the first folder are listed, except files at or below the second path.
     ListOutside(PathText, PathText),
     /// The files directly in a folder are listed.
     ListDirectly(PathText),
-    /// The folders directly in a folder are listed, except those in which all files are at or below
-    /// another path.
+    /// The folders directly in the first folder are listed, except folders in which all files are
+    /// at or below the second path.
     ListFolders(PathText, PathText),
     /// A file is written.
     Write(PathText),
@@ -62,7 +62,8 @@ impl Call {
         Ok(Call::List(folder.copy(alloc)?))
     }
 
-    /// Returns the call to list the files below a folder, except those at or below another path.
+    /// Returns the call to list the files below a folder, except files at or below the path
+    /// `left_out`.
     ///
     /// Errors: out of memory only.
     pub fn list_outside(
@@ -86,8 +87,8 @@ impl Call {
         Ok(Call::ListDirectly(folder.copy(alloc)?))
     }
 
-    /// Returns the call to list the folders directly in a folder, except those in which all files
-    /// are at or below another path.
+    /// Returns the call to list the folders directly in a folder, except folders in which all files
+    /// are at or below the path `left_out`.
     ///
     /// Errors: out of memory only.
     pub fn list_folders(

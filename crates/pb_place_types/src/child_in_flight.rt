@@ -17,6 +17,6 @@ pub struct ChildInFlight {
     pub ended: Ended,
     /// The files that it leaves in the command's folder if it replies.
     pub files: Items<(RelativePath, Bytes)>,
-    /// The files inside the command's folder when it was spawned.
+    /// The files inside the command's folder when the command was spawned.
     pub before: FileMap,
 }

@@ -93,8 +93,8 @@ impl FileMap {
         Ok(paths_of(alloc, names)?)
     }
 
-    /// Returns the paths of the files below a folder, except those at or below another path, in
-    /// byte order.
+    /// Returns the paths of the files below a folder, in byte order. Files at or below the path
+    /// `left_out` are not listed.
     ///
     /// Errors: out of memory only.
     pub fn list_outside(
@@ -150,7 +150,8 @@ impl FileMap {
     }
 
     /// Returns those folders directly in a folder that have a file below them. The folders are in
-    /// the order of these files, without repeats. Files at or below another path are ignored.
+    /// the order of these files, without repeats. Files at or below the path `left_out` are
+    /// ignored.
     ///
     /// Errors: out of memory only.
     pub fn list_folders(
@@ -231,7 +232,7 @@ impl FileMap {
         }
     }
 
-    /// Copies the files at these paths from another map, in turn.
+    /// Copies the files at these paths from another map, one after another.
     ///
     /// Errors: out of memory only. Then the files at a prefix of these paths have been copied.
     pub fn put_from(

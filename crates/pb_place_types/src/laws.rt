@@ -18,7 +18,7 @@ pub fn parsing_keeps_paths()
 /// The paths below a folder are the paths that continue the folder's path. A path is at or below a
 /// folder if it is the folder itself or is below it. A path below a folder is also below each
 /// folder that contains this folder. Two folders share no path if neither is at or below the other.
-/// Two different names in one folder lead to paths that lie apart.
+/// Two different names in the same folder lead to paths that lie apart.
 pub fn folders_nest()
     ensures goes_on { BelowGoesOn }
     ensures at { AtOrBelow }
@@ -32,8 +32,9 @@ pub fn folders_nest()
     ensures names { NamesLieApart }
 {}
 
-/// A path inside a folder, joined to the folder, is the path again. If the last part of a path is
-/// joined to the path's folder, the result is the path, except for the root.
+/// If the part of a path after a folder is joined to the folder, the result is the path again. If
+/// the last part of a path is joined to the path's folder, the result is the path, except for the
+/// root.
 pub fn paths_join_again()
     ensures again { JoinsAgain }
     ensures found { FoundInside }
@@ -43,10 +44,10 @@ pub fn paths_join_again()
     ensures folder { LiesInFolder }
 {}
 
-/// Two folders with different names in one folder lie apart. Changes at or below a folder do not
-/// change any folder that lies apart from this folder. Changes in a folder of the target folder
-/// leave the sources unchanged. Two changes in one folder are together one change in this folder. A
-/// change in a folder is also a change in each folder above it.
+/// Two folders with different names in the same folder lie apart. Changes at or below a folder do
+/// not change any folder that lies apart from this folder. Changes in a folder of the target folder
+/// leave the sources unchanged. Two changes in the same folder, one after the other, are together
+/// one change in this folder. A change in a folder is also a change in each folder above it.
 pub fn changes_stay_in_folders()
     ensures named { NamedFoldersLieApart }
     ensures folders { FolderStays }

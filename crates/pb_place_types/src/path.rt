@@ -376,7 +376,7 @@ impl Ord for PathText {
 
     ghost matches_eq = { Prim.search (comparing, rules) };
 
-    /// Byte order.
+    /// Compares paths in byte order.
     fn cmp(&self, other: &PathText) -> Ordering {
         self.inside.cmp(&other.inside)
     }

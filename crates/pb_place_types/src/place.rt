@@ -182,8 +182,8 @@ pub trait Place {
         ensures looks { LooksOnce (call.List folder.now) result (at self.old) (at self.new) }
         ensures fails { IfErr result (λ e. e ≢ PlaceFault.OutOfMemory → fails self.old) };
 
-    /// Returns the paths of all files below a folder, except the files at or below another path, in
-    /// byte order. The call does not look at anything at or below that other path.
+    /// Returns the paths of all files below a folder, in byte order, except the files at or below
+    /// the path `left_out`. The call does not look at anything at or below `left_out`.
     ///
     /// Errors: `List`; `OutOfMemory`.
     fn list_outside(
@@ -302,8 +302,8 @@ pub trait Place {
 
     /// Waits for the end of a child in flight. Whatever the result, the child's ticket is then used
     /// up. Suppose that the child replies. Suppose also that nothing that it sees, and nothing in
-    /// its folder, has changed since the spawn. Then its reply and its folder are determined by the
-    /// world at the spawn.
+    /// its folder, has changed since the spawn. Then the world at the spawn determines the child's
+    /// reply and the contents of its folder.
     ///
     /// Errors:
     ///

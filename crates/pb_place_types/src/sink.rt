@@ -25,7 +25,7 @@ pub trait Out {
         ensures { result ≡ (heard self.now).faults };
 }
 
-/// A sink over a writer of std, which is never flushed.
+/// A sink over a writer of std. The writer is never flushed.
 #[derive(Drop)]
 pub struct Over<W> {
     writer: W,

@@ -88,7 +88,7 @@ fn value_in(source: Source, ancestor: &Ancestor, key: ProfileKey) -> Option<Sett
     }
 }
 
-/// Returns the value of a key at a location along a line of inheritance.
+/// Returns the first value that a key has at a location, in the profiles of a line of inheritance.
 fn along(source: Source, line: &[Ancestor], key: ProfileKey) -> Option<Setting>
     ensures { result ≡ along key (sought source.entry) (map seen line.now) }
 {
@@ -102,7 +102,7 @@ fn along(source: Source, line: &[Ancestor], key: ProfileKey) -> Option<Setting>
     None
 }
 
-/// Returns the value of a key of a package in a role, from its locations in order.
+/// Returns the value of a key for a package in a role. The locations are looked at in order.
 #[tactic(auto, using(crate::proofs::Located::or_none))]
 pub(crate) fn looked_up(
     owner: &Package,

@@ -183,9 +183,9 @@ pub fn meaning(choices: &[Choice], written: Setting) -> Option<Setting>
 pub enum Choice {
     /// A value that means itself.
     Is(Setting),
-    /// The first value, which means the second one.
+    /// The first value. It means the second value.
     Means(Setting, Setting),
-    /// Each number from the first to the second one.
+    /// Each number from the first number to the second.
     Between(u32, u32),
 }
 

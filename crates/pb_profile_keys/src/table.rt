@@ -17,7 +17,7 @@ pub struct Row {
     pub dev: Setting,
     /// Its value in `release`.
     pub release: Setting,
-    /// The value in the host's role of a key that no override sets. `None` if there is no such
+    /// The key's value in the host's role, if no override sets the key. `None` if there is no such
     /// value.
     pub beside_override: Option<Setting>,
     /// The value that the host's role fixes, whatever the manifest sets. `None` if there is no such

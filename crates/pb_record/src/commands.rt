@@ -100,9 +100,9 @@ impl RecordedCommand {
         }
     }
 
-    /// Returns whether a command is equal to the request, apart from its variables. The program,
-    /// the arguments, the folder, the output and target folders, the compiler, and the folders that
-    /// the child may read are compared. No memory is used.
+    /// Returns whether a command is equal to the request, apart from the variables. The function
+    /// compares the program, the arguments, the folder, the output folder, the target folder, the
+    /// compiler, and the folders that the child may read. No memory is used.
     pub fn asks_as(&self, command: &Command) -> bool
         ensures { Decides result (AsksAs self.now command.now) }
     {

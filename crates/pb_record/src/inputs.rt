@@ -79,7 +79,7 @@ impl Part for Pairs {
     fn spells() {}
 }
 
-/// Returns the file whose letter came before this text, and what follows the file.
+/// Reads a file after its letter: returns the file, and what follows the file in the text.
 fn file_at(alloc: Global, text: &[u8]) -> Result<Option<(Input, &[u8])>, AllocError>
     ensures { IfOk result (λ found.
         MatchOption found (StandsNone IsInput input_bytes (line (codes "f") ++ text.now)) (λ p.
@@ -92,7 +92,7 @@ fn file_at(alloc: Global, text: &[u8]) -> Result<Option<(Input, &[u8])>, AllocEr
     }
 }
 
-/// Returns the folder whose letter came before this text, and what follows the folder.
+/// Reads a folder after its letter: returns the folder, and what follows the folder in the text.
 fn tree_at(alloc: Global, text: &[u8]) -> Result<Option<(Input, &[u8])>, AllocError>
     ensures { IfOk result (λ found.
         MatchOption found (StandsNone IsInput input_bytes (line (codes "t") ++ text.now)) (λ p.
@@ -105,7 +105,8 @@ fn tree_at(alloc: Global, text: &[u8]) -> Result<Option<(Input, &[u8])>, AllocEr
     }
 }
 
-/// Returns the variable whose letter came before this text, and what follows the variable.
+/// Reads a variable after its letter: returns the variable, and what follows the variable in the
+/// text.
 fn value_at(alloc: Global, text: &[u8]) -> Result<Option<(Input, &[u8])>, AllocError>
     ensures { IfOk result (λ found.
         MatchOption found (StandsNone IsInput input_bytes (line (codes "v") ++ text.now)) (λ p.
@@ -118,7 +119,7 @@ fn value_at(alloc: Global, text: &[u8]) -> Result<Option<(Input, &[u8])>, AllocE
     }
 }
 
-/// Returns what follows the file whose letter came before this text.
+/// Skips a file after its letter: returns what follows the file in the text.
 fn skip_file(alloc: Global, text: &[u8]) -> Result<Option<&[u8]>, AllocError>
     ensures { IfOk result (λ found. MatchOption found
         (StandsNone IsInput input_bytes (line (codes "f") ++ text.now))
@@ -131,7 +132,7 @@ fn skip_file(alloc: Global, text: &[u8]) -> Result<Option<&[u8]>, AllocError>
     }
 }
 
-/// Returns what follows the folder whose letter came before this text.
+/// Skips a folder after its letter: returns what follows the folder in the text.
 fn skip_tree(alloc: Global, text: &[u8]) -> Result<Option<&[u8]>, AllocError>
     ensures { IfOk result (λ found. MatchOption found
         (StandsNone IsInput input_bytes (line (codes "t") ++ text.now))
@@ -144,7 +145,7 @@ fn skip_tree(alloc: Global, text: &[u8]) -> Result<Option<&[u8]>, AllocError>
     }
 }
 
-/// Returns what follows the variable whose letter came before this text.
+/// Skips a variable after its letter: returns what follows the variable in the text.
 fn skip_value(alloc: Global, text: &[u8]) -> Result<Option<&[u8]>, AllocError>
     ensures { IfOk result (λ found. MatchOption found
         (StandsNone IsInput input_bytes (line (codes "v") ++ text.now))

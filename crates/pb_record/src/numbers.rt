@@ -116,7 +116,7 @@ fn numbers_copied(alloc: Global, text: &[u8]) -> Result<Option<Numbers>, AllocEr
     }
 }
 
-/// Returns the numbers of the record of a text, by the format in its first line.
+/// Returns the numbers of a text's record. The first line of the text names the format.
 fn numbers_by_format(alloc: Global, text: &[u8]) -> Result<Option<Numbers>, AllocError>
     ensures { IfOk result (λ found. MatchOption found ((r : Record) → Says text.now r → ⊥)
         (λ numbers. SaysNumbers text.now numbers)) }

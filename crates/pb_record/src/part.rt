@@ -1,4 +1,4 @@
-//! A part of a record, read from the beginning of a text and written at the end of one.
+//! A part of a record, which is read from the beginning of a text and written at the end of a text.
 
 ghost use Rattle.std.specs.Prelude.{◌≡◌, ◌++◌, List, ℕ, IfOk, OnOk, MatchOption};
 ghost use Rattle.pb_record.specs.Reading.{BeginsWith, StandsNone, StandsSome, IsSpelling};

@@ -88,7 +88,8 @@ fn copied_of(parts: CopiedParts) -> Record
     }
 }
 
-/// Returns the record of format 2 with this text after its first line.
+/// Returns the record of format 2 that has this text after its first line, if there is such a
+/// record.
 fn read_numbered(alloc: Global, text: &[u8]) -> Result<Option<Record>, AllocError>
     ensures { IfOk result (λ found.
         MatchOption found ((r : Record) → Says (line (codes "record 2") ++ text.now) r →
@@ -101,7 +102,8 @@ fn read_numbered(alloc: Global, text: &[u8]) -> Result<Option<Record>, AllocErro
     }
 }
 
-/// Returns the record of format 1 with this text after its first line.
+/// Returns the record of format 1 that has this text after its first line, if there is such a
+/// record.
 fn read_copied(alloc: Global, text: &[u8]) -> Result<Option<Record>, AllocError>
     ensures { IfOk result (λ found.
         MatchOption found ((r : Record) → Says (line (codes "record 1") ++ text.now) r →
@@ -114,7 +116,7 @@ fn read_copied(alloc: Global, text: &[u8]) -> Result<Option<Record>, AllocError>
     }
 }
 
-/// Returns the record of a text, by the format in its first line.
+/// Returns the record of a text. The first line of the text names the format.
 fn read_by_format(alloc: Global, text: &[u8]) -> Result<Option<Record>, AllocError>
     ensures { IfOk result (λ found.
         MatchOption found ((r : Record) → Says text.now r → ⊥) (λ r. Says text.now r)) }

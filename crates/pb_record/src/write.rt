@@ -137,8 +137,9 @@ fn pieces_of<T: Put>(alloc: Global, first: &[u8], part: T) -> Result<Items<Bytes
     out.into_items()
 }
 
-/// Returns the text of a record in pieces. Joined in order, the pieces are what `write_record`
-/// returns. A value of many bytes is moved, so no memory is taken for a copy of the value.
+/// Returns the text of a record in pieces. If the pieces are joined in order, the result is what
+/// `write_record` returns. A value of many bytes is moved, so no memory is taken for a copy of the
+/// value.
 ///
 /// Errors: only out of memory.
 pub fn write_record_pieces(alloc: Global, kept: Record) -> Result<Items<Bytes>, AllocError>

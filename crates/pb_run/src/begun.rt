@@ -53,7 +53,8 @@ impl Begun {
         }
     }
 
-    /// Returns the ticket with which the end of the unit's child is awaited, if it has a child.
+    /// Returns the ticket with which the end of the unit's child is awaited, if the unit has a
+    /// child.
     pub fn ticket(&self) -> Option<u64>
         ensures { result ≡ option_map (λ (l : SpawnedChild). l.ticket) (child_of self.now) }
     {

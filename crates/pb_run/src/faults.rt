@@ -39,7 +39,8 @@ pub(crate) fn start_fault(fault: StartFault) -> StepFault
     }
 }
 
-/// Returns a step's fault as the build's fault, with the unit's key. Out of memory has no key.
+/// Returns a step's fault as the build's fault, with the unit's key. The fault `OutOfMemory`
+/// contains no key.
 pub(crate) fn unit_fault(unit: Text, fault: StepFault) -> BuildFault
     ensures { result ≡ named unit fault }
 {
@@ -58,7 +59,7 @@ pub(crate) fn unit_fault(unit: Text, fault: StepFault) -> BuildFault
 }
 
 /// Returns the fault of a call on files or variables as the build's fault. `unit` is the unit's
-/// key, or else the path or the variable's name. Out of memory has no name.
+/// key, or else the path or the variable's name. The fault `OutOfMemory` contains no name.
 pub fn deviceless(unit: Text, fault: PlaceFault) -> BuildFault
     ensures { result ≡ device_fault unit fault }
 {

@@ -230,8 +230,8 @@ fn land<P: Place>(
 }
 
 /// Answers a unit that has no child, because nothing differs from its record. What the record
-/// replays is judged. A record without a run number gets a run number. A record with a number is
-/// not read. Only the unit's record changes.
+/// replays is judged. If the answer is good and nothing moved, a record without a run number gets a
+/// run number. A record with a run number is not read again. Only the unit's record changes.
 fn reuse<P: Place>(
     alloc: Global,
     place: &mut P,

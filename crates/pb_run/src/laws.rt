@@ -3,8 +3,8 @@
 ghost use Rattle.pb_run.specs.Outcome.{Unfolds};
 
 /// The outcome of a unit follows from the outcomes of the units before it. If a unit that it needs
-/// is not good, the outcome is that the unit waits. Otherwise the outcome is the judgement of its
-/// child's reply to its command in its view.
+/// is not good, the outcome is that the unit waits. Otherwise the unit's child replies to the
+/// unit's command, given what the child sees. The outcome is the judgement of this reply.
 pub fn outcomes_unfold()
     ensures { Unfolds }
 {}

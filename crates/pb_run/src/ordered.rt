@@ -27,7 +27,7 @@ impl OrderedProject {
     ghost use Rattle.std.specs.Prelude.{◌≡◌};
     ghost use Rattle.pb_run.specs.Invariants.{IsInOrder};
 
-    /// Returns the project as one that is in order.
+    /// Returns the project as a project that is in order.
     pub fn new(project: Project) -> OrderedProject
         requires { IsInOrder project }
         ensures { result ≡ project }

@@ -83,9 +83,9 @@ fn command(
 /// contracts see is constant, so `changes` says nothing about files there. What the contract says
 /// about calls, starts, children in flight, errors and run numbers is also true on a real machine.
 ///
-/// `build` is about a build that satisfies `BuildInvariant`, and about one of its units that
-/// satisfies `CanBegin`. This unit has not begun, and all units that it reaches have answered and
-/// are good.
+/// The clause `build` is about a build that satisfies `BuildInvariant`, and about a unit of this
+/// build that satisfies `CanBegin`. Such a unit has not begun, and all units that it reaches have
+/// answered and are good.
 #[tactic(auto, using(crate::proofs::Naming::naming_laws))]
 pub fn begin_unit<P: Place>(
     alloc: Global,
@@ -108,7 +108,7 @@ pub fn begin_unit<P: Place>(
         (command_of setup.now project.now unit.now done.now) store.old store.new
         (P.at place.old) (P.at place.new)) }
 
-    // The error contains this unit's key, or is out of memory. Its cause is a call of the
+    // The error contains this unit's key, or is `OutOfMemory`. The failed call is a call of the
     // comparison or, if something differs, of the launch.
     ensures named { IfErr result (IsOfUnit unit.now.key) }
     ensures fails { IfErr (bare result) (FailsToBegin P.is_modelled project.now unit.now
@@ -208,8 +208,8 @@ fn outcome_of(
 /// it was the last call, and the store may lack the numbers of its records.
 ///
 /// - `Child` if the child did not answer.
-/// - `Device` if a file, a folder or a variable cannot be read, if the record cannot be written, or
-///   if no run number is left for a record without a run number.
+/// - `Device` if a file, a folder or a variable cannot be read, or if the record cannot be written.
+///   Also `Device` if the record has no run number, and no run number is left.
 /// - `OutOfMemory`. If memory runs out only for the message lines, the record of a good unit is
 ///   kept.
 #[tactic(auto, using(crate::proofs::Naming::naming_laws))]
@@ -277,7 +277,8 @@ pub fn drop_unit<P: Place>(alloc: Global, place: &mut P, begun: &Begun)
         IsInOrder b.project → unit_at b.project index ≡ Some unit → IsTrue P.is_modelled →
         DropsBuild b index unit begun.now next (P.at place.old) (P.at place.new) }
 
-    // Only the child's folder changes, and only this child is no longer in flight.
+    // Only the child's folder changes. This child is no longer in flight; all other children stay
+    // in flight.
     ensures only { (out : List ℕ) →
         WritesTo out (child_of begun.now) (P.at place.old).counts.starts.flying →
         ChangesOnly (is_at_or_below out) (P.at place.old).world (P.at place.new).world }

@@ -10,8 +10,8 @@ use crate::flight::Answer;
 use std::alloc::{AllocError, Global};
 
 /// The code that begins units and takes their answers. The outside world of this code has two
-/// parts: a place that units change, and a receiver of the units' lines. The contracts describe
-/// everything that has happened since some moment, as a story that the events of the flight tell.
+/// parts: a place that units change, and a receiver of the units' lines. The contracts use a
+/// `story`: it says what the events of the flight have done since some moment.
 pub trait Executor<P, O, F, E> {
     /// What each unit needs, by its index in plan order.
     ghost needs: { Self → List (List ℕ) };
@@ -25,11 +25,11 @@ pub trait Executor<P, O, F, E> {
     /// What is true at each moment before the first failing call. Each call requires this.
     ghost able: { Self → P → O → Type 0 };
 
-    /// What has happened between two moments by these events, if the lines of the first n units
-    /// have been handed out. The newest event comes first.
+    /// What these events have done between two moments, if the lines of the first n units have been
+    /// handed out. The newest event comes first.
     ghost story: { Self → P → O → Self → P → O → List (Event F) → ℕ → Type 0 };
 
-    /// What has happened between two moments by these events, if a fault then ended the flight. The
+    /// What these events have done between two moments, if a fault then ended the flight. The
     /// number is the index of the unit whose answer was taken at the fault, or `None` if no answer
     /// was taken.
     ghost stops: { E → Option ℕ → Self → P → O → Self → P → O → List (Event F) → Type 0 };

@@ -115,8 +115,9 @@ fn ends_badly<F>(states: &[State<F>], count: usize) -> bool
     }
 }
 
-/// Returns whether the unit at an index may begin, if no unit before it has answered and is bad.
-/// The result is `None` if the unit itself has answered and is bad, or does not exist.
+/// Returns whether the unit at an index may begin. The function assumes that no earlier unit has
+/// answered and is bad. The result is `None` if the unit itself has answered and is bad, or does
+/// not exist.
 fn may_begin<F>(
     needs: &[Items<usize>],
     met: &[usize],
@@ -226,7 +227,8 @@ fn due_after<F>(alloc: Global, states: &[State<F>], given: usize) -> Result<Due,
     })
 }
 
-/// Returns whether all units have answered, or all units up to and including the first bad unit.
+/// Returns whether a flight is finished: all units have answered, or all units up to and including
+/// the first bad unit have answered.
 fn are_finished<F>(states: &[State<F>]) -> bool
     ensures { result ≡ is_finished states.now }
 {
@@ -252,7 +254,7 @@ fn are_finished_after<F>(states: &[State<F>], given: usize) -> bool
     ends_badly(states, given) || are_finished(after(states, given))
 }
 
-/// Returns the first bad unit among those that have answered, from the start of plan order.
+/// Returns the first bad unit in plan order, if all units before it have answered.
 fn first_bad<F>(states: &[State<F>]) -> Option<usize>
     ensures { result ≡ first_bad states.now }
 {
@@ -333,8 +335,8 @@ impl<F: Drop> Flight<F> {
         }
     }
 
-    /// Returns whether all units have answered, or all units up to and including the first bad
-    /// unit.
+    /// Returns whether the flight is finished: all units have answered, or all units up to and
+    /// including the first bad unit have answered.
     pub fn is_finished(&self) -> bool
         ensures { result ≡ is_finished self.now.states }
     {
@@ -393,8 +395,7 @@ impl<F: Drop> Flight<F> {
     }
 
     /// Returns the lines that are due now and have not been handed out. The lines of a unit are due
-    /// if this unit and all units before it in plan order have answered, and no unit before it is
-    /// bad.
+    /// if the unit and all earlier units in plan order have answered, and no earlier unit is bad.
     ///
     /// Errors: out of memory. Then nothing has been handed out, and the next call returns these
     /// lines too.

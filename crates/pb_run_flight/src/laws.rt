@@ -16,8 +16,8 @@ pub fn reached_is_good<F>()
 {}
 
 /// After each call that hands out lines, all due lines have been handed out. The lines of a unit
-/// are due if this unit and all units before it in plan order have answered, and no unit before it
-/// is bad.
+/// are due if the unit and all earlier units in plan order have answered, and no earlier unit is
+/// bad.
 pub fn hands_out_all_due<F>()
     ensures { HandsOutAllDue F }
 {}

@@ -97,8 +97,8 @@ pub fn reach_of(needs: &[Items<usize>]) -> usize
     reach
 }
 
-/// Counts how many needs of a unit are met, starting from the known count. Returns the index up to
-/// which units may have all that they need.
+/// Counts how many needs of a unit are met, starting from the known count. Returns the new `reach`:
+/// at this index and after it, no unit has all its needs met.
 fn move_one<F>(
     needs: &[Items<usize>],
     states: &[State<F>],
@@ -124,8 +124,9 @@ fn move_one<F>(
     reach
 }
 
-/// Counts how many needs of each of these units are met, starting from the known counts. Returns
-/// the index up to which units may have all that they need.
+/// Counts how many needs of each of these units are met, starting from the known counts. `from` is
+/// the old `reach`. Returns the new `reach`: at this index and after it, no unit has all its needs
+/// met.
 pub fn move_on<F>(
     needs: &[Items<usize>],
     states: &[State<F>],

@@ -1,4 +1,5 @@
-//! What differs between a command and the recorded command: the first part, and the first variable.
+//! Finds the first part and the first variable in which a command differs from the recorded
+//! command.
 
 ghost use Rattle.std.specs.Prelude.{◌≡◌, ◌&&◌, Decides, IfOk, MatchOption, Some, option_map};
 ghost use Rattle.std.specs.Str.{bytes_eq};

@@ -63,9 +63,9 @@ fn outcome(matching: &Matching<'_>) -> bool
     matching.same && matching.left.is_empty()
 }
 
-/// Returns whether the files at these paths are the recorded files. Their paths are relative to a
-/// folder. Only one file is in memory at a time. The files after the first different file are read,
-/// too.
+/// Returns whether the files at these paths are the recorded files. The recorded paths are relative
+/// to a folder. Only one file is in memory at a time. The files after the first different file are
+/// read, too.
 fn are_files_at<P: Place>(
     alloc: Global,
     place: &mut P,
@@ -93,8 +93,8 @@ fn are_files_at<P: Place>(
     Ok(outcome(&matching))
 }
 
-/// Returns whether the sources below a folder, in byte order, are the recorded files. Their paths
-/// are relative to the folder.
+/// Returns whether the sources below a folder, in byte order, are the recorded files. The recorded
+/// paths are relative to the folder.
 #[tactic(auto, using(crate::proofs::Present::sources_in, crate::proofs::Firsts::files_same))]
 fn are_sources<P: Place>(
     alloc: Global,
@@ -119,8 +119,8 @@ fn are_sources<P: Place>(
     }
 }
 
-/// Returns whether the files below a folder, in byte order, are the recorded files. Their paths are
-/// relative to the folder.
+/// Returns whether the files below a folder, in byte order, are the recorded files. The recorded
+/// paths are relative to the folder.
 #[tactic(auto, using(crate::proofs::Present::files_in_it, crate::proofs::Firsts::files_same))]
 pub(crate) fn are_files<P: Place>(
     alloc: Global,
@@ -144,8 +144,9 @@ pub(crate) fn are_files<P: Place>(
     }
 }
 
-/// Returns whether a path is a file with these bytes. If there is no file, the function looks at
-/// the folder, as the reading of the present value does.
+/// Returns whether the file at a path has these bytes. If there is no file at the path, the
+/// function looks for a folder there. The function that reads the present value makes the same
+/// calls.
 fn is_file_present<P: Place>(
     alloc: Global,
     place: &mut P,

@@ -132,8 +132,8 @@ fn first_copy<P: Place>(
 }
 
 /// Returns the key of the first needed unit that does not agree with the record. The record's
-/// format determines what is compared. For units that are named by number, the store's numbers are
-/// used instead of their records.
+/// format determines what is compared. If the record names units by number, the store has the
+/// present numbers, so the records of these units are not read.
 #[tactic(auto, using(crate::proofs::Held::first_by_number))]
 fn first_need<P: Place>(
     alloc: Global,
@@ -160,7 +160,7 @@ fn first_need<P: Place>(
     }
 }
 
-/// Returns the first difference apart from the command: an input, or a needed unit.
+/// Returns the first difference of an input or of a needed unit. The command is not compared.
 fn first_around<P: Place>(
     alloc: Global,
     place: &mut P,
@@ -218,10 +218,10 @@ fn first_from<P: Place>(
 
 impl Store {
     /// Returns the first difference between a unit and its record. `command` is the command with
-    /// which the unit would be built now. If nothing differs, the recorded answer is returned. Each
-    /// input is read and compared in turn, up to the first that differs. The records of needed
-    /// units are not read, because the store has their run numbers. The rule for when a unit is
-    /// built again is our own choice.
+    /// which the unit would be built now. If nothing differs, the recorded answer is returned. The
+    /// inputs are read and compared one after another, up to and including the first that differs.
+    /// The records of needed units are not read, because the store has their run numbers. The rule
+    /// for when a unit is built again is our own choice.
     ///
     /// Errors:
     ///
@@ -302,7 +302,7 @@ impl Store {
     ///
     /// Errors:
     ///
-    /// - `Place` if the record cannot be read, or if it has been removed since.
+    /// - `Place` if the record cannot be read, or if it was removed after the call of `differs`.
     /// - `OutOfMemory`.
     pub fn replay<P: Place>(
         &self,

@@ -73,8 +73,8 @@ fn remove_record<P: Place>(
 
 impl Store {
     /// Removes the record of a unit, and returns the run number of its next record. If no number is
-    /// left, it removes nothing. After an error no number is taken, and the record may still exist.
-    /// The contract then promises nothing about the run numbers in the store.
+    /// left, the function removes nothing. After an error no number is taken, and the record may
+    /// still exist. The contract then promises nothing about the run numbers in the store.
     ///
     /// Errors:
     ///
@@ -90,8 +90,8 @@ impl Store {
         requires numbers { IsTrue P.is_modelled →
             HasNumbers (records self.old.folder (P.at place.old).world) self.old.numbers }
 
-        // The returned number is the one that was next before the call. After an error that number
-        // is still the next.
+        // The returned number was the next number before the call. After an error the next number
+        // is the same as before the call.
         ensures number { MatchResult result (λ number. IsGiven number self.old.next self.new.next)
             (λ e. self.new.next ≡ self.old.next) }
         ensures folder { self.new.folder ≡ self.old.folder }

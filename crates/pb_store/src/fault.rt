@@ -21,8 +21,8 @@ pub enum StoreFault {
     OutOfMemory,
 }
 
-/// Returns the fault of a call of the place as a fault of the store. Out of memory stays out of
-/// memory.
+/// Returns the fault of a call of the place as a fault of the store. `OutOfMemory` stays
+/// `OutOfMemory`.
 pub(crate) fn store_error(fault: PlaceFault) -> StoreFault
     ensures { result ≡ stored fault }
 {
@@ -44,8 +44,8 @@ pub enum OpenFault {
     OutOfMemory,
 }
 
-/// Returns the fault of a call of the place on this path as a fault of opening. Out of memory stays
-/// out of memory.
+/// Returns the fault of a call of the place on this path as a fault of opening. `OutOfMemory` stays
+/// `OutOfMemory`.
 pub(crate) fn open_error(path: PathText, fault: PlaceFault) -> OpenFault
     ensures { result ≡ opened path fault }
 {

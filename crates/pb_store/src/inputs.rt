@@ -138,7 +138,7 @@ pub(crate) fn paths_below<P: Place>(
     }
 }
 
-/// Returns the sources below a folder, with their paths relative to it, in byte order.
+/// Returns the sources below a folder, with their paths relative to the folder, in byte order.
 #[tactic(auto, using(crate::proofs::Present::sources_in))]
 fn sources_in<P: Place>(
     alloc: Global,

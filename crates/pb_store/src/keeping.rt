@@ -89,8 +89,8 @@ pub(crate) fn put_record<P: Place>(
     }
 }
 
-/// Returns the request of a command. The command must write into the unit's folder, and its
-/// variables must be sorted.
+/// Returns a command as a record contains it. The command must write into the unit's folder, and
+/// its variables must be sorted.
 #[tactic(auto, using(crate::proofs::Earned::asked_laws))]
 fn asked_of(
     alloc: Global,
@@ -235,7 +235,7 @@ fn stood_still<P: Place>(
 }
 
 /// Writes a record, unless the child of this command read something that has moved. The check comes
-/// after the record is made. Whatever changes later then differs from the recorded value.
+/// after the record is made. So whatever changes after the check differs from the recorded value.
 fn put_still<P: Place>(
     alloc: Global,
     place: &mut P,
@@ -268,9 +268,9 @@ impl Store {
     /// returned.
     ///
     /// `needs` are the keys of the units that the unit needs, in plan order. `names` are the inputs
-    /// found in its answer: their present values are read and recorded. After an error the unit has
-    /// no record, its old record, or the new record. The contract then promises nothing about the
-    /// run numbers in the store.
+    /// found in the unit's answer. The function reads and records their present values. After an
+    /// error the unit has no record, its old record, or the new record. The contract then promises
+    /// nothing about the run numbers in the store.
     ///
     /// Errors: `Place` if an input cannot be read or the record cannot be written; `OutOfMemory`.
     ///
@@ -303,7 +303,7 @@ impl Store {
         ensures folder { self.new.folder ≡ self.old.folder }
         ensures next { self.new.next ≡ self.old.next }
 
-        // Only the record's file changes, by the last of these calls.
+        // Only the record's file changes, and only by the last call of the place.
         ensures only { ChangesOnlyAt (is_at_or_below (place_of self.old.folder key.now)) MayKeep
             result (P.at place.old) (P.at place.new) }
         ensures calls { IsTrue P.is_modelled →

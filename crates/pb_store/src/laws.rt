@@ -10,16 +10,16 @@ pub fn differences_are_one()
     ensures { DifferencesAreOne }
 {}
 
-/// States a fact about the name that `differs` returns for two rows of variables, each sorted by
-/// name. The name is the first, in byte order, at which the rows differ. At this name only one row
-/// has a text, or the two rows have different texts. At each lesser name both rows have the same
-/// text, or neither row has a text.
+/// Suppose that `differs` returns a name for two rows of variables, each sorted by name. This name
+/// is the first, in byte order, at which the rows differ. At this name only one row has a text, or
+/// the two texts differ. At each lesser name both rows have the same text, or neither row has a
+/// text.
 pub fn first_name_is_first()
     ensures { FirstNameIsFirst }
 {}
 
-/// The tests by which `differs` decides how far it looks agree with the definitions. There are
-/// three tests:
+/// States that each test of `differs` agrees with its definition. By three tests, `differs` decides
+/// how far it looks:
 ///
 /// - whether the present value of an input is the recorded value;
 /// - whether a command is the recorded command;

@@ -35,7 +35,7 @@ fn numbered_record(kept: Record, number: u64, numbers: Items<(Text, u64)>) -> Re
 }
 
 impl Store {
-    /// Rewrites the record of a unit, which has no number, with the next number.
+    /// Rewrites the record of a unit with the next number. The record has no number yet.
     fn renumber<P: Place>(
         &mut self,
         alloc: Global,
@@ -103,7 +103,7 @@ impl Store {
     ///
     /// Errors:
     ///
-    /// - `NumbersSpent` only if the record is of format 1 and no number is left, and then nothing
+    /// - `NumbersSpent` only if the record is of format 1 and no number is left. Then nothing
     ///   changes.
     /// - `Place` if the record cannot be read or written.
     /// - `OutOfMemory`.
@@ -125,7 +125,7 @@ impl Store {
         ensures next { MigratesNext result self.old.next self.new.next }
         ensures folder { self.new.folder ≡ self.old.folder }
 
-        // Only the record's file changes, by the last of these calls.
+        // Only the record's file changes, and only by the last call of the place.
         ensures only { ChangesOnlyAt (is_at_or_below (place_of self.old.folder key.now))
             (MayMigrate self.old.next) result (P.at place.old) (P.at place.new) }
         ensures calls { IsTrue P.is_modelled →

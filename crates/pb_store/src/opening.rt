@@ -40,8 +40,8 @@ fn greatest_among(needs: &[(Text, u64)]) -> u64
     greatest
 }
 
-/// Returns the greatest of a record's own number and the numbers by which it names units, or 0 if
-/// it has no number.
+/// Returns the greatest of a record's own number and the numbers by which the record names units.
+/// Returns 0 if the record has no number.
 fn greatest_said(numbered: &Option<(u64, Items<(Text, u64)>)>) -> u64
     ensures { result ≡ greatest_said numbered.now }
 {
@@ -168,7 +168,7 @@ fn greatest_of<P: Place>(
 {
     let mut greatest = 0;
     for path in paths.into_vec() {
-        // Every record may name the greatest number, even a record at another key's path.
+        // Any record may name the greatest number, even a record at another key's path.
         let number = greatest_at(alloc, place, folder, numbers, path)?;
         greatest = greater(greatest, number);
     }
@@ -179,7 +179,7 @@ impl Store {
     /// Returns the store of a profile folder. Each record directly in the folder is read once. A
     /// text that is not a record does not count. The next run number is one above the greatest
     /// number that a record contains, even a record at the path of another key. If no record
-    /// contains a number, the next is 1.
+    /// contains a number, the next run number is 1.
     ///
     /// Errors:
     ///

@@ -9,7 +9,7 @@
 //!
 //! `pb_tool session FILE` runs a session in memory with the small compiler. It prints all message
 //! lines and then one result line for each build. The status is 0. For a bad command line or a bad
-//! session, it is 1.
+//! session, the status is 1.
 #![tactic(auto)]
 
 use pb_tool_program::tool;

@@ -68,7 +68,7 @@ fn arg_of<'a>(alloc: Global, option: &Described) -> Arg<'a>
     with_names(arg, option.among)
 }
 
-/// Returns a command with these options after its own.
+/// Returns a command with these options after the options that the command already has.
 fn with_options<'a>(
     alloc: Global,
     command: Command<'a>,

@@ -388,8 +388,8 @@ fn asked_by(
     }
 }
 
-/// Returns what the words contain by the description of the command line. If the description does
-/// not accept the words, returns why.
+/// Returns what the words contain, according to the description of the command line. If the
+/// description does not accept the words, returns why.
 fn matches_of<'a, S: AsStr>(alloc: Global, words: &'a [S]) -> Result<ArgMatches<'a>, ArgumentsError>
     ensures matches { IfOk result (λ matches. (choices : Choices) × AreChoices choices
         × IsTaken choices (map S.text words.now)

@@ -101,8 +101,8 @@ pub(crate) fn profile_of(alloc: Global, matches: &ArgMatches<'_>) -> Result<Text
     }
 }
 
-/// Returns the number that a text of digits represents. Returns `None` if the text has another
-/// character, or if the number is too great.
+/// Returns the number that a text of digits represents. Returns `None` if the text has a character
+/// that is not a digit, or if the number is too great.
 fn number_in(text: &str) -> Option<u64>
     ensures { MatchOption result ((n : ℕ) → ¬ IsNumber text.now n) (IsNumber text.now) }
 {

@@ -59,14 +59,14 @@ fn looked_in(choice: Choice) -> PathText
     }
 }
 
-/// Returns whether a choice contains nothing that was listed.
+/// Returns whether nothing that was listed is chosen.
 fn has_nothing(alloc: Global, choice: &Choice, listed: &Listed) -> Result<bool, AllocError>
     ensures { IfOk result (λ nothing. Decides nothing (chosen_of choice.now listed.now ≡ [])) }
 {
     Ok(choose(alloc, choice, listed)?.is_empty())
 }
 
-/// Returns what a choice wants and the list does not contain, if there is such a thing.
+/// Returns what is missing, if the list contains nothing that the choice wants.
 fn missing_in(alloc: Global, choice: &Choice, listed: &Listed) -> Result<Option<Wanted>, AllocError>
     ensures { IfOk result (ReportsMissing choice.now listed.now) }
 {
@@ -82,7 +82,7 @@ fn missing_in(alloc: Global, choice: &Choice, listed: &Listed) -> Result<Option<
     Ok(None)
 }
 
-/// Returns a choice, if the list contains a chosen thing.
+/// Returns the choice, if something that was listed is chosen.
 ///
 /// Errors: `Nothing`, with the folder in which the choice looks; `OutOfMemory`.
 fn require_listed(alloc: Global, choice: Choice, listed: &Listed) -> Result<Choice, CleanFault>

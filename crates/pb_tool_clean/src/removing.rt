@@ -67,7 +67,7 @@ fn list_all<P: Place>(
     }
 }
 
-/// Returns whether there is no file but the tag.
+/// Returns whether there is no file, or only the tag.
 fn is_tag_alone(tag: &PathText, files: &[PathText]) -> bool
     ensures { result ≡ is_tag_alone tag.now files.now }
 {
@@ -78,7 +78,7 @@ fn is_tag_alone(tag: &PathText, files: &[PathText]) -> bool
     }
 }
 
-/// Returns whether a target folder has no file but its tag.
+/// Returns whether a target folder has no file, or only its tag.
 fn has_tag_alone<P: Place>(
     alloc: Global,
     place: &mut P,

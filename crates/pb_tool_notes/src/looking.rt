@@ -118,8 +118,7 @@ fn tell_scripts<P: Place>(
     Ok(())
 }
 
-/// Adds what is known about a refusal of the loader. The function makes no further call of the
-/// place.
+/// Adds what is known about a refusal of the loader. The function makes no call of the place.
 fn tell_load(
     alloc: Global,
     notes: &mut Notes,
@@ -227,7 +226,7 @@ fn tell_plan<P: Place + Remembering>(
     }
 }
 
-/// Adds a note on each key of the manifests that nothing reads.
+/// Adds a note on each key in the manifests, if nothing reads this key.
 fn tell_all_unused(alloc: Global, notes: &mut Notes, pages: &Pages) -> Result<(), AllocError> {
     for page in pages.pages.as_slice() {
         if let Some(table) = &page.table {
@@ -271,9 +270,9 @@ fn tell_passed_over<P: Place + Remembering>(
 
 /// Returns notes on a workspace that the loader refuses, or in which nothing is selected.
 ///
-/// Four functions return notes. They only read manifests again, list folders, and check whether
-/// files exist. If a call fails or memory runs out, the function returns the notes that it has made
-/// so far.
+/// Four functions return notes: this function and the three below it. They only read manifests
+/// again, list folders, and check whether files exist. If a call fails or memory runs out, each of
+/// them returns the notes that it has made so far.
 pub fn notes_on_load<P: Place + Remembering>(
     alloc: Global,
     place: &mut P,
@@ -324,9 +323,12 @@ pub fn notes_on_plan<P: Place + Remembering>(
     notes.finish(alloc)
 }
 
-/// Returns notes on what a build ignores: keys of manifests that nothing reads, requested binaries
-/// that are missing, patterns of `members` that match no package, and a workspace in a folder
-/// above, if this workspace lists the package.
+/// Returns notes on what a build ignores:
+///
+/// - keys in manifests, if nothing reads these keys;
+/// - requested binaries that are missing;
+/// - patterns of `members` that match no package;
+/// - a workspace in a folder above, if this workspace lists the package.
 pub fn notes_on_build<P: Place + Remembering>(
     alloc: Global,
     place: &mut P,

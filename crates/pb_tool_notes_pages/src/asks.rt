@@ -67,7 +67,7 @@ impl Ask {
     }
 }
 
-/// Returns whether a manifest asks for another.
+/// Returns whether the manifest `by` asks for the manifest at a path.
 pub(crate) fn is_asked(asks: &[Ask], by: &PathText, path: &PathText) -> bool {
     asks.iter().any(|ask| ask.by.as_str() == by.as_str() && ask.path.as_str() == path.as_str())
 }

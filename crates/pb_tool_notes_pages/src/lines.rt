@@ -54,8 +54,8 @@ fn left_open(line: &str) -> &'static str {
     ""
 }
 
-/// Returns the key path that a line begins: the path of the table for a header, the path of the
-/// value for a key. For any other line it returns an empty text.
+/// Returns the key path of a line. For a header, this is the path of the table; for a key, the path
+/// of the value. For any other line, the function returns an empty text.
 fn way_of_line(alloc: Global, reading: &mut Reading, line: &str) -> Result<String, AllocError> {
     if !reading.quotes.is_empty() {
         if line.contains(reading.quotes) {

@@ -52,7 +52,7 @@ pub fn files_in<P: Place>(
     place.list_directly(alloc, folder)
 }
 
-/// Returns the paths of the folders directly in a folder, except one of them.
+/// Returns the paths of the folders directly in a folder, except the folder `left_out`.
 pub fn folders_in<P: Place>(
     alloc: Global,
     place: &mut P,
@@ -64,7 +64,7 @@ pub fn folders_in<P: Place>(
     place.list_folders(alloc, folder, left_out)
 }
 
-/// Returns copies of those folders that are not at or below another folder.
+/// Returns copies of those folders that are not at or below the folder `left_out`.
 fn outside(
     alloc: Global,
     folders: &[PathText],

@@ -128,7 +128,7 @@ impl Notes {
         }
     }
 
-    /// Adds a note. After the ninth, it only counts the note.
+    /// Adds a note. If there are nine notes already, the function only counts the note.
     ///
     /// Errors: only out of memory.
     pub fn add(&mut self, alloc: Global, note: &Note) -> Result<(), AllocError> {
@@ -168,8 +168,8 @@ impl Notes {
         Ok(notes)
     }
 
-    /// Returns the notes as they are printed: if some came after the ninth, the ninth is
-    /// `and N more`. If memory runs out for that, they stay as they are.
+    /// Returns the notes as they are printed. If notes came after the ninth, the ninth text is `and
+    /// N more`. If memory runs out for this text, the notes stay as they are.
     pub fn finish(self, alloc: Global) -> Notes {
         if self.more == 0 {
             return self;

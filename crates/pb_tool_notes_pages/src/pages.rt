@@ -1,5 +1,5 @@
-//! The manifests of a workspace, read again: the root's, its members', and those that path
-//! dependencies name.
+//! The manifests of a workspace, read again: the manifests of the root, of its members, and of
+//! packages that path dependencies name.
 
 ghost use Rattle.pb_tool_notes_pages.specs.Looks.{LooksAgain};
 
@@ -73,7 +73,7 @@ pub fn page_at<P: Place + Remembering>(
     }
 }
 
-/// Reads the manifest at a path, unless it was read.
+/// Reads the manifest at a path, unless the manifest was already read.
 fn read_at<P: Place + Remembering>(
     alloc: Global,
     place: &mut P,
@@ -94,7 +94,7 @@ fn read_at<P: Place + Remembering>(
     }
 }
 
-/// Returns the path of the nth ask, if there are so many asks.
+/// Returns the path of the ask with this number, if there is such an ask.
 fn path_of(alloc: Global, pages: &Pages, number: usize) -> Result<Option<PathText>, AllocError> {
     match pages.asks.get(number) {
         Some(ask) => Ok(Some(ask.path.copy(alloc)?)),
@@ -102,7 +102,8 @@ fn path_of(alloc: Global, pages: &Pages, number: usize) -> Result<Option<PathTex
     }
 }
 
-/// Reads the requested manifests, one after another. The manifests that these request are read too.
+/// Reads the requested manifests, one after another. If such a manifest requests other manifests,
+/// these are read, too.
 fn read_all<P: Place + Remembering>(
     alloc: Global,
     place: &mut P,

@@ -196,7 +196,7 @@ pub fn fits(rule: &str, value: &Value) -> bool {
     }
 }
 
-/// Returns whether a rule allows another value of the same type.
+/// Returns whether a rule allows some other value of the same type as this value.
 pub(crate) fn has_values(rule: &str, value: &Value) -> bool {
     match rule.strip_suffix('+').unwrap_or(rule) {
         "edition" | "resolver" | "panic" => value.is_str(),

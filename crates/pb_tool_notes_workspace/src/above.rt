@@ -54,8 +54,8 @@ fn manifest_in<P: Place + Remembering>(
     }
 }
 
-/// If the root manifest has no `[workspace]`, adds a note for each workspace in a folder above that
-/// lists its package.
+/// If the root manifest has no `[workspace]`, adds a note for each workspace that is in a folder
+/// above and lists the root package.
 pub fn tell_above<P: Place + Remembering>(
     alloc: Global,
     place: &mut P,

@@ -50,7 +50,7 @@ fn near_among(alloc: Global, name: &str, folders: &[PathText]) -> Result<String,
     near(alloc, name, names.as_slice())
 }
 
-/// Returns the other folders in the folder that contains a folder.
+/// Returns the folders beside a folder: all folders in its parent folder, except the folder itself.
 fn folders_beside<P: Place>(
     alloc: Global,
     place: &mut P,

@@ -77,7 +77,7 @@ fn way_back<'a>(
     Ok(names)
 }
 
-/// Adds a path, from its end to its beginning.
+/// Adds a note with a path. `names` has the names on the path, from its end to its beginning.
 fn tell_way(alloc: Global, notes: &mut Notes, names: &[&str]) -> Result<(), AllocError> {
     let mut text = String::new(alloc);
     for name in names.iter().rev() {
@@ -99,7 +99,7 @@ fn step_of(steps: &[Step], name: &str) -> Option<usize> {
     None
 }
 
-/// Adds a shortest cycle through the first of some packages that depend on one another.
+/// Adds a note with a shortest cycle through the first of some packages that depend on one another.
 pub fn tell_circle(
     alloc: Global,
     notes: &mut Notes,

@@ -27,8 +27,7 @@ fn version_of<'a>(pages: &'a Pages, page: &'a Page) -> &'a str {
     }
 }
 
-/// Returns the version or the requirement that was read. Returns `None` if the text is not one of
-/// these.
+/// Returns what was read: a version or a requirement. Returns `None` if the text was refused.
 fn read<T: Drop>(found: Result<T, ManifestFault>) -> Result<Option<T>, AllocError> {
     match found {
         Ok(found) => Ok(Some(found)),
@@ -69,7 +68,8 @@ fn tell_entry(
     }
 }
 
-/// Adds a note on each entry that names a package of another version.
+/// Adds a note on each entry, if the version of the entry's package does not match the entry's
+/// requirement.
 pub fn tell_versions(alloc: Global, notes: &mut Notes, pages: &Pages) -> Result<(), AllocError> {
     for ask in pages.asks.as_slice() {
         if let Some(page) = pages.at(ask.path.as_str()) {
@@ -88,7 +88,7 @@ pub fn tell_versions(alloc: Global, notes: &mut Notes, pages: &Pages) -> Result<
     Ok(())
 }
 
-/// Adds a note on each entry that names a package of another name.
+/// Adds a note on each entry, if the entry's package does not have the requested name.
 pub fn tell_names(alloc: Global, notes: &mut Notes, pages: &Pages) -> Result<(), AllocError> {
     for ask in pages.asks.as_slice() {
         if let Some(page) = pages.at(ask.path.as_str()) {

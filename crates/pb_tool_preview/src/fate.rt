@@ -14,6 +14,6 @@ pub enum Fate {
     /// The unit reaches the unit at this index. A build would first start the child of that unit,
     /// and could compare this unit only then.
     Waits(usize),
-    /// The unit reaches the unit at this index, which would be bad.
+    /// The unit reaches the unit at this index, and that unit would be bad.
     Unreached(usize),
 }

@@ -171,28 +171,29 @@ fn counts_text(
     Ok(text)
 }
 
-/// Returns how many of these fates start.
+/// Returns how many units of these fates would be started.
 fn count_started(fates: &[Fate]) -> usize
     ensures { result ≡ count_by is_started fates.now }
 {
     fates.iter().filter(|fate| is_started(fate)).count()
 }
 
-/// Returns how many of these fates wait.
+/// Returns how many units of these fates wait for a unit that would be started.
 fn count_waiting(fates: &[Fate]) -> usize
     ensures { result ≡ count_by is_waiting fates.now }
 {
     fates.iter().filter(|fate| is_waiting(fate)).count()
 }
 
-/// Returns how many of these fates are not reached.
+/// Returns how many units of these fates are not reached.
 fn count_unreached(fates: &[Fate]) -> usize
     ensures { result ≡ count_by is_unreached fates.now }
 {
     fates.iter().filter(|fate| is_unreached(fate)).count()
 }
 
-/// Returns how many of these fates are kept or bad.
+/// Returns how many units of these fates are kept, whether what their records replay is good or
+/// bad.
 fn count_kept(fates: &[Fate]) -> usize
     ensures { result ≡ count_kept fates.now }
 {
@@ -202,7 +203,7 @@ fn count_kept(fates: &[Fate]) -> usize
     left.saturating_sub(count_unreached(fates))
 }
 
-/// Returns the line with how many units would be started, and so on.
+/// Returns the line that says how many units would be started, are kept, wait, or are not reached.
 fn counts_line(alloc: Global, fates: &[Fate]) -> Result<String, AllocError>
     ensures { IfOk result (λ text. string_bytes text ≡ counts_line fates.now) }
 {
@@ -215,8 +216,8 @@ fn counts_line(alloc: Global, fates: &[Fate]) -> Result<String, AllocError>
 
 /// Returns what a build would do with units of these fates. Each unit that is not kept has a line,
 /// in plan order, with its key and the reason. Five or more units with the same text share one
-/// line. The last line has the numbers of units that would be started, kept, and so on. Each line
-/// ends with a line feed. The words are our own choice.
+/// line. The last line says how many units would be started, are kept, wait, or are not reached.
+/// Each line ends with a line feed. The words are our own choice.
 ///
 /// Errors: out of memory.
 pub fn preview_lines(alloc: Global, units: &[Planned], fates: &[Fate]) -> Result<String, AllocError>

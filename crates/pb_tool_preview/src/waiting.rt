@@ -43,8 +43,8 @@ fn ends_badly(fate: Option<&Fate>) -> bool
     }
 }
 
-/// Returns the fate of a unit that reaches a unit that is not kept. The index is that of the first
-/// such unit.
+/// Returns the fate of a unit that reaches a unit that is not kept. `index` is the index of the
+/// first unit that is reached and not kept.
 pub(crate) fn waits_for(fates: &[Fate], index: usize) -> Fate
     ensures { result ≡ waits_for fates.now index }
 {

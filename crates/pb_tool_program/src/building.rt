@@ -45,7 +45,7 @@ fn status_of(answer: &Result<Summary, BuildFault>) -> u8
     }
 }
 
-/// Returns the line of a unit that will be built again.
+/// Returns the line that says that a unit will be built again, because this path has moved.
 fn moved_note(alloc: Global, path: &str, key: &str) -> Result<String, AllocError>
     ensures { IfOk result (λ text. string_bytes text ≡ moved_note path.now key.now) }
 {
@@ -56,7 +56,7 @@ fn moved_note(alloc: Global, path: &str, key: &str) -> Result<String, AllocError
     Ok(text)
 }
 
-/// Adds the line of a unit that will be built again.
+/// Adds the line that says that a unit will be built again.
 fn push_moved(alloc: Global, notes: &mut String, moved: &Moved) -> Result<(), AllocError>
     ensures { OnOk result (string_bytes notes.new
         ≡ string_bytes notes.old ++ moved_note moved.now.path (last_part moved.now.out)) }
@@ -215,7 +215,7 @@ fn tell_detail<E: Out>(
     };
 }
 
-/// Looks again at a workspace that was refused, for notes on why.
+/// Looks again at a workspace that was refused, and returns notes on why it was refused.
 fn look_at_refusal<P: Place + Remembering>(
     alloc: Global,
     place: &mut P,
@@ -231,8 +231,8 @@ fn look_at_refusal<P: Place + Remembering>(
     }
 }
 
-/// Looks again at the workspace of a build that was refused or ended without a fault, for notes.
-/// After any other fault it makes no call of the place.
+/// Looks again at the workspace of a build that was refused or ended without a fault, and returns
+/// notes. After any other fault, the function makes no call of the place.
 pub(crate) fn look<P: Place + Remembering>(
     alloc: Global,
     place: &mut P,
@@ -297,8 +297,8 @@ pub(crate) fn conclude<E: Out>(
 ///   The next build builds this unit again.
 /// - If requested, why each child was started. After a fault, this is what the place has noted.
 /// - What the child of a bad unit printed, except what the message lines contain.
-/// - The sentence of the fault. If a compiler failed and its messages were not rendered, also where
-///   these messages are.
+/// - The sentence of the fault. If a compiler failed and its messages were not rendered, a note
+///   says where these messages are.
 /// - What the place reports of a fault of the outside world.
 /// - The notes of a second look.
 /// - For a build that failed or was refused, `error: ` and its result line.
@@ -327,7 +327,7 @@ pub fn build_options<P: Noting + Reporting + Remembering, G: Guard<P, E>, O: Out
 {
     let plan = plan_build(alloc, place, options);
     note(alloc, err, &plan);
-    // The lock comes after the plan: a refused build makes no folder.
+    // The lock comes after the plan, so that a refused build makes no folder.
     hold(guard, place, err, &plan);
     let units = units_if(explain, &plan);
     let answer = build_watched(alloc, place, out, line, options, plan);

@@ -24,7 +24,7 @@ use pb_unit::PlanFault;
 use pb_workspace_types::Options;
 use std::alloc::{AllocError, Global};
 
-/// Returns which things a removal wanted, as its note names them.
+/// Returns the words by which a note names what a removal wanted to remove.
 fn of_what(wanted: Wanted) -> &'static str
     ensures { result.now ≡ of_what wanted }
 {
@@ -35,7 +35,7 @@ fn of_what(wanted: Wanted) -> &'static str
     }
 }
 
-/// Returns the name of the refusal if nothing that is wanted exists.
+/// Returns the name of the refusal of a removal that found nothing to remove.
 fn refusal_of(wanted: Wanted) -> &'static str
     ensures { result.now ≡ refusal_of wanted }
 {
@@ -46,7 +46,7 @@ fn refusal_of(wanted: Wanted) -> &'static str
     }
 }
 
-/// Returns what is written if a folder contains nothing that is wanted: a note and the result line.
+/// Returns the note and the result line for a folder in which a removal found nothing to remove.
 fn nothing_told(alloc: Global, wanted: Wanted, folder: &PathText) -> Result<String, AllocError>
     ensures { IfOk result (λ text. string_bytes text ≡ nothing_told wanted folder.now) }
 {
@@ -60,8 +60,8 @@ fn nothing_told(alloc: Global, wanted: Wanted, folder: &PathText) -> Result<Stri
     Ok(text)
 }
 
-/// Writes that a folder contains nothing that is wanted. If memory runs out, writes a line that
-/// needs no memory instead.
+/// Writes that a removal found nothing to remove in a folder. If memory runs out, writes a line
+/// that needs no memory instead.
 fn tell_nothing<E: Out>(alloc: Global, err: &mut E, wanted: Wanted, folder: &PathText)
     ensures { Tells (nothing_told wanted folder.now) (E.heard err.old) (E.heard err.new)
         ⊎ Tells why_lost (E.heard err.old) (E.heard err.new) }
@@ -169,9 +169,9 @@ fn clean_found<P: Place>(
 /// or a removal failed.
 ///
 /// With 101, `err` has notes and `error: ` with a result line. The target folder is listed first.
-/// If it contains nothing that is wanted, nothing is done. Between this look and the removal, the
-/// target folder is requested from the guard. If a build has the folder, a line on `err` says so,
-/// and this removal waits.
+/// If it contains nothing to remove, nothing is done. Between this look and the removal, the target
+/// folder is requested from the guard. If a build has the folder, a line on `err` says so, and this
+/// removal waits.
 pub fn clean_options<P: Place + Reporting, G: Guard<P, E>, E: Out>(
     alloc: Global,
     place: &mut P,

@@ -40,8 +40,8 @@ fn tell_reasons<E: Out>(
     }
 }
 
-/// Writes why a build that ended without a fault started its children, with the noted details. The
-/// build has this number of units.
+/// Writes why a build that ended without a fault started its children, with the noted details.
+/// `units` is the number of the build's units.
 fn tell_summary<E: Out>(alloc: Global, err: &mut E, units: usize, summary: &Summary, noted: &Noted)
     ensures { TellsSummary units summary.now (E.heard err.old) (E.heard err.new) }
 {

@@ -6,13 +6,18 @@ ghost use Rattle.pb_place_types.specs.Sinks.{SinkState};
 
 use pb_place_types::{Out, PathText, Place};
 
-/// Reserves target folders for one build at a time, if possible. Its contracts see the counters of
-/// the place, and what `err` has received at the moment of the call. So these contracts say when
-/// the call comes.
+/// Reserves target folders for one build at a time, if possible. At each call, the contracts see
+/// the counters of the place and what `err` has received. So they can say at which moment of a
+/// build the call comes.
 pub trait Guard<P: Place, E: Out> {
-    /// How a folder is requested. The relation is between the guard before, the folder, the place's
-    /// counters, what `err` has received, whether another build has the folder, and the guard
-    /// after.
+    /// How a folder is requested. This is a relation between these, in order:
+    ///
+    /// - the guard before;
+    /// - the folder;
+    /// - the place's counters;
+    /// - what `err` has received;
+    /// - whether another build has the folder;
+    /// - the guard after.
     ghost asks: { Self → List ℕ → Counts → SinkState → Bool → Self → Type 0 };
 
     /// How the guard waits for a folder. The relation is between the guard before, the place's

@@ -8,8 +8,8 @@ use crate::guard::Guard;
 use pb_tool_screen::{Coloring, Screen, Speaking};
 use pb_tool_witness::Noting;
 
-/// What is shown of a build besides its message lines does not change the build itself. Its status,
-/// its lines, the children that it starts and the files that it leaves are the same.
+/// What the program shows of a build, apart from the message lines, does not change the build. The
+/// status, the lines, the started children and the files that the build leaves are the same.
 pub fn shown_changes_nothing<P: Speaking + Noting, G: Guard<P, E>, O: Screen, E: Coloring>()
     ensures { ShownChangesNothing P.is_modelled P.child (Guarded G.asks G.waits)
         (IsShownAs P.speaks P.notes O.shows E.colors) }

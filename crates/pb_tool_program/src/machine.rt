@@ -30,8 +30,8 @@ fn folder(rt: &HostRuntime) -> io::Result<PathText> {
     }
 }
 
-/// Returns whether the variable `NO_COLOR` is set and not empty. Such a variable requests programs
-/// not to use colours.
+/// Returns whether the variable `NO_COLOR` is set and not empty. The variable asks programs to use
+/// no colours.
 fn has_no_color(rt: &HostRuntime) -> bool {
     match env::var(rt, "NO_COLOR") {
         Ok(value) => !value.is_empty(),
@@ -72,8 +72,8 @@ fn say_counts(rt: &HostRuntime, counted: Counted, start: Instant) -> io::Result<
     Ok(())
 }
 
-/// Does what the arguments of this process request, over its files, variables and children, and
-/// returns the exit status.
+/// Does what the arguments of this process request, and returns the exit status. Files, variables
+/// and children are those of the machine.
 ///
 /// The status is that of `run`. If an argument is not UTF-8, the status is 1. If the current folder
 /// is unknown, or memory runs out for the arguments or the folder, the status is 101. Each reason

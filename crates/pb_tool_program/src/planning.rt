@@ -32,7 +32,7 @@ fn plan_text(alloc: Global, plan: &Plan, form: PlanForm) -> Result<String, Alloc
 
 /// Prints a plan.
 ///
-/// Errors: `Sink`, if the output fails; `OutOfMemory`, and then nothing is written.
+/// Errors: `Sink`, if the output fails; `OutOfMemory`. If memory runs out, nothing is written.
 fn print<O: Out>(alloc: Global, out: &mut O, plan: &Plan, form: PlanForm) -> Result<(), BuildFault>
     ensures { PrintsText (plan_text form plan.now) result (O.heard out.old) (O.heard out.new) }
 {

@@ -30,8 +30,8 @@ fn in_status(status: &str) -> Option<u64> {
 }
 
 /// Returns how many processors this process may use, by `/proc/self/status`. If this file does not
-/// say so, as on a system other than Linux, the function returns 1. (std returns the number only to
-/// programs that may start threads.)
+/// contain the number, as on a system other than Linux, the function returns 1. (std returns the
+/// number only to programs that may start threads.)
 pub(crate) fn processors(rt: &HostRuntime) -> u64 {
     let Ok(status) = fs::read_to_string(rt, "/proc/self/status") else {
         return 1;

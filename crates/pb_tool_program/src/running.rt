@@ -109,13 +109,14 @@ fn build<P: Speaking + Noting + Remembering, G: Guard<P, E>, O: Screen, E: Color
     )
 }
 
-/// The whole program: does what the arguments of the command line request. The first argument is
-/// the program's own name.
+/// Does what the arguments of the command line request, and returns the exit status. This is the
+/// whole program. The first argument is the program's own name.
 ///
 /// A build requests its target folder from the guard once the build is planned. A removal requests
 /// its target folder once the folder is listed. Four parameters decide what a build shows besides
-/// its message lines. `place` names its children, `out` shows its lines as text, `err` has colours,
-/// and `line` shows which unit begins. The page contains the meanings of the names of result lines.
+/// its message lines. `place` names the children that it starts, `out` shows lines as text, `err`
+/// has colours, and `line` shows which unit begins. The page contains the meanings of the names of
+/// result lines.
 ///
 /// The status is:
 ///

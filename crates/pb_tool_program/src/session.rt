@@ -70,19 +70,19 @@ fn carry_out<O: Out>(alloc: Global, bytes: &[u8], out: &mut O) -> Result<bool, B
     Ok(written)
 }
 
-/// The session program. A session is read from bytes and run in memory with the small compiler as
-/// its child. All message lines of its builds are written to `out`, and then one result line for
-/// each build, followed by a line feed.
+/// Runs a session, and returns the exit status. The session is read from bytes and run in memory
+/// with the small compiler as its child. All message lines of its builds are written to `out`, and
+/// then one result line for each build, followed by a line feed.
 ///
-/// The status is 0, or 1 with `error: bad session` and a line feed on `err`. It is 1 if:
+/// The status is 0, or 1 with `error: bad session` and a line feed on `err`. The status is 1 if:
 ///
 /// - the bytes are not a session; then nothing is run and nothing is written to `out`;
 /// - memory runs out outside a build;
 /// - a result line cannot be written.
 ///
-/// `out` then has the first lines of the session, as far as the session was run and the sink took
-/// its lines. A build that is refused or fails does not make a session bad: its result line reports
-/// it.
+/// If the status is 1, `out` has the first lines of the session, as far as the session was run and
+/// the sink took the lines. A build that is refused or fails does not make a session bad: its
+/// result line reports it.
 pub fn run_session<O: Out, E: Out>(alloc: Global, bytes: &[u8], out: &mut O, err: &mut E) -> u8
     ensures status { (result ≡ 0) ⊎ (result ≡ 1) }
     ensures written { result ≡ 0 →

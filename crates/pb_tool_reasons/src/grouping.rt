@@ -58,8 +58,8 @@ fn group_line(alloc: Global, count: usize, row: &Row) -> Result<String, AllocErr
     Ok(text)
 }
 
-/// Returns the line for the row at an index. It is empty if an earlier row has the line of many
-/// units.
+/// Returns the line for the row at an index. The line is empty if an earlier row already has the
+/// shared line for this text.
 fn line_in(alloc: Global, rows: &[Row], index: usize, row: &Row) -> Result<String, AllocError>
     requires within { index < length rows.now }
     ensures { IfOk result

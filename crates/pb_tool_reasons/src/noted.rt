@@ -17,7 +17,7 @@ pub struct Noted {
     pub details: Items<Detail>,
     /// How many units began and were kept.
     pub kept: usize,
-    /// Whether memory ran out for a note. All other fields may then lack something.
+    /// Whether memory ran out for a note. In this case each other field may be incomplete.
     pub lost: bool,
 }
 

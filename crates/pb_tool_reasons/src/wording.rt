@@ -97,8 +97,8 @@ fn word_reason(alloc: Global, difference: &Difference, text: &Text) -> Result<St
     }
 }
 
-/// Returns why a unit's child was started. If it is known how the thing differs, and the text about
-/// this has one line, the result contains this text.
+/// Returns why a unit's child was started. If the detail has a text of one line, the result
+/// contains this text.
 ///
 /// Errors: out of memory.
 pub fn reason_with(

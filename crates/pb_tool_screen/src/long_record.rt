@@ -8,7 +8,7 @@ use std::alloc::{AllocError, Global};
 /// The greatest number of bytes of a record that gets no note.
 const LONGEST: usize = 16_777_216;
 
-/// The end of the name of the record of a script's run.
+/// How the name of the record of a script's run ends.
 const RUN_RECORD: &str = ".run.record";
 
 /// How many files the note names.

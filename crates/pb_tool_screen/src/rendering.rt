@@ -38,7 +38,7 @@ fn level_line(alloc: Global, level: &str, text: &str) -> Result<String, AllocErr
     Ok(line)
 }
 
-/// Returns a line with a level and a text, which are at these paths of a message line.
+/// Returns a line with the level and the text that are at these paths of a message line.
 fn told_at(alloc: Global, value: &Value, level: &str, text: &str) -> Result<String, AllocError>
     ensures { IfOk result
         (λ line. string_bytes line ≡ told_at level.now text.now (view value.now)) }

@@ -184,7 +184,8 @@ fn is_in_unit(folder: &str, key: &str, path: &str) -> bool {
     }
 }
 
-/// Returns the key of the unit in whose folder a path is, if a record names this unit by copies.
+/// Returns the key of the unit whose folder contains a path, if a record contains copies of this
+/// unit's files.
 fn copy_at<'a>(kept: &'a Record, folder: &str, path: &PathText) -> Option<&'a Text> {
     match &kept.needed {
         Needed::Copies(copies) => copies

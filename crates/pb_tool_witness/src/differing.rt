@@ -9,8 +9,9 @@ use pb_store::{Difference, first_number};
 use pb_tool_reasons::Detail;
 use std::alloc::{AllocError, Global};
 
-/// Returns the first needed unit that is not as the record names it. A record of format 1 contains
-/// files. Then the first unit that differs is the unit whose folder was listed last.
+/// Returns the first needed unit that does not agree with the record. A record of format 1 contains
+/// the files of needed units. For such a record, the first unit that does not agree is the unit
+/// whose folder was listed last.
 fn first_need(
     alloc: Global,
     numbers: &Table<Option<u64>>,

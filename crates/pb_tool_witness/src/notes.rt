@@ -163,8 +163,8 @@ impl Notes {
         }
     }
 
-    /// Ends the comparison of a unit if a read of this path cannot belong to the comparison. The
-    /// unit was then kept, and a unit answers.
+    /// Ends the comparison of a unit if a read of this path cannot belong to the comparison. Then
+    /// the compared unit was kept, and the read belongs to a unit that answers.
     fn pass(&mut self, path: &PathText) {
         if self.is_past(path) {
             self.end();
@@ -196,8 +196,8 @@ impl Notes {
         }
     }
 
-    /// Notes that the record of a unit was read. If the unit has not begun, it begins: it counts as
-    /// kept until its child is started.
+    /// Notes that the record of a unit was read. If the unit has not begun, the unit begins. It
+    /// then counts as kept until its child is started.
     fn begin(&mut self, alloc: Global, key: &str, text: Option<&Bytes>) -> Result<(), AllocError> {
         self.end();
         let key = Text::from_str(alloc, key)?;
@@ -307,8 +307,8 @@ impl Notes {
         }
     }
 
-    /// Notes a read that failed. If this is the read of a record, the unit before has begun, and
-    /// the record's unit has not.
+    /// Notes a read that failed. If a record was to be read, the unit that was compared before has
+    /// begun, and the unit of this record has not.
     pub(crate) fn note_failed_read(&mut self, path: &PathText) {
         if self.key_at(path).is_some() {
             self.end();

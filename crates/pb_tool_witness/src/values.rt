@@ -26,8 +26,8 @@ pub(crate) fn push_plain(out: &mut String, letters: std::str::Chars<'_>) -> Resu
 }
 
 /// Returns how many letters are left out at the start of two values. If no value is long, no letter
-/// is left out. Otherwise the letters with which both values begin are left out, except the last of
-/// these letters.
+/// is left out. Otherwise the letters with which both values begin are left out, except the last
+/// `SAME` of these letters.
 fn count_left_out(old: &str, new: &str) -> usize {
     if old.len() <= LONGEST && new.len() <= LONGEST {
         return 0;

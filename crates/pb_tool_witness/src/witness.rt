@@ -19,7 +19,8 @@ use std::alloc::{AllocError, Global};
 /// its own.
 ///
 /// The place also remembers the manifests that it read and the folders that it listed since notes
-/// were last switched. A planning reads and lists these, and the second look needs them again.
+/// were last switched. A planning reads these manifests and lists these folders, and the second
+/// look needs them again.
 #[derive(Drop)]
 pub struct Witness<P> {
     /// The place that makes the calls.

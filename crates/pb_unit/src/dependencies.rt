@@ -121,8 +121,8 @@ fn leads(workspace: &SettledWorkspace, need: Need, entry: &Entry) -> bool
     }
 }
 
-/// Returns the number of the unit that a need of this kind means. A unit on this side has the need,
-/// and the need leads to the package at this index.
+/// Returns the number of the unit that is needed. `side` is the side of the unit that has the need,
+/// and `owner` is the index of the needed unit's package.
 fn needed_number(need: Need, owner: usize, side: Side) -> usize
     requires { owner < 256 }
     ensures { result ≡ number (needed need owner side) }
@@ -134,7 +134,8 @@ fn needed_number(need: Need, owner: usize, side: Side) -> usize
     }
 }
 
-/// For the package at an index, adds the needs of this kind to which its enabled entries lead.
+/// Adds the numbers of the units that the package at an index needs in this way, because its
+/// enabled entries lead to them.
 pub(crate) fn add_needed(
     numbers: &mut Vec<usize>,
     workspace: &SettledWorkspace,

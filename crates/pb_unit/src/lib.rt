@@ -1,5 +1,6 @@
-//! The units of a build, and their plan: all units that the selected packages need, each after the
-//! units that it needs (The Cargo Book, Build Scripts, Features, Profiles, cargo build).
+//! The units of a build, and their plan. The plan contains all units that the selected packages
+//! need. Each unit comes after the units that it needs (The Cargo Book, Build Scripts, Features,
+//! Profiles, cargo build).
 #![tactic(auto)]
 
 mod candidates;

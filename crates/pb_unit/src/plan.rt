@@ -35,8 +35,8 @@ pub struct Planned {
     pub unit: Unit,
     /// Its key.
     pub key: Text,
-    /// Its output folder: the folder with the unit's key as its name, in the folder of the profile,
-    /// in the target folder.
+    /// Its output folder. This folder has the unit's key as its name. It is in the folder of the
+    /// profile, which is in the target folder.
     pub out: PathText,
     /// Its level: 0 if the unit needs nothing, and otherwise one more than the greatest level of
     /// the units that it needs.
@@ -61,8 +61,8 @@ pub struct Plan {
     pub without_library: Items<Text>,
 }
 
-/// Returns the workspace from which packages are selected. The facts that the selection's type
-/// promises are taken from the selection.
+/// Returns the workspace from which packages are selected. The contract repeats what the
+/// selection's type promises.
 fn workspace_of<'a>(selected: &'a SelectedWorkspace<'_>) -> &'a Workspace
     ensures value { result.now ≡ selected.now.workspace }
     ensures settled { IsSettled selected.now.workspace }

@@ -24,10 +24,14 @@ pub fn needs_are_these()
 {}
 
 /// A law: the line of inheritance of a profile leads from each profile to the profile from which it
-/// inherits, up to `dev` or `release`. A profile is at fault if it is neither `dev` nor `release`
-/// and inherits from no profile, or if it inherits from itself in one or more steps. A profile has
-/// no line of inheritance if and only if it, or a profile from which it inherits, is at fault. A
-/// line of inheritance is good if its overrides set only keys that overrides may set.
+/// inherits, up to `dev` or `release`. A profile is at fault in two cases:
+///
+/// - The profile is neither `dev` nor `release`, and inherits from no profile.
+/// - The profile inherits from itself in one or more steps.
+///
+/// A profile has no line of inheritance if and only if the profile, or a profile from which it
+/// inherits, is at fault. A line of inheritance is good if the overrides of its profiles set only
+/// keys that overrides may set.
 pub fn lines_are_these()
     ensures lines { LinesAreThese }
     ensures checked { LinesAreChecked }

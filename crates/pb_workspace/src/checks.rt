@@ -45,8 +45,8 @@ fn has_same_names(alloc: Global, drafts: &[UnresolvedPackage]) -> Result<bool, A
     again
 }
 
-/// Returns whether two of these packages link the same native library, or one links a library that
-/// was seen before.
+/// Returns whether two of these packages link the same native library, or whether one of them links
+/// a library that was seen before.
 fn links_come_again(
     alloc: Global,
     seen: &mut OrderedSet,
@@ -102,7 +102,8 @@ fn leads_to_other_name(
     }
 }
 
-/// Returns whether an entry leads to a package whose version does not match its requirement.
+/// Returns whether an entry leads to a package whose version does not match the entry's
+/// requirement.
 fn leads_to_other_version(
     drafts: &[UnresolvedPackage],
     places: &ByFolder<usize>,
@@ -145,7 +146,8 @@ fn some_other_name(drafts: &[UnresolvedPackage], places: &ByFolder<usize>) -> bo
     false
 }
 
-/// Returns whether one of these entries leads to a package whose version does not match.
+/// Returns whether one of these entries leads to a package whose version does not match the entry's
+/// requirement.
 fn one_other_version(
     drafts: &[UnresolvedPackage],
     places: &ByFolder<usize>,
@@ -163,7 +165,8 @@ fn one_other_version(
     false
 }
 
-/// Returns whether an entry of some package leads to a package whose version does not match.
+/// Returns whether an entry of some package leads to a package whose version does not match the
+/// entry's requirement.
 fn some_other_version(drafts: &[UnresolvedPackage], places: &ByFolder<usize>) -> bool
     requires { places.now ≡ places_of drafts.now }
     ensures { result ≡ some_leads has_other_version drafts.now }

@@ -1,6 +1,6 @@
-//! Workspaces: which packages exist, with all that they inherit and all that is discovered, and
-//! which of them a build must build (The Cargo Book, Workspaces, Manifest Format, Specifying
-//! Dependencies).
+//! Workspaces: their packages, with all that the packages inherit and all that is discovered in
+//! folders. The crate also selects the packages that a build must build (The Cargo Book,
+//! Workspaces, Manifest Format, Specifying Dependencies).
 #![tactic(auto)]
 
 mod assembled;

@@ -86,7 +86,7 @@ fn folder_named(
 /// folder exists. In this case no call is made. Any other part leads to the folders with matching
 /// names, and one call lists the folders (our own choice).
 ///
-/// Errors: `Place`, if the listing failed, with its path; `OutOfMemory`.
+/// Errors: `Place` with the call's path, if the listing failed; `OutOfMemory`.
 fn one_step<P: Place>(
     alloc: Global,
     place: &mut P,
@@ -218,7 +218,8 @@ fn led_to<P: Place>(
     Ok(led)
 }
 
-/// Returns `/` as a list. The text is a path, so only memory can run out.
+/// Returns a list that contains only the folder `/`. The text `/` is a path, so the call can only
+/// run out of memory.
 ///
 /// Errors: out of memory only.
 fn root_alone(alloc: Global) -> Result<Items<PathText>, AllocError>
@@ -232,7 +233,7 @@ fn root_alone(alloc: Global) -> Result<Items<PathText>, AllocError>
 
 /// Returns whether a folder has a manifest.
 ///
-/// Errors: `Place`, if the call failed, with its path; `OutOfMemory`.
+/// Errors: `Place` with the call's path, if the call failed; `OutOfMemory`.
 fn has_manifest<P: Place>(
     alloc: Global,
     place: &mut P,
@@ -381,7 +382,7 @@ fn folders_of_texts<P: Place>(
 /// are looked at: `crates/*` lists the folders in `crates`, and nothing below them (our own
 /// choice).
 ///
-/// Errors: `Place`, if a call failed, with its path; `OutOfMemory`.
+/// Errors: `Place` with the call's path, if a call failed; `OutOfMemory`.
 pub fn member_folders<P: Place>(
     alloc: Global,
     place: &mut P,

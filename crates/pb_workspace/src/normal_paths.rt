@@ -8,14 +8,14 @@ ghost use Rattle.pb_workspace.specs.NormalPaths.{HasSource, HasOwnPaths, HasNorm
 use pb_place_types::PathText;
 use pb_workspace_types::{Binary, Library, Package, Workspace};
 
-/// A path is normalised and absolute.
+/// States that a path is normalised and absolute.
 fn is_normal(path: &PathText)
     ensures { is_path path.now ≡ true }
 {
     let _text = path.as_str();
 }
 
-/// The source of a library is normalised.
+/// States that the source of a library is normalised.
 fn library_is_normal(library: &Option<Library>)
     ensures { IfSome library.now (λ library. is_path library.source ≡ true) }
 {
@@ -24,14 +24,14 @@ fn library_is_normal(library: &Option<Library>)
     }
 }
 
-/// The source of a binary is normalised.
+/// States that the source of a binary is normalised.
 fn binary_is_normal(binary: &Binary)
     ensures { HasSource binary.now }
 {
     is_normal(&binary.source);
 }
 
-/// The source of each binary is normalised.
+/// States that the source of each binary is normalised.
 fn binaries_are_normal(binaries: &[Binary])
     ensures { All HasSource binaries.now }
 {
@@ -40,7 +40,7 @@ fn binaries_are_normal(binaries: &[Binary])
     }
 }
 
-/// The source of a build script is normalised.
+/// States that the source of a build script is normalised.
 fn script_is_normal(script: &Option<PathText>)
     ensures { IfSome script.now (λ path. is_path path ≡ true) }
 {
@@ -49,7 +49,7 @@ fn script_is_normal(script: &Option<PathText>)
     }
 }
 
-/// All paths of a package are normalised and absolute.
+/// States that all paths of a package are normalised and absolute.
 fn package_has_paths(owner: &Package)
     ensures { HasOwnPaths owner.now }
 {
@@ -60,7 +60,7 @@ fn package_has_paths(owner: &Package)
     script_is_normal(&owner.script);
 }
 
-/// All paths of each package are normalised and absolute.
+/// States that all paths of each package are normalised and absolute.
 fn packages_have_paths(packages: &[Package])
     ensures { All HasOwnPaths packages.now }
 {
@@ -69,9 +69,9 @@ fn packages_have_paths(packages: &[Package])
     }
 }
 
-/// All paths of a workspace are normalised and absolute: its root, its target folder, and the
-/// folder, manifest and sources of each package. The function does nothing. Its contract states the
-/// fact for callers that have a workspace (our own choice).
+/// States that all paths of a workspace are normalised and absolute: its root, its target folder,
+/// and the folder, manifest and sources of each package. The function does nothing. Its contract
+/// states the fact for callers that have a workspace (our own choice).
 pub fn workspace_has_paths(workspace: &Workspace)
     ensures { HasNormalPaths workspace.now }
 {

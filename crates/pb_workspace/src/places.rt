@@ -1,4 +1,4 @@
-//! Packages by the indices of their folders.
+//! The indices of packages, by the packages' folders.
 
 ghost use Rattle.std.specs.Prelude.{◌≡◌, IfOk};
 ghost use Rattle.std.specs.Option.{option_copied};

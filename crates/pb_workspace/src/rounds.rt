@@ -61,7 +61,8 @@ fn manifest_refusal(alloc: Global, path: &PathText, fault: ManifestFault) -> Loa
     }
 }
 
-/// The manifest in some bytes.
+/// Returns the manifest in the bytes that were found at a path, or `NoManifest` if nothing was
+/// found.
 
 fn read_found(alloc: Global, path: &PathText, found: Option<Bytes>) -> Result<Manifest, LoadFault>
     ensures told { UnlessFailed result (read_found path.now found) }
@@ -79,7 +80,7 @@ fn read_found(alloc: Global, path: &PathText, found: Option<Bytes>) -> Result<Ma
     }
 }
 
-/// Returns the manifest at a path. At most one byte more than a manifest may have is read.
+/// Returns the manifest at a path. The read takes at most one byte more than a manifest may have.
 ///
 /// Errors:
 ///
@@ -395,7 +396,7 @@ fn one_read<P: Place>(
     Ok(made)
 }
 
-/// Reads folders in turn, up to the first fault.
+/// Reads folders, one after another, up to the first fault.
 pub fn all_read<P: Place>(
     alloc: Global,
     place: &mut P,

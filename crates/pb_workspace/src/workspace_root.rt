@@ -106,9 +106,9 @@ pub fn frame_of(
 }
 
 /// Returns whether the package of a folder is a member. The root package is a member. In a
-/// workspace, each folder that `members` means is a member. So is each folder inside the root
-/// folder that is not excluded (The Cargo Book, Workspaces). It does not matter which package's
-/// path dependency leads to the folder (our own choice).
+/// workspace, the package of each folder that `members` means is a member. Unless a folder inside
+/// the root folder is excluded, its package is a member too (The Cargo Book, Workspaces). It does
+/// not matter which package's path dependency leads to the folder (our own choice).
 ///
 /// Errors: out of memory only.
 pub fn is_member(

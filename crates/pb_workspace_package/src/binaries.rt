@@ -175,7 +175,7 @@ pub fn written_binaries(
     Ok(binaries)
 }
 
-/// Adds binaries in turn. Each binary replaces an earlier binary of the same name.
+/// Adds binaries, one after another. Each binary replaces an earlier binary of the same name.
 fn put_binaries(
     alloc: Global,
     entries: &mut Sorted<Binary>,

@@ -42,8 +42,12 @@ pub fn found_readme(
 }
 
 /// Returns the source of a package's build script, if the package has a build script (The Cargo
-/// Book, Build Scripts). Unless `build` says otherwise, the source is `build.rs` if the package's
-/// folder has this file. If `build` writes a path, the source is this path, unchanged.
+/// Book, Build Scripts). The value of `build` decides:
+///
+/// - `Discovered`: `build.rs`, if the package's folder has this file;
+/// - `Standard`: `build.rs`, whether the file exists or not;
+/// - `Never`: no source;
+/// - `At`: the written path.
 ///
 /// Errors: out of memory.
 pub fn script_of(

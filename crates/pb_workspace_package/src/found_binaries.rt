@@ -137,7 +137,7 @@ fn add_binaries(
     Ok(())
 }
 
-/// Adds the binary of `src/main.rs`, if that file exists, named as the package.
+/// Adds the binary of `src/main.rs`, if this file exists. The binary has the package's name.
 fn add_main(
     alloc: Global,
     name: &Text,

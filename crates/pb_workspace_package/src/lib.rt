@@ -1,7 +1,7 @@
-//! One package, before the packages of a workspace are put together. Its manifest, its files and
-//! what it takes from its workspace determine it (The Cargo Book, Manifest Format, Cargo Targets,
-//! Features, Specifying Dependencies, Workspaces). `pb_workspace` reads the manifests and puts the
-//! packages together.
+//! One package, before the packages of a workspace are put together. The package's manifest, its
+//! files, and what it takes from its workspace determine the package (The Cargo Book, Manifest
+//! Format, Cargo Targets, Features, Specifying Dependencies, Workspaces). `pb_workspace` reads the
+//! manifests and puts the packages together.
 #![tactic(auto)]
 
 mod again;

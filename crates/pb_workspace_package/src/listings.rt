@@ -40,7 +40,7 @@ pub fn bin_folder(alloc: Global, folder: &PathText) -> Result<PathText, AllocErr
 /// Returns whether a package's folder has a file at a fixed path. A file at or below the target
 /// folder is not looked up.
 ///
-/// Errors: `Place`, if the call failed, with its path; `OutOfMemory`.
+/// Errors: `Place` with the call's path, if the call failed; `OutOfMemory`.
 fn is_there<P: Place>(
     alloc: Global,
     place: &mut P,
@@ -59,10 +59,10 @@ fn is_there<P: Place>(
     is_source(alloc, place, target, &path)
 }
 
-/// Returns the files at fixed paths that a package's folder has. Each of these files is looked up
-/// in turn. A file at or below the target folder is not looked up.
+/// Returns the files at fixed paths that a package's folder has. These files are looked up one
+/// after another. A file at or below the target folder is not looked up.
 ///
-/// Errors: `Place`, if a call failed, with its path; `OutOfMemory`.
+/// Errors: `Place` with the call's path, if a call failed; `OutOfMemory`.
 fn files_there<P: Place>(
     alloc: Global,
     place: &mut P,
@@ -88,7 +88,7 @@ fn files_there<P: Place>(
 /// Returns the files of a package's folder. Each file at a fixed path is looked up, and then
 /// `src/bin` is listed. Nothing at or below the target folder is looked at.
 ///
-/// Errors: `Place`, if a call failed, with its path; `OutOfMemory`.
+/// Errors: `Place` with the call's path, if a call failed; `OutOfMemory`.
 pub fn listings_of<P: Place>(
     alloc: Global,
     place: &mut P,

@@ -26,8 +26,8 @@ use pb_place_types::PathText;
 use pb_workspace_types::{BinariesByName, Binary, DependencyKind, Library, LoadFault};
 use std::alloc::{AllocError, Global};
 
-/// What a package may take from its workspace. A package that may take nothing gets a table without
-/// values and no entries.
+/// What a package may take from its workspace. For a package that may take nothing, the table has
+/// no values and the list has no entries.
 #[derive(Drop)]
 pub struct Given {
     /// `[workspace.package]`.
@@ -83,7 +83,7 @@ fn join_entries(first: Items<Wanted>, second: Items<Wanted>) -> Result<Items<Wan
 ///
 /// Errors:
 ///
-/// - `NoInherited`, if an entry is taken that the workspace does not have.
+/// - `NoInherited`, if an entry is taken from a workspace that does not have it.
 /// - `Manifest` with `UnsupportedSource`, if the workspace's entry has no path, or has `git` or
 ///   `registry`.
 /// - `OutOfMemory`.

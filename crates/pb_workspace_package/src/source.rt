@@ -16,7 +16,7 @@ use pb_place_types::{PathText, Place, PlaceFault, RelativePath};
 use pb_workspace_types::LoadFault;
 use std::alloc::{AllocError, Global};
 
-/// Returns the fault of a failed call on a path. Out of memory stays out of memory. No memory is
+/// Returns the fault of a failed call on a path. `OutOfMemory` stays `OutOfMemory`. No memory is
 /// used.
 pub fn call_fault(path: PathText, fault: PlaceFault) -> LoadFault
     ensures { result ≡ fault_at path fault }
@@ -30,7 +30,7 @@ pub fn call_fault(path: PathText, fault: PlaceFault) -> LoadFault
 /// Returns at most the first `most` bytes of the file at a path, if the file is one of the sources.
 /// A path at or below the target folder is not read.
 ///
-/// Errors: `Place`, if the read failed, with its path; `OutOfMemory`.
+/// Errors: `Place` with the call's path, if the read failed; `OutOfMemory`.
 #[tactic(auto, using(crate::proofs::SourceLemmas::source_laws))]
 pub fn source<P: Place>(
     alloc: Global,
@@ -59,7 +59,7 @@ pub fn source<P: Place>(
 /// Returns whether a file of the sources is at a path. No call is made for a path at or below the
 /// target folder.
 ///
-/// Errors: `Place`, if the call failed, with its path; `OutOfMemory`.
+/// Errors: `Place` with the call's path, if the call failed; `OutOfMemory`.
 #[tactic(auto, using(crate::proofs::SourceLemmas::asking_laws))]
 pub fn is_source<P: Place>(
     alloc: Global,
@@ -87,7 +87,7 @@ pub fn is_source<P: Place>(
 /// Returns the files of the sources below a folder, in byte order. Nothing at or below the target
 /// folder is looked at.
 ///
-/// Errors: `Place`, if the listing failed, with its path; `OutOfMemory`.
+/// Errors: `Place` with the call's path, if the listing failed; `OutOfMemory`.
 #[tactic(auto, using(crate::proofs::SourceLemmas::listing_laws))]
 pub fn listed_sources<P: Place>(
     alloc: Global,
@@ -112,10 +112,10 @@ pub fn listed_sources<P: Place>(
     }
 }
 
-/// Returns the folders directly in a folder that contain sources, each once. A folder at or below
-/// the target folder is not listed.
+/// Returns those folders directly in a folder that contain sources. Each folder is returned once. A
+/// folder at or below the target folder is not listed.
 ///
-/// Errors: `Place`, if the listing failed, with its path; `OutOfMemory`.
+/// Errors: `Place` with the call's path, if the listing failed; `OutOfMemory`.
 #[tactic(auto, using(crate::proofs::SourceLemmas::listing_laws))]
 pub fn source_folders<P: Place>(
     alloc: Global,

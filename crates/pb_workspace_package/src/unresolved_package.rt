@@ -77,7 +77,7 @@ pub struct UnresolvedPackage {
     pub has_same_binaries: bool,
 }
 
-/// What the lists of a manifest result in.
+/// What the lists of a manifest yield.
 #[derive(Drop)]
 pub struct Lists {
     /// What its entries request.
@@ -88,8 +88,8 @@ pub struct Lists {
     pub has_same_binaries: bool,
 }
 
-/// Returns what the lists of a manifest result in: its entries, its features and whether names of
-/// its `[[bin]]` repeat.
+/// Returns what the lists of a manifest yield: what the entries request, the features, and whether
+/// two `[[bin]]` have the same name.
 fn lists_of(
     alloc: Global,
     at: &PackageLocation,
@@ -231,7 +231,7 @@ fn draft_seen(
 /// Errors: the first that occurs. The keys are checked first, then `[dependencies]`, and then
 /// `[build-dependencies]`:
 /// - `Place`: a call failed. The error contains the path of that call.
-/// - `NoInherited`: a key or an entry is taken that the workspace does not have.
+/// - `NoInherited`: a key or an entry is taken from a workspace that does not have it.
 /// - `Manifest` with `UnsupportedSource`: the entry that is taken has no path, or has `git` or
 ///   `registry`.
 /// - `OutOfMemory`, at any time.

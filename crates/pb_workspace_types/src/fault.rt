@@ -21,10 +21,10 @@ pub enum LoadFault {
     /// Two packages have the same name.
     #[error("two packages have the same name")]
     SameName,
-    /// A dependency leads to a package with another name.
+    /// A dependency leads to a package that does not have the requested name.
     #[error("a dependency leads to a package with another name")]
     NameMismatch,
-    /// A dependency leads to a package whose version does not match its requirement.
+    /// A dependency leads to a package whose version does not match the dependency's requirement.
     #[error("a dependency leads to a package whose version does not match")]
     VersionMismatch,
     /// Two packages link the same native library.

@@ -98,8 +98,8 @@ pub struct About {
 /// from its workspace.
 #[derive(Drop)]
 pub struct Package {
-    /// ASCII letters, digits, `-` and `_`, not empty. No two packages of a workspace have the same
-    /// name.
+    /// The name: ASCII letters, digits, `-` and `_`, not empty. No two packages of a workspace have
+    /// the same name.
     pub name: Text,
     /// The version. If no version is written, it is 0.0.0.
     pub version: Version,

@@ -1,5 +1,5 @@
-//! The calls of a place in memory. Besides what the trait requires, each contract describes when
-//! the call fails, what it leaves then, and how it uses up fuses and deaths.
+//! The calls of a place in memory. Each contract describes more than the trait requires: when the
+//! call fails, what a failing call leaves, and how the call uses up fuses and deaths.
 
 ghost use Rattle.std.specs.Prelude.{◌≡◌, ◌≢◌, ◌-◌, true, IfOk, IfErr, OnErr, Err};
 ghost use Rattle.std.specs.FinMap as map;

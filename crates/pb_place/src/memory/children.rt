@@ -58,7 +58,7 @@ fn take_child(
     take_out(flying, ticket)
 }
 
-/// Returns the child of a command with the reply that it will return.
+/// Returns the child of a command, with the reply that the child will return.
 fn child_in_flight(
     alloc: Global,
     files: &FileMap,
@@ -92,8 +92,8 @@ fn child_in_flight(
     })
 }
 
-/// Returns the fault with which a child in flight ends. `CannotStart` is not an end, so no child in
-/// flight has that fate.
+/// Returns the fault with which a child in flight ends. No child in flight ends with `CannotStart`;
+/// for this fault, the function returns `Died`.
 fn fault_at_end(fault: StartFault) -> StartFault
     ensures kept { fault ≢ StartFault.CannotStart → result ≡ fault }
     ensures end { (result ≡ StartFault.OutOfMemory)
