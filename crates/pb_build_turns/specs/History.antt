@@ -371,7 +371,8 @@ NotesStarted project es now = (index : ℕ) (s : State BadUnit) → slice_get (s
 abbrev pub untouched : Project → List (State BadUnit)
 untouched project = states_in project []
 
--- if `BuildInvariant` was true of a build context at first, `Since` is true of this context
+-- The predicate `Since` is true of each build context with this child, setup and project of which
+-- `BuildInvariant` was true at first, before any event.
 abbrev pub FromFirst : Answers → UnitExecutor → BuildState → UnitExecutor → (BuildContext → Type 0) → Type 0
 FromFirst child first at c Since = (premise : Premise) (sources : World)
     → BuildInvariant (build_context premise child c.setup c.project sources) (untouched c.project) first.done.items first.store.next at.world

@@ -11,7 +11,8 @@ is_mentioned texts text = list_any (bytes_eq text) texts
 abbrev pub mentioned : List (List ℕ) → List ℕ → List (List ℕ)
 mentioned texts text = if is_mentioned texts text then texts else texts ++ text ∷ []
 
--- the texts of the first list, to which those of the second list are added as `mentioned` says
+-- the first list, and then each text of the second list, in order, unless the result already has
+-- this text (`mentioned`)
 abbrev pub mentioned_all : List (List ℕ) → List (List ℕ) → List (List ℕ)
 mentioned_all texts [] = texts
 mentioned_all texts (text ∷ more) = mentioned_all (mentioned texts text) more

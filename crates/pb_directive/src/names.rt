@@ -48,7 +48,7 @@ fn add_variable(alloc: Global, text: &str, info: &mut DepInfo) -> Result<(), Pro
     Ok(())
 }
 
-/// Adds the words of a rule to the names of dep-info.
+/// Adds to `info` the words that a rule has after its outputs.
 fn add_rule(alloc: Global, text: &str, info: &mut DepInfo) -> Result<(), Problem>
     ensures { AddsInfo result info.old info.new (rule_info (after_outputs text.now)) }
 {

@@ -1,4 +1,5 @@
-//! What a child leaves in its folder: all files of its reply, or half of them, over the old files.
+//! What a child leaves in its folder, over the old files. After the spawn, the folder has the first
+//! half of the reply's files, in byte order. Once the child has replied, the folder has all of them.
 
 ghost use Rattle.std.specs.Prelude.{◌≡◌, IfOk, OnOk};
 ghost use Rattle.std.specs.FinMap as map;

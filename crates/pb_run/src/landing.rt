@@ -95,7 +95,7 @@ fn judged_now<P: Place>(
         Ok(path) => path,
         Err(_) => return Err(OUT_OF_MEMORY),
     };
-    // The dep-info is read before the judgement, because the judgement makes no counted call.
+    // Reading a file is a counted call, and `judge_reply` makes none. So the dep-info is read here.
     let dep_info = read_at(alloc, place, &path)?;
     match judge_reply(alloc, place, project.get(), unit, command, ended, &dep_info) {
         Ok(judgement) => Ok(judgement),

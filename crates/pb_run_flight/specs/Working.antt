@@ -11,7 +11,7 @@ abbrev pub count_met : {F : Type 0} → List (State F) → List ℕ → ℕ
 count_met states [] = 0
 count_met states (u ∷ us) = if is_good_at (slice_get states u) then suc (count_met states us) else 0
 
--- the list of units at an index
+-- the list at this index of a list of lists of units; empty if there is none
 abbrev pub units_at : List (List ℕ) → ℕ → List ℕ
 units_at lists u = slice_index_or lists u []
 
