@@ -22,8 +22,8 @@ use Rattle.pb_workspace_types.specs.declared.workspace.Workspace.{Workspace}
 abbrev pub IsAscending : List (List ℕ) → Type 0
 IsAscending texts = IsStrictlySortedBy (slice_cmp nat_cmp) texts
 
--- A package in a workspace of `count` packages. The name of each feature is allowed as the name of a
--- feature or of a package. The second is for features that optional dependencies make.
+-- A package in a workspace of `count` packages. The name of each feature is allowed as a name of
+-- features or of packages. The second is for features that optional dependencies make.
 pub record IsPackage (count : ℕ) (p : Package) : Type 0 where
   pub name : is_name p.name ≡ true
   pub crate_name : IfSome p.library (λ library. is_crate_name library.name ≡ true)
