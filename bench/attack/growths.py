@@ -69,7 +69,8 @@ def made_in(work):
     for above, _, names in os.walk(f"{work}/target"):
         for name in names:
             path = f"{above}/{name}"
-            if not name.endswith(".record"):
+            # (a build goes on without its tag; a folder that has files gets none later)
+            if not name.endswith(".record") and name != "CACHEDIR.TAG":
                 with open(path, "rb") as it:
                     found[os.path.relpath(path, work)] = it.read().replace(work.encode(), b"/w")
     return found
