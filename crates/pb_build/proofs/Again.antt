@@ -107,14 +107,14 @@ module _ (p : Project) (g : Features) (names : (o : ℕ) (s : Side) → features
   abbrev two : BuildContext
   two = build_context TrustedRecords child setup (record p { features = g }) sources
 
-  command_is : (place : ℕ) (u : Planned) → command_in one place u ≡ command_in two place u
-  command_is place u =
-      command_same p g names flags setup u (directives_of (take place (outcomes child setup p sources)))
-      ∙ ap (λ (os : List Outcome). command_of setup (record p { features = g }) u (directives_of (take place os))) (outcomes_same p g names flags child setup sources)
+  command_is : (index : ℕ) (u : Planned) → command_in one index u ≡ command_in two index u
+  command_is index u =
+      command_same p g names flags setup u (directives_of (take index (outcomes child setup p sources)))
+      ∙ ap (λ (os : List Outcome). command_of setup (record p { features = g }) u (directives_of (take index os))) (outcomes_same p g names flags child setup sources)
 
   other_records : (w : World) → EachHasRecord one w → EachHasRecord two w
-  other_records w each place u there =
-      let h = each place u there in
+  other_records w each index u there =
+      let h = each index u there in
       record {
         unit = h.unit;
         there = h.there;
@@ -124,7 +124,7 @@ module _ (p : Project) (g : Features) (names : (o : ℕ) (s : Side) → features
         numbered = h.numbered;
         grounded = h.grounded;
         reads = h.reads;
-        same = subst (λ (c : Command). IsSame reading (records_folder p) h.unit.key c w h.kept) (command_is place h.unit) h.same;
+        same = subst (λ (c : Command). IsSame reading (records_folder p) h.unit.key c w h.kept) (command_is index h.unit) h.same;
       }
 
 module _ (child : Answers) (options : Options) (v w : World) where

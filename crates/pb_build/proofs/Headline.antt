@@ -56,18 +56,18 @@ pub no_fault : {summary : Summary} {fault : BuildFault} → Ok summary ≡ Err f
 no_fault e = cc
 
 -- before a unit has begun none is good
-none_good : (needs : List (List ℕ)) (place : ℕ) → is_good_at {F = BadUnit} (slice_get (map (λ _. Untouched) needs) place) ≡ true → ⊥
-none_good [] place good = cc
+none_good : (needs : List (List ℕ)) (index : ℕ) → is_good_at {F = BadUnit} (slice_get (map (λ _. Untouched) needs) index) ≡ true → ⊥
+none_good [] index good = cc
 none_good (n ∷ needs) zero good = cc
-none_good (n ∷ needs) (suc place) good = none_good needs place good
+none_good (n ∷ needs) (suc index) good = none_good needs index good
 
 -- what the halves of units keep then
 first_kept : (b : BuildContext) (next : Option ℕ) (w : World) → from_nothing b.project.workspace.target w ≡ b.sources → HoldsBy b.premise b (untouched b.project) next w → BuildInvariant b (untouched b.project) (nothing_said b.project) next w
 first_kept b next w sources holds = record {
   long = length-map b.project.plan.planned _ ∙ sym (length-map (needs_of b.project) _ ∙ length-map b.project.plan.planned _);
   sources_stay = sources;
-  good = λ place good. absurd (none_good (needs_of b.project) place good);
-  closed = λ place u good there. absurd (none_good (needs_of b.project) place good);
+  good = λ index good. absurd (none_good (needs_of b.project) index good);
+  closed = λ index u good there. absurd (none_good (needs_of b.project) index good);
   records = holds;
 }
 
@@ -79,31 +79,31 @@ inside (y ∷ ys) zero x at = omega arith
 inside (y ∷ ys) (suc i) x at = let less : i < length ys = inside ys i x at in omega (arith, less)
 
 -- a row of the result is of a unit and its outcome
-record RowAt (us : List Planned) (os : List Outcome) (place : ℕ) (row : Row) : Type 0 where
-  pub unit : slice_get us place ≡ Some row.unit
-  pub outcome : slice_get os place ≡ Some row.outcome
+record RowAt (us : List Planned) (os : List Outcome) (index : ℕ) (row : Row) : Type 0 where
+  pub unit : slice_get us index ≡ Some row.unit
+  pub outcome : slice_get os index ≡ Some row.outcome
 
-row_at : (us : List Planned) (os : List Outcome) (place : ℕ) (row : Row) → slice_get (to_first_bad us os) place ≡ Some row → RowAt us os place row
-row_at [] os place row at = cc
-row_at (u ∷ us) [] place row at = cc
+row_at : (us : List Planned) (os : List Outcome) (index : ℕ) (row : Row) → slice_get (to_first_bad us os) index ≡ Some row → RowAt us os index row
+row_at [] os index row at = cc
+row_at (u ∷ us) [] index row at = cc
 row_at (u ∷ us) (o ∷ os) zero row at =
     let same : record { unit = u; outcome = o } ≡ row = injective at in
     record { unit = ap (λ (r : Row). Some r.unit) same; outcome = ap (λ (r : Row). Some r.outcome) same }
-row_at (u ∷ us) (o ∷ os) (suc place) row at = let r = by (is_bad o) at (λ more. row_at us os place row more) in record { unit = r.unit; outcome = r.outcome }
+row_at (u ∷ us) (o ∷ os) (suc index) row at = let r = by (is_bad o) at (λ more. row_at us os index row more) in record { unit = r.unit; outcome = r.outcome }
   where
-    by : (b : Bool) → slice_get (if b then [] else to_first_bad us os) place ≡ Some row → (slice_get (to_first_bad us os) place ≡ Some row → RowAt us os place row) → RowAt us os place row
+    by : (b : Bool) → slice_get (if b then [] else to_first_bad us os) index ≡ Some row → (slice_get (to_first_bad us os) index ≡ Some row → RowAt us os index row) → RowAt us os index row
     by true none rest = cc
     by false more rest = rest more
 
 -- a unit whose lines are due has answered
-answered_due : {F : Type 0} (ss : List (State F)) (place : ℕ) → place < count_due ss → (answer : Answer F) × (slice_get ss place ≡ Some (Answered answer))
-answered_due [] place less = absurd (omega (arith, less))
-answered_due (Untouched ∷ ss) place less = absurd (omega (arith, less))
-answered_due (Begun ∷ ss) place less = absurd (omega (arith, less))
+answered_due : {F : Type 0} (ss : List (State F)) (index : ℕ) → index < count_due ss → (answer : Answer F) × (slice_get ss index ≡ Some (Answered answer))
+answered_due [] index less = absurd (omega (arith, less))
+answered_due (Untouched ∷ ss) index less = absurd (omega (arith, less))
+answered_due (Begun ∷ ss) index less = absurd (omega (arith, less))
 answered_due (Answered a ∷ ss) zero less = (a, refl)
-answered_due (Answered a ∷ ss) (suc place) less = by (is_none a.fault) less (λ more. answered_due ss place more)
+answered_due (Answered a ∷ ss) (suc index) less = by (is_none a.fault) less (λ more. answered_due ss index more)
   where
-    by : (b : Bool) → suc place < suc (if b then count_due ss else 0) → (place < count_due ss → (answer : Answer _) × (slice_get ss place ≡ Some (Answered answer))) → (answer : Answer _) × (slice_get ss place ≡ Some (Answered answer))
+    by : (b : Bool) → suc index < suc (if b then count_due ss else 0) → (index < count_due ss → (answer : Answer _) × (slice_get ss index ≡ Some (Answered answer))) → (answer : Answer _) × (slice_get ss index ≡ Some (Answered answer))
     by true more rest = rest (omega (arith, more))
     by false more rest = absurd (omega (arith, more))
 
@@ -123,9 +123,9 @@ module _ (child : Answers) (options : Options) (w : World) (project : Project) (
     honest = honest record { project = project; toolchain = toolchain; is = is; says = says };
     sound = subst (λ (f : List ℕ). Sound reading judge child f w.files) (sym (same_folder options w project is)) sound;
     ahead = opened_ahead (records_folder project) w next is_next;
-    recorded = λ place good. absurd (none_good (needs_of project) place good);
+    recorded = λ index good. absurd (none_good (needs_of project) index good);
   }
-  holds NoRecords none = λ place u there state. subst (λ (f : List ℕ). records f w u.key ≡ None) (sym (same_folder options w project is)) (none u.key)
+  holds NoRecords none = λ index u there state. subst (λ (f : List ℕ). records f w u.key ≡ None) (sym (same_folder options w project is)) (none u.key)
 
   pub rests_first : (f : Premise) → RestsOn f child options w → BuildInvariant (its_basis f) (untouched project) (nothing_said project) next w
   rests_first f on =
@@ -185,18 +185,18 @@ module _ (premise : Premise) (child : Answers) (options : Options) where
 
       module _ (es : List (Event BadUnit)) (stands : OutcomeHolds b es new.world) where
         -- the folder of a good unit among those that were told
-        file_holds : count_due (states_in project es) ≡ length (rows_in b) → (place : ℕ) (u : Planned) (made : Map) (directives : Option (List Directive)) (messages : List Message)
-            → slice_get (rows_in b) place ≡ Some record { unit = u; outcome = Good made directives messages } → files_in u.out new.world.files ≡ made
-        file_holds all place u made directives messages row =
-            let at = row_at project.plan.planned (outcomes_in b) place record { unit = u; outcome = Good made directives messages } row in
-            let less : place < length (rows_in b) = inside (rows_in b) place record { unit = u; outcome = Good made directives messages } row in
-            let due_now : place < count_due (states_in project es) = subst (λ (n : ℕ). place < n) (sym all) less in
-            let (answer, here) = answered_due (states_in project es) place due_now in
-            let gave = stands.gave place answer here in
+        file_holds : count_due (states_in project es) ≡ length (rows_in b) → (index : ℕ) (u : Planned) (made : Map) (directives : Option (List Directive)) (messages : List Message)
+            → slice_get (rows_in b) index ≡ Some record { unit = u; outcome = Good made directives messages } → files_in u.out new.world.files ≡ made
+        file_holds all index u made directives messages row =
+            let at = row_at project.plan.planned (outcomes_in b) index record { unit = u; outcome = Good made directives messages } row in
+            let less : index < length (rows_in b) = inside (rows_in b) index record { unit = u; outcome = Good made directives messages } row in
+            let due_now : index < count_due (states_in project es) = subst (λ (n : ℕ). index < n) (sym all) less in
+            let (answer, here) = answered_due (states_in project es) index due_now in
+            let gave = stands.gave index answer here in
             let outcome_is : gave.outcome ≡ Good made directives messages = injective (sym gave.is ∙ at.outcome) in
             let well : answer.fault ≡ None = gave.fault ∙ ap fault_in outcome_is in
-            let good : is_good_at (slice_get (states_in project es) place) ≡ true = ap is_good_at here ∙ ap is_none well in
-            let s = stands.keeps.good place good in
+            let good : is_good_at (slice_get (states_in project es) index) ≡ true = ap is_good_at here ∙ ap is_none well in
+            let s = stands.keeps.good index good in
             let same_unit : s.unit ≡ u = injective (sym s.there ∙ at.unit) in
             let same_good : Good s.files s.directives s.messages ≡ Good made directives messages = injective (sym s.good ∙ at.outcome) in
             let same_files : s.files ≡ made = good_files same_good in
@@ -206,7 +206,7 @@ module _ (premise : Premise) (child : Answers) (options : Options) where
             good_files e = cc
 
         gave_so : AnswersAs (outcomes_in b) project es
-        gave_so place answer here = let gave = stands.gave place answer here in (gave.outcome, gave.is, gave.fault)
+        gave_so index answer here = let gave = stands.gave index answer here in (gave.outcome, gave.is, gave.fault)
 
         all_lines : count_due (states_in project es) ≡ length (rows_in b) → due (states_in project es) ≡ said_from project es 0 (rows_in b)
         all_lines all = stands.lines ∙ (ap (λ (n : ℕ). said_from project es 0 (take n (rows_in b))) all ∙ ap (said_from project es 0) (take-length (rows_in b)))
@@ -219,12 +219,12 @@ module _ (premise : Premise) (child : Answers) (options : Options) where
 
         -- units were missing as an answer was asked for, or a unit could not begin
         units_missing : (key : List ℕ) (spawned : Bool) (unit : Option ℕ) → HandsBack Turns (needs_of project) es stopped unit last → (unit ≡ None → IsBeginning project key spawned before es) → is_finished (states_in project es) ≡ false
-        units_missing key spawned None same begins = let (place, named, is) = begins refl in begun_missing Turns (needs_of project) Anyhow Anything from es stopped flies place spawned before is
+        units_missing key spawned None same begins = let (index, named, is) = begins refl in begun_missing Turns (needs_of project) Anyhow Anything from es stopped flies index spawned before is
         units_missing key spawned (Some unit) (i, missing, at, turned) begins = missing
 
         fails_at : (key : List ℕ) → is_finished (states_in project es) ≡ false → StopsAt true project mid stop key es → UnitCallFails project es (rows_in b) key old.heard.taken new.heard.taken
         fails_at key missing by = record {
-          place = by.place;
+          index = by.index;
           named = ap key_in by.there ∙ ap (λ (k : List ℕ). k ∷ []) by.named;
           flies = by.flies;
           missing = missing;

@@ -27,7 +27,7 @@ use Rattle.pb_profile.specs.declared.fault.ProfileFault.TheVariants.{NoSuchProfi
 use Rattle.pb_workspace_types.specs.declared.workspace.Workspace.{Workspace}
 use Rattle.pb_workspace_types.specs.declared.options.Selection.{Selection}
 use Rattle.pb_feature_types.specs.declared.features.Features.{Features}
-use Rattle.pb_unit.specs.Plan.{IsPlan, LieApart, ComesBefore, ArePlaces, HasSettings, above, level_at, level_of, profile_folder}
+use Rattle.pb_unit.specs.Plan.{IsPlan, LieApart, ComesBefore, AreIndices, HasSettings, above, level_at, level_of, profile_folder}
 use Rattle.pb_unit.specs.Units.{needs, Reaches, direct, onward, IsPlanned, key_of, name_at, what_name}
 use Rattle.pb_unit.specs.declared.plan.Plan.{Plan}
 use Rattle.pb_unit.specs.declared.plan.Planned.{Planned}
@@ -75,8 +75,8 @@ module _ (ws : Workspace) (features : Features) (selection : Selection) (profile
   -- what a unit needs has a lower level
   need_lower : (i j : ℕ) (p q : Planned) → slice_get units i ≡ Some p → slice_get units j ≡ Some q → Contains (needs ws features p.unit) q.unit → q.level < p.level
   need_lower i j p q at there needed =
-      let places : ArePlaces units (Contains (needs ws features p.unit)) p.needs = all_at (λ (x : Planned). ArePlaces units (Contains (needs ws features x.unit)) x.needs) units is.needs i p at in
-      let listed : Contains p.needs j = (places.same j).1 (q, there, needed) in
+      let indices : AreIndices units (Contains (needs ws features p.unit)) p.needs = all_at (λ (x : Planned). AreIndices units (Contains (needs ws features x.unit)) x.needs) units is.needs i p at in
+      let listed : Contains p.needs j = (indices.same j).1 (q, there, needed) in
       let (k, found) = at_from_contains p.needs j listed in
       let level : slice_get (map (level_at units) p.needs) k ≡ Some (level_at units j) = slice_get-map (level_at units) p.needs k ∙ ap (option_map (level_at units)) found in
       let lower : level_at units j < above (map (level_at units) p.needs) = level_below (map (level_at units) p.needs) (level_at units j) k level in
@@ -109,20 +109,20 @@ module _ (ws : Workspace) (features : Features) (selection : Selection) (profile
       unit_there (r ∷ us) zero v found = (r, refl, let same : r.unit ≡ v = cc in same)
       unit_there (r ∷ us) (suc k) v found = unit_there us k v found
 
-  all_before : (i : ℕ) (places : List ℕ) → ((j : ℕ) → Contains places j → j < i) → AllByRecursion (λ place. place < i) places
+  all_before : (i : ℕ) (indices : List ℕ) → ((j : ℕ) → Contains indices j → j < i) → AllByRecursion (λ index. index < i) indices
   all_before i [] h = tt
-  all_before i (j ∷ places) h = (h j (contains_from_at (j ∷ places) 0 j refl), all_before i places (λ k inside. let (n, found) = at_from_contains places k inside in h k (contains_from_at (j ∷ places) (suc n) k found)))
+  all_before i (j ∷ indices) h = (h j (contains_from_at (j ∷ indices) 0 j refl), all_before i indices (λ k inside. let (n, found) = at_from_contains indices k inside in h k (contains_from_at (j ∷ indices) (suc n) k found)))
 
-  pub needs_before : (i : ℕ) (p : Planned) → slice_get units i ≡ Some p → AllByRecursion (λ place. place < i) p.needs
+  pub needs_before : (i : ℕ) (p : Planned) → slice_get units i ≡ Some p → AllByRecursion (λ index. index < i) p.needs
   needs_before i p at = all_before i p.needs (λ j inside.
-      let places = all_at (λ (x : Planned). ArePlaces units (Contains (needs ws features x.unit)) x.needs) units is.needs i p at in
-      let (q, there, needed) = (places.same j).0 inside in
+      let indices = all_at (λ (x : Planned). AreIndices units (Contains (needs ws features x.unit)) x.needs) units is.needs i p at in
+      let (q, there, needed) = (indices.same j).0 inside in
       not_later units i j p q is.order at there (need_lower i j p q at there needed))
 
-  pub reaches_before : (i : ℕ) (p : Planned) → slice_get units i ≡ Some p → AllByRecursion (λ place. place < i) p.reaches
+  pub reaches_before : (i : ℕ) (p : Planned) → slice_get units i ≡ Some p → AllByRecursion (λ index. index < i) p.reaches
   reaches_before i p at = all_before i p.reaches (λ j inside.
-      let places = all_at (λ (x : Planned). ArePlaces units (Reaches ws features x.unit) x.reaches) units is.reaches i p at in
-      let (q, there, reached) = (places.same j).0 inside in
+      let indices = all_at (λ (x : Planned). AreIndices units (Reaches ws features x.unit) x.reaches) units is.reaches i p at in
+      let (q, there, reached) = (indices.same j).0 inside in
       not_later units i j p q is.order at there (reach_lower p.unit q.unit reached i j p q at there refl refl))
 
   -- the folder of a unit lies in the target folder
@@ -197,16 +197,16 @@ module _ (project : Project) (selection : Selection) (is : IsPlan project.worksp
   abbrev planned : List Planned
   planned = project.plan.planned
 
-  needed_at : (i : ℕ) (u : Planned) → slice_get planned i ≡ Some u → ArePlaces planned (Contains (needs project.workspace project.features u.unit)) u.needs
-  needed_at i u at = all_at (λ (x : Planned). ArePlaces planned (Contains (needs project.workspace project.features x.unit)) x.needs) planned is.needs i u at
+  needed_at : (i : ℕ) (u : Planned) → slice_get planned i ≡ Some u → AreIndices planned (Contains (needs project.workspace project.features u.unit)) u.needs
+  needed_at i u at = all_at (λ (x : Planned). AreIndices planned (Contains (needs project.workspace project.features x.unit)) x.needs) planned is.needs i u at
 
-  reached_at : (i : ℕ) (u : Planned) → slice_get planned i ≡ Some u → ArePlaces planned (Reaches project.workspace project.features u.unit) u.reaches
-  reached_at i u at = all_at (λ (x : Planned). ArePlaces planned (Reaches project.workspace project.features x.unit) x.reaches) planned is.reaches i u at
+  reached_at : (i : ℕ) (u : Planned) → slice_get planned i ≡ Some u → AreIndices planned (Reaches project.workspace project.features u.unit) u.reaches
+  reached_at i u at = all_at (λ (x : Planned). AreIndices planned (Reaches project.workspace project.features x.unit) x.reaches) planned is.reaches i u at
 
-  pub needs_are_reached : (i : ℕ) (u : Planned) → slice_get planned i ≡ Some u → (place : ℕ) → Contains u.needs place → Contains u.reaches place
-  needs_are_reached i u at place has =
-      let (q, there, need) = ((needed_at i u at).same place).0 has in
-      ((reached_at i u at).same place).1 (q, there, direct u.unit q.unit need)
+  pub needs_are_reached : (i : ℕ) (u : Planned) → slice_get planned i ≡ Some u → (index : ℕ) → Contains u.needs index → Contains u.reaches index
+  needs_are_reached i u at index has =
+      let (q, there, need) = ((needed_at i u at).same index).0 has in
+      ((reached_at i u at).same index).1 (q, there, direct u.unit q.unit need)
 
   folder_of_unit : (o : Option Planned) (f : List ℕ) → Contains (folder_in o) f → (v : Planned) × (o ≡ Some v) × (f ≡ v.out)
   folder_of_unit None f has = absurd (contains_none f has)
@@ -219,28 +219,28 @@ module _ (project : Project) (selection : Selection) (is : IsPlan project.worksp
     ],
   )
 
-  read_by : (u v : Planned) (place : ℕ) → Contains u.reaches place → slice_get planned place ≡ Some v → Contains (reads_of project u) v.out
-  read_by u v place among there = flat_of (read_at project) u.reaches place v.out among (subst (λ (o : Option Planned). Contains (folder_in o) v.out) (sym there) (contains_head v.out []))
+  read_by : (u v : Planned) (index : ℕ) → Contains u.reaches index → slice_get planned index ≡ Some v → Contains (reads_of project u) v.out
+  read_by u v index among there = flat_of (read_at project) u.reaches index v.out among (subst (λ (o : Option Planned). Contains (folder_in o) v.out) (sym there) (contains_head v.out []))
 
   -- a unit that is reached is one that is needed, or one that such a one reaches
-  by_need : (i : ℕ) (u v : Planned) (place : ℕ) (f : List ℕ) → slice_get planned i ≡ Some u → slice_get planned place ≡ Some v → f ≡ v.out → (a c : Unit) → Reaches project.workspace project.features a c → u.unit ≡ a → v.unit ≡ c → IsReadByNeed project u f
-  by_need i u v place f at there same a c (direct _ _ need) first last = record {
-    place = place;
-    needed = ((needed_at i u at).same place).1 (v, there, subst (λ (x : Unit). Contains (needs project.workspace project.features x) v.unit) (sym first) (subst (Contains (needs project.workspace project.features a)) (sym last) need));
+  by_need : (i : ℕ) (u v : Planned) (index : ℕ) (f : List ℕ) → slice_get planned i ≡ Some u → slice_get planned index ≡ Some v → f ≡ v.out → (a c : Unit) → Reaches project.workspace project.features a c → u.unit ≡ a → v.unit ≡ c → IsReadByNeed project u f
+  by_need i u v index f at there same a c (direct _ _ need) first last = record {
+    index = index;
+    needed = ((needed_at i u at).same index).1 (v, there, subst (λ (x : Unit). Contains (needs project.workspace project.features x) v.unit) (sym first) (subst (Contains (needs project.workspace project.features a)) (sym last) need));
     need = v;
     there = there;
     own_or_read = inl same;
   }
-  by_need i u v place f at there same a c (onward _ m _ need more) first last =
+  by_need i u v index f at there same a c (onward _ m _ need more) first last =
       let needed : Contains (needs project.workspace project.features u.unit) m = subst (λ (x : Unit). Contains (needs project.workspace project.features x) m) (sym first) need in
-      let (k, x, here, its) = unit_at_place m ((is.units m).1 (is_planned i u at m needed)) in
+      let (k, x, here, its) = unit_at_index m ((is.units m).1 (is_planned i u at m needed)) in
       record {
-        place = k;
+        index = k;
         needed = ((needed_at i u at).same k).1 (x, here, subst (Contains (needs project.workspace project.features u.unit)) (sym its) needed);
         need = x;
         there = here;
-        own_or_read = inr (subst (Contains (reads_of project x)) (sym same) (read_by x v place
-            (((reached_at k x here).same place).1 (v, there, subst (λ (y : Unit). Reaches project.workspace project.features y v.unit) (sym its) (subst (Reaches project.workspace project.features m) (sym last) more))) there));
+        own_or_read = inr (subst (Contains (reads_of project x)) (sym same) (read_by x v index
+            (((reached_at k x here).same index).1 (v, there, subst (λ (y : Unit). Reaches project.workspace project.features y v.unit) (sym its) (subst (Reaches project.workspace project.features m) (sym last) more))) there));
       }
     where
       unit_in : (us : List Planned) (k : ℕ) (w : Unit) → slice_get (map (λ (x : Planned). x.unit) us) k ≡ Some w → (r : Planned) × (slice_get us k ≡ Some r) × (r.unit ≡ w)
@@ -248,8 +248,8 @@ module _ (project : Project) (selection : Selection) (is : IsPlan project.worksp
       unit_in (r ∷ us) zero w found = (r, refl, let one : r.unit ≡ w = cc in one)
       unit_in (r ∷ us) (suc k) w found = unit_in us k w found
 
-      unit_at_place : (w : Unit) → Contains (map (λ (x : Planned). x.unit) planned) w → (k : ℕ) × (r : Planned) × (slice_get planned k ≡ Some r) × (r.unit ≡ w)
-      unit_at_place w has = let (k, found) = at_from_contains (map (λ (x : Planned). x.unit) planned) w has in let (r, here, its) = unit_in planned k w found in (k, r, here, its)
+      unit_at_index : (w : Unit) → Contains (map (λ (x : Planned). x.unit) planned) w → (k : ℕ) × (r : Planned) × (slice_get planned k ≡ Some r) × (r.unit ≡ w)
+      unit_at_index w has = let (k, found) = at_from_contains (map (λ (x : Planned). x.unit) planned) w has in let (r, here, its) = unit_in planned k w found in (k, r, here, its)
 
       is_planned : (j : ℕ) (q : Planned) → slice_get planned j ≡ Some q → (w : Unit) → Contains (needs project.workspace project.features q.unit) w → IsPlanned project.workspace project.features selection w
       is_planned j q here w has =
@@ -268,28 +268,28 @@ module _ (project : Project) (selection : Selection) (is : IsPlan project.worksp
     where
       to : Contains (reads_of project u) f → IsReadByNeed project u f
       to has =
-          let (place, among, inside) = flat_at (read_at project) u.reaches f has in
-          let (v, there, same) = folder_of_unit (slice_get planned place) f inside in
-          let (q, here, reaches) = ((reached_at i u at).same place).0 among in
-          by_need i u v place f at there same u.unit q.unit reaches refl (ap (λ (x : Planned). x.unit) (the_same v q (sym there ∙ here)))
+          let (index, among, inside) = flat_at (read_at project) u.reaches f has in
+          let (v, there, same) = folder_of_unit (slice_get planned index) f inside in
+          let (q, here, reaches) = ((reached_at i u at).same index).0 among in
+          by_need i u v index f at there same u.unit q.unit reaches refl (ap (λ (x : Planned). x.unit) (the_same v q (sym there ∙ here)))
         where
           the_same : (x y : Planned) → Some x ≡ Some y → x ≡ y
           the_same x y e = cc
 
       from : IsReadByNeed project u f → Contains (reads_of project u) f
       from by = elim by.own_or_read [
-        | inl own ↦ subst (Contains (reads_of project u)) (sym own) (read_by u by.need by.place (needs_are_reached i u at by.place by.needed) by.there)
+        | inl own ↦ subst (Contains (reads_of project u)) (sym own) (read_by u by.need by.index (needs_are_reached i u at by.index by.needed) by.there)
         | inr read ↦ further read
       ]
         where
           further : Contains (reads_of project by.need) f → Contains (reads_of project u) f
           further read =
-              let (place, among, inside) = flat_at (read_at project) by.need.reaches f read in
-              let (v, there, same) = folder_of_unit (slice_get planned place) f inside in
-              let (q, here, reaches) = ((reached_at by.place by.need by.there).same place).0 among in
-              let (n, here', need) = ((needed_at i u at).same by.place).0 by.needed in
-              subst (Contains (reads_of project u)) (sym same) (read_by u v place
-              (((reached_at i u at).same place).1 (
+              let (index, among, inside) = flat_at (read_at project) by.need.reaches f read in
+              let (v, there, same) = folder_of_unit (slice_get planned index) f inside in
+              let (q, here, reaches) = ((reached_at by.index by.need by.there).same index).0 among in
+              let (n, here', need) = ((needed_at i u at).same by.index).0 by.needed in
+              subst (Contains (reads_of project u)) (sym same) (read_by u v index
+              (((reached_at i u at).same index).1 (
                 q,
                 here,
                 onward u.unit by.need.unit q.unit

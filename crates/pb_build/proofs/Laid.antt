@@ -60,7 +60,7 @@ module _ {A B : Type 0} (f : A → B) where
         at_itself (y ∷ ys) zero d within = refl
         at_itself (y ∷ ys) (suc k) d within = at_itself ys k d (omega arith)
 
--- Units that are laid in a row: `above` is one more than the greatest of some numbers; `level_at` is the level at a place; a unit needs others.
+-- Units that are laid in a row: `above` is one more than the greatest of some numbers; `level_at` is the level at an index; a unit needs others.
 module _ {X U : Type 0} (unit : X → U) (key : U → List ℕ) (level : X → ℕ) (needs : X → List ℕ) (Need : U → U → Type 0) (above : List ℕ → ℕ) (level_at : List X → ℕ → ℕ)
     (above_none : above [] ≡ 0) (above_more : (n : ℕ) (ns : List ℕ) → above (n ∷ ns) ≡ max (n + 1) (above ns))
     (level_is : (xs : List X) (k : ℕ) (x : X) → slice_get xs k ≡ Some x → level_at xs k ≡ level x) where
@@ -89,8 +89,8 @@ module _ {X U : Type 0} (unit : X → U) (key : U → List ℕ) (level : X → �
   HasLevels xs = (k : ℕ) (x : X) → slice_get xs k ≡ Some x → level x ≡ above (map (level_at xs) (needs x))
 
   -- the places in the row of the units that are wanted for each
-  abbrev pub HasPlaces : (X → List ℕ) → (U → U → Type 0) → List X → Type 0
-  HasPlaces wanted Wanted xs = (k : ℕ) (x : X) → slice_get xs k ≡ Some x → (place : ℕ) → Contains (wanted x) place ↔ ((y : X) × (slice_get xs place ≡ Some y) × Wanted (unit x) (unit y))
+  abbrev pub HasIndices : (X → List ℕ) → (U → U → Type 0) → List X → Type 0
+  HasIndices wanted Wanted xs = (k : ℕ) (x : X) → slice_get xs k ≡ Some x → (index : ℕ) → Contains (wanted x) index ↔ ((y : X) × (slice_get xs index ≡ Some y) × Wanted (unit x) (unit y))
 
   -- by level, and then by key
   abbrev pub Earlier : ℕ × U → ℕ × U → Type 0
@@ -104,7 +104,7 @@ module _ {X U : Type 0} (unit : X → U) (key : U → List ℕ) (level : X → �
   abbrev SameBelow : List X → List X → ℕ → Type 0
   SameBelow xs ys n = (k l : ℕ) (x y : X) → slice_get xs k ≡ Some x → slice_get ys l ≡ Some y → unit x ≡ unit y → level x < n → level x ≡ level y
 
-  module _ (xs ys : List X) (levels : HasLevels xs) (levels' : HasLevels ys) (places : HasPlaces needs Need xs) (places' : HasPlaces needs Need ys) (to : HasUnits xs ys) (from : HasUnits ys xs) where
+  module _ (xs ys : List X) (levels : HasLevels xs) (levels' : HasLevels ys) (indices : HasIndices needs Need xs) (indices' : HasIndices needs Need ys) (to : HasUnits xs ys) (from : HasUnits ys xs) where
     -- what is needed has a lesser level
     lower : (k : ℕ) (x : X) → slice_get xs k ≡ Some x → (m : ℕ) → Contains (map (level_at xs) (needs x)) m → m < level x
     lower k x at m has = let lt = greater (map (level_at xs) (needs x)) m has in let e = levels k x at in omega (arith, lt, e)
@@ -114,28 +114,28 @@ module _ {X U : Type 0} (unit : X → U) (key : U → List ℕ) (level : X → �
       where
         over : (m : ℕ) → Contains (map (level_at xs) (needs x)) m → Contains (map (level_at ys) (needs y)) m
         over m has =
-            let (place, in', is) = map_contains (level_at xs) (needs x) m has in
-            let (r, at_r, need) = (places k x at place).0 in' in
-            let (l', s, at_s, same') = map_has unit ys (unit r) (to (unit r) (map_gives unit xs place r at_r)) in
+            let (index, in', is) = map_contains (level_at xs) (needs x) m has in
+            let (r, at_r, need) = (indices k x at index).0 in' in
+            let (l', s, at_s, same') = map_has unit ys (unit r) (to (unit r) (map_gives unit xs index r at_r)) in
             let less = lower k x at m has in
-            let e = level_is xs place r at_r in
+            let e = level_is xs index r at_r in
             let few : level r < n = omega (arith, less, lt, e, is) in
-            let levels_same = below place l' r s at_r at_s (sym same') few in
+            let levels_same = below index l' r s at_r at_s (sym same') few in
             let need' : Need (unit y) (unit s) = subst (λ u. Need u (unit s)) same (subst (Need (unit x)) (sym same') need) in
-            subst (Contains (map (level_at ys) (needs y))) (level_is ys l' s at_s ∙ sym levels_same ∙ sym e ∙ is) (contains_map (level_at ys) (needs y) l' ((places' l y at' l').1 (s, at_s, need')))
+            subst (Contains (map (level_at ys) (needs y))) (level_is ys l' s at_s ∙ sym levels_same ∙ sym e ∙ is) (contains_map (level_at ys) (needs y) l' ((indices' l y at' l').1 (s, at_s, need')))
 
         back : (m : ℕ) → Contains (map (level_at ys) (needs y)) m → Contains (map (level_at xs) (needs x)) m
         back m has =
-            let (place, in', is) = map_contains (level_at ys) (needs y) m has in
-            let (s, at_s, need) = (places' l y at' place).0 in' in
-            let (k', r, at_r, same') = map_has unit xs (unit s) (from (unit s) (map_gives unit ys place s at_s)) in
+            let (index, in', is) = map_contains (level_at ys) (needs y) m has in
+            let (s, at_s, need) = (indices' l y at' index).0 in' in
+            let (k', r, at_r, same') = map_has unit xs (unit s) (from (unit s) (map_gives unit ys index s at_s)) in
             let need' : Need (unit x) (unit r) = subst (λ u. Need u (unit r)) (sym same) (subst (Need (unit y)) (sym same') need) in
-            let mine = contains_map (level_at xs) (needs x) k' ((places k x at k').1 (r, at_r, need')) in
+            let mine = contains_map (level_at xs) (needs x) k' ((indices k x at k').1 (r, at_r, need')) in
             let less = lower k x at (level_at xs k') mine in
             let e = level_is xs k' r at_r in
             let few : level r < n = omega (arith, less, lt, e) in
-            let levels_same = below k' place r s at_r at_s same' few in
-            subst (Contains (map (level_at xs) (needs x))) (e ∙ levels_same ∙ sym (level_is ys place s at_s) ∙ is) mine
+            let levels_same = below k' index r s at_r at_s same' few in
+            subst (Contains (map (level_at xs) (needs x))) (e ∙ levels_same ∙ sym (level_is ys index s at_s) ∙ is) mine
 
     same_below : (n : ℕ) → SameBelow xs ys n
     same_below zero = λ k l x y at at' same lt. absurd (omega (arith, lt))
@@ -158,28 +158,28 @@ module _ {X U : Type 0} (unit : X → U) (key : U → List ℕ) (level : X → �
   abbrev pub ranked : X → ℕ × U
   ranked x = (level x, unit x)
 
-  module _ (xs ys : List X) (levels : HasLevels xs) (levels' : HasLevels ys) (places : HasPlaces needs Need xs) (places' : HasPlaces needs Need ys) (to : HasUnits xs ys) (from : HasUnits ys xs)
+  module _ (xs ys : List X) (levels : HasLevels xs) (levels' : HasLevels ys) (indices : HasIndices needs Need xs) (indices' : HasIndices needs Need ys) (to : HasUnits xs ys) (from : HasUnits ys xs)
       (order : AllPairs (λ x y. Earlier (ranked x) (ranked y)) xs) (order' : AllPairs (λ x y. Earlier (ranked x) (ranked y)) ys) where
     over_there : (q : ℕ × U) → Contains (map ranked xs) q → Contains (map ranked ys) q
     over_there q has =
         let (k, x, at, is) = map_has ranked xs q has in
         let (l, y, at', same) = map_has unit ys (unit x) (to (unit x) (map_gives unit xs k x at)) in
-        let e = same_level xs ys levels levels' places places' to from k l x y at at' (sym same) in
+        let e = same_level xs ys levels levels' indices indices' to from k l x y at at' (sym same) in
         subst (Contains (map ranked ys)) (ap₂ (λ (n : ℕ) (u : U). (n, u)) (sym e) same ∙ is) (map_gives ranked ys l y at')
 
     back_here : (q : ℕ × U) → Contains (map ranked ys) q → Contains (map ranked xs) q
     back_here q has =
         let (l, y, at', is) = map_has ranked ys q has in
         let (k, x, at, same) = map_has unit xs (unit y) (from (unit y) (map_gives unit ys l y at')) in
-        let e = same_level xs ys levels levels' places places' to from k l x y at at' same in
+        let e = same_level xs ys levels levels' indices indices' to from k l x y at at' same in
         subst (Contains (map ranked xs)) (ap₂ (λ (n : ℕ) (u : U). (n, u)) e same ∙ is) (map_gives ranked xs k x at)
 
     same_ranks : map ranked xs ≡ map ranked ys
     same_ranks = same_ordered Earlier earlier_never earlier_onward (map ranked xs) (map ranked ys) (pairs_map ranked Earlier xs order) (pairs_map ranked Earlier ys order') over_there back_here
 
-    -- at each place of the one row there stands the same unit in the other
-    pub same_place : (k : ℕ) (x : X) → slice_get xs k ≡ Some x → (y : X) × (slice_get ys k ≡ Some y) × (level x ≡ level y) × (unit x ≡ unit y)
-    same_place k x at = at_other (slice_get ys k) refl (sym (slice_get-map ranked ys k) ∙ (sym (ap (λ zs. slice_get zs k) same_ranks) ∙ (slice_get-map ranked xs k ∙ ap (option_map ranked) at)))
+    -- at each index of the one row there stands the same unit in the other
+    pub same_index : (k : ℕ) (x : X) → slice_get xs k ≡ Some x → (y : X) × (slice_get ys k ≡ Some y) × (level x ≡ level y) × (unit x ≡ unit y)
+    same_index k x at = at_other (slice_get ys k) refl (sym (slice_get-map ranked ys k) ∙ (sym (ap (λ zs. slice_get zs k) same_ranks) ∙ (slice_get-map ranked xs k ∙ ap (option_map ranked) at)))
       where
         at_other : (o : Option X) → slice_get ys k ≡ o → option_map ranked (slice_get ys k) ≡ Some (ranked x) → (y : X) × (slice_get ys k ≡ Some y) × (level x ≡ level y) × (unit x ≡ unit y)
         at_other None at' is = let no : None ≡ Some (ranked x) = sym (ap (option_map ranked) at') ∙ is in cc
@@ -198,20 +198,20 @@ module _ {X U : Type 0} (unit : X → U) (key : U → List ℕ) (level : X → �
   pub same_wanted : (xs ys : List X) (wanted : X → List ℕ) (Wanted : U → U → Type 0)
       → ((k : ℕ) (x : X) → slice_get xs k ≡ Some x → (y : X) × (slice_get ys k ≡ Some y) × (level x ≡ level y) × (unit x ≡ unit y))
       → ((k : ℕ) (y : X) → slice_get ys k ≡ Some y → (x : X) × (slice_get xs k ≡ Some x) × (level y ≡ level x) × (unit y ≡ unit x))
-      → HasPlaces wanted Wanted xs → HasPlaces wanted Wanted ys → (k : ℕ) (x y : X) → slice_get xs k ≡ Some x → slice_get ys k ≡ Some y → unit x ≡ unit y
+      → HasIndices wanted Wanted xs → HasIndices wanted Wanted ys → (k : ℕ) (x y : X) → slice_get xs k ≡ Some x → slice_get ys k ≡ Some y → unit x ≡ unit y
       → IsStrictlyIncreasing (wanted x) → IsStrictlyIncreasing (wanted y) → wanted x ≡ wanted y
-  same_wanted xs ys wanted Wanted same same' places places' k x y at at' is rises rises' =
+  same_wanted xs ys wanted Wanted same same' indices indices' k x y at at' is rises rises' =
       same_numbers (wanted x) (wanted y) rises rises'
-      (λ place has.
-      let (r, at_r, want) = (places k x at place).0 has in
-      let (s, at_s, level_s, unit_s) = same place r at_r in
-      (places' k y at' place).1 (s, at_s, subst (λ u. Wanted u (unit s)) is (subst (Wanted (unit x)) unit_s want)))
-      (λ place has.
-      let (s, at_s, want) = (places' k y at' place).0 has in
-      let (r, at_r, level_r, unit_r) = same' place s at_s in
-      (places k x at place).1 (r, at_r, subst (λ u. Wanted u (unit r)) (sym is) (subst (Wanted (unit y)) unit_r want)))
+      (λ index has.
+      let (r, at_r, want) = (indices k x at index).0 has in
+      let (s, at_s, level_s, unit_s) = same index r at_r in
+      (indices' k y at' index).1 (s, at_s, subst (λ u. Wanted u (unit s)) is (subst (Wanted (unit x)) unit_s want)))
+      (λ index has.
+      let (s, at_s, want) = (indices' k y at' index).0 has in
+      let (r, at_r, level_r, unit_r) = same' index s at_s in
+      (indices k x at index).1 (r, at_r, subst (λ u. Wanted u (unit r)) (sym is) (subst (Wanted (unit y)) unit_r want)))
 
--- two lists that have the same at each place are the same
+-- two lists that have the same at each index are the same
 pub same_list : {X : Type 0} (xs ys : List X) → length xs ≡ length ys → ((k : ℕ) (x y : X) → slice_get xs k ≡ Some x → slice_get ys k ≡ Some y → x ≡ y) → xs ≡ ys
 same_list [] [] e same = refl
 same_list [] (y ∷ ys) e same = absurd (omega (arith, e))

@@ -51,18 +51,18 @@ faultless p fault told none = let no : Some fault ≡ None = sym told ∙ none i
 module _ (ws : Workspace) (apart : IsDistinct bytes_eq (map (λ (p : Package). p.name) ws.packages)) where
   -- the first faulty package is one
   one_faulty : (a b : FeatureFault) (one : IsFirstFault ws a) (other : IsFirstFault ws b) (o : Ordering) → slice_cmp nat_cmp one.owner.name other.owner.name ≡ o → a ≡ b
-  one_faulty a b one other Less order = absurd (faultless one.owner a one.told (other.first one.place one.owner one.package_at (ap is_lt order)))
+  one_faulty a b one other Less order = absurd (faultless one.owner a one.told (other.first one.pkg one.owner one.package_at (ap is_lt order)))
   one_faulty a b one other Greater order =
       let turned : slice_cmp nat_cmp other.owner.name one.owner.name ≡ Less = nat_list_cmp_total.antisymm other.owner.name one.owner.name ∙ ap ordering_reverse order in
-      absurd (faultless other.owner b other.told (one.first other.place other.owner other.package_at (ap is_lt turned)))
+      absurd (faultless other.owner b other.told (one.first other.pkg other.owner other.package_at (ap is_lt turned)))
   one_faulty a b one other Equal order =
       let names : one.owner.name ≡ other.owner.name = slice_cmp-IsAntisymmetric nat_cmp-IsAntisymmetric one.owner.name other.owner.name order in
-      let owners : one.owner ≡ other.owner = one_package ws.packages apart one.place other.place one.owner other.owner one.package_at other.package_at names in
+      let owners : one.owner ≡ other.owner = one_package ws.packages apart one.pkg other.pkg one.owner other.owner one.package_at other.package_at names in
       let faults : Some a ≡ Some b = sym one.told ∙ (ap package_fault owners ∙ other.told) in
       cc
 
   right_item : (fault : FeatureFault) (first : IsFirstFault ws fault) → feature.ItemsAreRight ws → ⊥
-  right_item fault first right = faultless first.owner fault first.told (right first.place first.owner first.package_at)
+  right_item fault first right = faultless first.owner fault first.told (right first.pkg first.owner first.package_at)
 
   pub feature_refused_once : (selection : Selection) (a b : FeatureFault) → feature.Refuses ws selection a → feature.Refuses ws selection b → a ≡ b
   feature_refused_once selection a b (by_item fault first) (by_item fault' first') = one_faulty fault fault' first first' (slice_cmp nat_cmp first.owner.name first'.owner.name) refl

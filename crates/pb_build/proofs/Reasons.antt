@@ -27,7 +27,7 @@ use Rattle.pb_build.proofs.Crowd.{no_more}
 use Rattle.pb_build.proofs.Laid.{map_has, map_gives, pairs_map}
 use Rattle.pb_build.proofs.Once.{same_texts}
 
--- what two lists give that give the same by each place
+-- what two lists give that give the same by each index
 pub placed_same : {A B : Type 0} (f g : ℕ → A → List B) → ((n : ℕ) (x : A) → f n x ≡ g n x) → (n : ℕ) (xs : List A) → placed f n xs ≡ placed g n xs
 placed_same f g same n [] = refl
 placed_same f g same n (x ∷ xs) = ap₂ (λ a b. a ++ b) (same n x) (placed_same f g same (n + 1) xs)

@@ -108,7 +108,7 @@ module _ (p : Project) (g : Features) (names : (o : ℕ) (s : Side) → features
 
   outcome_same : (child : Answers) (setup : Setup) (sources : World) (done : List Outcome) (u : Planned) → outcome_of child setup p sources done u ≡ outcome_of child setup other sources done u
   outcome_same child setup sources done u =
-      ap (λ (o : Outcome). if list_all (λ place. is_good_at (slice_get done place)) u.needs then o else Waiting)
+      ap (λ (o : Outcome). if list_all (λ index. is_good_at (slice_get done index)) u.needs then o else Waiting)
       (judged_same u (command_after setup p done u) (child (command_after setup p done u) (view_of done sources u))
       ∙ ap (λ (c : Command). judged other u c (child c (view_of done sources u))) (command_same setup u (directives_of done)))
 

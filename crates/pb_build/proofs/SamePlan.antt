@@ -10,7 +10,7 @@ use Rattle.pb_graph.proofs.Elements.{all_at}
 use Rattle.pb_place_types.specs.Paths.{below}
 use Rattle.pb_profile.specs.Line.{Seen}
 use Rattle.pb_profile.specs.Settings.{settings_along}
-use Rattle.pb_unit.specs.Plan.{ComesBefore, above, level_of, level_at, ArePlaces, HasSettings, AreWithoutLibrary, IsPlan, profile_folder}
+use Rattle.pb_unit.specs.Plan.{ComesBefore, above, level_of, level_at, AreIndices, HasSettings, AreWithoutLibrary, IsPlan, profile_folder}
 use Rattle.pb_unit.specs.Units.{key_of, role_of, needs, Reaches}
 use Rattle.pb_unit.specs.declared.plan.Plan.{Plan}
 use Rattle.pb_unit.specs.declared.plan.Planned.{Planned}
@@ -18,7 +18,7 @@ use Rattle.pb_unit.specs.declared.unit.Unit.{Unit}
 use Rattle.pb_workspace_types.specs.declared.options.Selection.{Selection}
 use Rattle.pb_workspace_types.specs.declared.package.Package.{Package}
 use Rattle.pb_workspace_types.specs.declared.workspace.Workspace.{Workspace}
-use Rattle.pb_build.proofs.Laid.{HasLevels, HasPlaces, Earlier, same_place, same_length, same_wanted, same_list}
+use Rattle.pb_build.proofs.Laid.{HasLevels, HasIndices, Earlier, same_index, same_length, same_wanted, same_list}
 use Rattle.pb_build.proofs.Once.{same_texts}
 use Rattle.pb_build.proofs.Reasons.{enabled_same, needs_same, planned_too, reaches_too}
 
@@ -33,15 +33,15 @@ module _ (ws : Workspace) (selection : Selection) (profile : List ℕ) (f g : Fe
     );
   }
 
-  need_places : (units : List Planned) (u : Unit) (places : List ℕ) → ArePlaces units (Contains (needs ws g u)) places → ArePlaces units (Contains (needs ws f u)) places
-  need_places units u places is = subst (λ us. ArePlaces units (Contains us) places) (needs_same ws selection g f other one u) is
+  need_indices : (units : List Planned) (u : Unit) (indices : List ℕ) → AreIndices units (Contains (needs ws g u)) indices → AreIndices units (Contains (needs ws f u)) indices
+  need_indices units u indices is = subst (λ us. AreIndices units (Contains us) indices) (needs_same ws selection g f other one u) is
 
-  reach_places : (units : List Planned) (u : Unit) (places : List ℕ) → ArePlaces units (Reaches ws g u) places → ArePlaces units (Reaches ws f u) places
-  reach_places units u places is = record {
+  reach_indices : (units : List Planned) (u : Unit) (indices : List ℕ) → AreIndices units (Reaches ws g u) indices → AreIndices units (Reaches ws f u) indices
+  reach_indices units u indices is = record {
     rises = is.rises;
-    same = λ place. (
-      λ has. let (p, at, way) = (is.same place).0 has in (p, at, reaches_too ws selection g f other one u p.unit way),
-      λ (p, at, way). (is.same place).1 (p, at, reaches_too ws selection f g one other u p.unit way),
+    same = λ index. (
+      λ has. let (p, at, way) = (is.same index).0 has in (p, at, reaches_too ws selection g f other one u p.unit way),
+      λ (p, at, way). (is.same index).1 (p, at, reaches_too ws selection f g one other u p.unit way),
     );
   }
 
@@ -55,8 +55,8 @@ module _ (ws : Workspace) (selection : Selection) (profile : List ℕ) (f g : Fe
     settings = is.settings;
     levels = is.levels;
     order = is.order;
-    needs = λ k d within. need_places plan.planned (slice_index_or plan.planned k d).unit (slice_index_or plan.planned k d).needs (is.needs k d within);
-    reaches = λ k d within. reach_places plan.planned (slice_index_or plan.planned k d).unit (slice_index_or plan.planned k d).reaches (is.reaches k d within);
+    needs = λ k d within. need_indices plan.planned (slice_index_or plan.planned k d).unit (slice_index_or plan.planned k d).needs (is.needs k d within);
+    reaches = λ k d within. reach_indices plan.planned (slice_index_or plan.planned k d).unit (slice_index_or plan.planned k d).reaches (is.reaches k d within);
     straight = λ u planned round. is.straight u (planned_too ws selection f g one other u planned) (reaches_too ws selection f g one other u u round);
     some = is.some;
     few = is.few;
@@ -102,16 +102,16 @@ module _ (ws : Workspace) (features : Features) (selection : Selection) (profile
     levels_of : HasLevels unit_of (key_of ws) level needed Need above level_at refl above_more level_is plan.planned
     levels_of k x at = all_at (λ p. p.level ≡ above (map (level_at plan.planned) p.needs)) plan.planned is.levels k x at
 
-    needs_are : (k : ℕ) (x : Planned) → slice_get plan.planned k ≡ Some x → ArePlaces plan.planned (Contains (needs ws features x.unit)) x.needs
-    needs_are k x at = all_at (λ p. ArePlaces plan.planned (Contains (needs ws features p.unit)) p.needs) plan.planned is.needs k x at
+    needs_are : (k : ℕ) (x : Planned) → slice_get plan.planned k ≡ Some x → AreIndices plan.planned (Contains (needs ws features x.unit)) x.needs
+    needs_are k x at = all_at (λ p. AreIndices plan.planned (Contains (needs ws features p.unit)) p.needs) plan.planned is.needs k x at
 
-    reaches_are : (k : ℕ) (x : Planned) → slice_get plan.planned k ≡ Some x → ArePlaces plan.planned (Reaches ws features x.unit) x.reaches
-    reaches_are k x at = all_at (λ p. ArePlaces plan.planned (Reaches ws features p.unit) p.reaches) plan.planned is.reaches k x at
+    reaches_are : (k : ℕ) (x : Planned) → slice_get plan.planned k ≡ Some x → AreIndices plan.planned (Reaches ws features x.unit) x.reaches
+    reaches_are k x at = all_at (λ p. AreIndices plan.planned (Reaches ws features p.unit) p.reaches) plan.planned is.reaches k x at
 
-    needs_of_all : HasPlaces unit_of (key_of ws) level needed Need above level_at refl above_more level_is needed Need plan.planned
+    needs_of_all : HasIndices unit_of (key_of ws) level needed Need above level_at refl above_more level_is needed Need plan.planned
     needs_of_all k x at = (needs_are k x at).same
 
-    reaches_of_all : HasPlaces unit_of (key_of ws) level needed Need above level_at refl above_more level_is reached Reach plan.planned
+    reaches_of_all : HasIndices unit_of (key_of ws) level needed Need above level_at refl above_more level_is reached Reach plan.planned
     reaches_of_all k x at = (reaches_are k x at).same
 
     key_is : (k : ℕ) (x : Planned) → slice_get plan.planned k ≡ Some x → x.key ≡ key_of ws x.unit
@@ -147,22 +147,22 @@ module _ (ws : Workspace) (features : Features) (selection : Selection) (profile
     back u has = (is.units u).1 ((is'.units u).0 has)
 
     there : (k : ℕ) (x : Planned) → slice_get a.planned k ≡ Some x → (y : Planned) × (slice_get b.planned k ≡ Some y) × (x.level ≡ y.level) × (x.unit ≡ y.unit)
-    there = same_place unit_of (key_of ws) level needed Need above level_at refl above_more level_is a.planned b.planned (levels_of a is) (levels_of b is') (needs_of_all a is) (needs_of_all b is') over back (order_of a is) (order_of b is')
+    there = same_index unit_of (key_of ws) level needed Need above level_at refl above_more level_is a.planned b.planned (levels_of a is) (levels_of b is') (needs_of_all a is) (needs_of_all b is') over back (order_of a is) (order_of b is')
 
     here : (k : ℕ) (y : Planned) → slice_get b.planned k ≡ Some y → (x : Planned) × (slice_get a.planned k ≡ Some x) × (y.level ≡ x.level) × (y.unit ≡ x.unit)
-    here = same_place unit_of (key_of ws) level needed Need above level_at refl above_more level_is b.planned a.planned (levels_of b is') (levels_of a is) (needs_of_all b is') (needs_of_all a is) back over (order_of b is') (order_of a is)
+    here = same_index unit_of (key_of ws) level needed Need above level_at refl above_more level_is b.planned a.planned (levels_of b is') (levels_of a is) (needs_of_all b is') (needs_of_all a is) back over (order_of b is') (order_of a is)
 
     line_same : is.line ≡ is'.line
     line_same = let same : Ok is.line ≡ Ok is'.line = sym is.profile_has ∙ is'.profile_has in cc
 
-    at_place : (k : ℕ) (x y : Planned) → slice_get a.planned k ≡ Some x → slice_get b.planned k ≡ Some y → (x.level ≡ y.level) × (x.unit ≡ y.unit)
-    at_place k x y at at' =
+    at_index : (k : ℕ) (x y : Planned) → slice_get a.planned k ≡ Some x → slice_get b.planned k ≡ Some y → (x.level ≡ y.level) × (x.unit ≡ y.unit)
+    at_index k x y at at' =
         let (z, at'', levels, units) = there k x at in
         let same : z ≡ y = same_Some z y (sym at'' ∙ at') in (levels ∙ ap level same, units ∙ ap unit_of same)
 
-    one_place : (k : ℕ) (x y : Planned) → slice_get a.planned k ≡ Some x → slice_get b.planned k ≡ Some y → x ≡ y
-    one_place k x y at at' =
-        let (levels, units) = at_place k x y at at' in
+    one_index : (k : ℕ) (x y : Planned) → slice_get a.planned k ≡ Some x → slice_get b.planned k ≡ Some y → x ≡ y
+    one_index k x y at at' =
+        let (levels, units) = at_index k x y at at' in
         planned_same x y units (key_is a is k x at ∙ (ap (key_of ws) units ∙ sym (key_is b is' k y at'))) (out_is a is k x at ∙ (ap (λ u. below (profile_folder ws profile) (key_of ws u)) units ∙ sym (out_is b is' k y at'))) levels
         (same_wanted unit_of (key_of ws) level needed Need above level_at refl above_more level_is a.planned b.planned needed Need there here (needs_of_all a is) (needs_of_all b is') k x y at at' units
         (needs_are a is k x at).rises (needs_are b is' k y at').rises)
@@ -175,7 +175,7 @@ module _ (ws : Workspace) (features : Features) (selection : Selection) (profile
     units_same =
         same_list a.planned b.planned
         (same_length unit_of (key_of ws) level needed Need above level_at refl above_more level_is a.planned b.planned (levels_of a is) (levels_of b is') (needs_of_all a is) (needs_of_all b is') over back (order_of a is) (order_of b is'))
-        one_place
+        one_index
 
     without_same : a.without_library ≡ b.without_library
     without_same =

@@ -23,10 +23,10 @@ use Rattle.pb_build_session.specs.declared.pick.PickBy.{PickBy}
 use Rattle.pb_build_session.specs.declared.pick.PickBy.TheVariants.{First, Last}
 use Rattle.pb_build_session.specs.declared.step.SessionStep.{SessionStep}
 use Rattle.pb_build_session.specs.declared.step.SessionStep.TheVariants.{Write, Remove, Set, Unset, Build, Die, Fuse}
-use Rattle.pb_store_soundness.specs.Records.{if_of_key, is_key, place_of, read_text, record_at, reading, records}
+use Rattle.pb_store_soundness.specs.Records.{if_of_key, is_key, record_path, read_text, record_at, reading, records}
 use Rattle.pb_store_soundness.specs.Sound.{Sound}
 use Rattle.pb_store_soundness.proofs.Four.{outside}
-use Rattle.pb_store_soundness.proofs.Places.{place_in}
+use Rattle.pb_store_soundness.proofs.RecordPaths.{record_below}
 use Rattle.pb_build_turns.specs.Ends.{TurnsEnd}
 use Rattle.pb_build_turns.specs.Executor.{BuildState}
 use Rattle.pb_build_turns.specs.History.{OnlyOf}
@@ -41,7 +41,7 @@ use Rattle.pb_build.proofs.Staying.{none_of}
 
 only_within : (project : Project) (es : List (Event BadUnit)) (old new : World) → IsInOrder project → OnlyOf project es old new → AgreeBut (is_at_or_below (records_folder project)) old.files new.files
 only_within project es old new order only q outside_it =
-    only.files q (λ place u begun there. none_of (records_folder project) (records_folder project) u.key q (at_itself (records_folder project) (records_folder project) refl) (order.keys place u there) outside_it)
+    only.files q (λ index u begun there. none_of (records_folder project) (records_folder project) u.key q (at_itself (records_folder project) (records_folder project) refl) (order.keys index u there) outside_it)
 
 module _ {S : Type 0} (child : Answers) (Turns : S → List ℕ → List ℕ → Step → S → Type 0) (options : Options) (from last : S) where
   turns_within : (setup : Setup) (project : Project) (next : Option ℕ) (result : Result Summary BuildFault) (old new : BuildState) → IsInOrder project → TurnsEnd true child Turns setup project next from last result old new
@@ -109,11 +109,11 @@ module _ (child : Answers) (folder : List ℕ) where
   unfolding record_at
   none_left path w above key = by (is_key key) refl
     where
-      by : (b : Bool) → is_key key ≡ b → (if b then if_of_key key (read_text reading (get (removed path w).files (place_of folder key))) else None) ≡ None
+      by : (b : Bool) → is_key key ≡ b → (if b then if_of_key key (read_text reading (get (removed path w).files (record_path folder key))) else None) ≡ None
       by true is =
           ap (λ (o : Option (List ℕ)). if_of_key key (read_text reading o))
-          (get-kept w.files (λ p. not (is_at_or_below path p)) (place_of folder key)
-          ∙ ap (λ (b : Bool). cond (not b) (get w.files (place_of folder key)) None) (at_below path (place_of folder key) (at_then_below path folder (place_of folder key) above (place_in folder key is))))
+          (get-kept w.files (λ p. not (is_at_or_below path p)) (record_path folder key)
+          ∙ ap (λ (b : Bool). cond (not b) (get w.files (record_path folder key)) None) (at_below path (record_path folder key) (at_then_below path folder (record_path folder key) above (record_below folder key is))))
       by false is = refl
 
   build_sound : (options : Options) (pick : PickBy) (before after : Point) → ((records_of options before.moment.world.variables ≡ folder) × IsHonestBuild child options before.moment.world) ⊎ ShareNoPath folder (records_of options before.moment.world.variables)

@@ -15,8 +15,8 @@ use Rattle.pb_command_types.specs.declared.project.Project.{Project}
 use Rattle.pb_command_types.specs.declared.project.Setup.{Setup}
 use Rattle.pb_run.specs.Invariants.{IsInOrder, records_folder}
 use Rattle.pb_store_soundness.specs.Apart.{is_of}
-use Rattle.pb_store_soundness.specs.Records.{is_key, out_of, place_of, records}
-use Rattle.pb_store_soundness.proofs.Places.{out_in, place_in}
+use Rattle.pb_store_soundness.specs.Records.{is_key, out_of, record_path, records}
+use Rattle.pb_store_soundness.proofs.RecordPaths.{out_in, record_below}
 use Rattle.pb_build_turns.specs.Ends.{TurnsEnd}
 use Rattle.pb_build_turns.specs.Executor.{BuildState}
 use Rattle.pb_build_turns.specs.History.{OnlyOf}
@@ -33,14 +33,14 @@ use Rattle.pb_build.proofs.Preparing.{may_ready_landed}
 -- what lies outside the target folder is no path of a unit
 pub none_of : (target folder key q : List ℕ) → is_at_or_below target folder ≡ true → is_key key ≡ true → is_at_or_below target q ≡ false → is_of folder key q ≡ false
 none_of target folder key q above is outside =
-    ap (λ b. b || is_at_or_below (place_of folder key) q) (outside_within target (out_of folder key) q (at_below target (out_of folder key) (at_then_below target folder (out_of folder key) above (out_in folder key is))) outside)
-    ∙ outside_within target (place_of folder key) q (at_below target (place_of folder key) (at_then_below target folder (place_of folder key) above (place_in folder key is))) outside
+    ap (λ b. b || is_at_or_below (record_path folder key) q) (outside_within target (out_of folder key) q (at_below target (out_of folder key) (at_then_below target folder (out_of folder key) above (out_in folder key is))) outside)
+    ∙ outside_within target (record_path folder key) q (at_below target (record_path folder key) (at_then_below target folder (record_path folder key) above (record_below folder key is))) outside
 
 -- the folders and records of units are none of the sources
 only_stay : (project : Project) (es : List (Event BadUnit)) (old new : World) → IsInOrder project → OnlyOf project es old new → SourcesStay project.workspace.target old new
 only_stay project es old new order only =
     sources_alike project.workspace.target old new
-    (λ q outside. only.files q (λ place u begun there. none_of project.workspace.target (records_folder project) u.key q order.target (order.keys place u there) outside)) only.variables
+    (λ q outside. only.files q (λ index u begun there. none_of project.workspace.target (records_folder project) u.key q order.target (order.keys index u there) outside)) only.variables
 
 module _ {S : Type 0} (is_modelled : Bool) (child : Answers) (Turns : S → List ℕ → List ℕ → Step → S → Type 0) (options : Options) (from last : S) where
   turns_stay : (setup : Setup) (project : Project) (next : Option ℕ) (result : Result Summary BuildFault) (old new : BuildState) → IsTrue is_modelled → IsInOrder project → TurnsEnd is_modelled child Turns setup project next from last result old new

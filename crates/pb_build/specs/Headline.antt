@@ -139,9 +139,9 @@ pub record GivesAll (premise : Premise) (child : Answers) (Schedule : Project �
 -- A call for the unit with this key failed, or no run number was left for the unit. The build was
 -- not finished, and the unit has begun and not answered. Exactly the due lines were written.
 pub record UnitCallFails (project : Project) (es : List (Event BadUnit)) (rows : List Row) (key : List ℕ) (old new : Option (List ℕ)) : Type 0 where
-  pub place : ℕ
-  pub named : key_at project place ≡ key ∷ []
-  pub flies : slice_get (states_in project es) place ≡ Some Begun
+  pub index : ℕ
+  pub named : key_at project index ≡ key ∷ []
+  pub flies : slice_get (states_in project es) index ≡ Some Begun
   pub missing : is_finished (states_in project es) ≡ false
   pub lines : Appends old new (said_from project es 0 (take (count_due (states_in project es)) rows))
 

@@ -37,14 +37,14 @@ module _ {A B : Type 0} (Holds : A → Type 0) (told : A → B) (row : List A) (
   to_first is = (
     length is.before,
     is.here,
-    ap (λ xs. slice_get xs (length is.before)) is.place ∙ there is.before is.here is.after,
+    ap (λ xs. slice_get xs (length is.before)) is.split ∙ there is.before is.here is.after,
     is.fails,
-    subst (AllByRecursion Holds) (sym (ap (take (length is.before)) is.place ∙ first_part is.before is.here is.after)) is.hold,
+    subst (AllByRecursion Holds) (sym (ap (take (length is.before)) is.split ∙ first_part is.before is.here is.after)) is.hold,
     is.tells,
   )
 
   from_first : IsFirstOf Holds told row b → IsFirst Holds told row b
-  from_first (n, here, at, fails, hold, tells) = record { before = take n row; here = here; after = drop (suc n) row; place = cut row n here at; hold = hold; fails = fails; tells = tells }
+  from_first (n, here, at, fails, hold, tells) = record { before = take n row; here = here; after = drop (suc n) row; split = cut row n here at; hold = hold; fails = fails; tells = tells }
 
 module _ (folder : List ℕ) (at : RecordMap) (c : commands.Command) (w : World) where
   need_only : (r : Record) (same : command_of r.asked ≡ c) (inputs : Agrees c.target r.inputs w) (key : List ℕ) (needed : Needed) → r.needed ≡ needed → FirstNeed folder at w.files needed key → Differs folder at c w (Some r) (Some (Dependency key))

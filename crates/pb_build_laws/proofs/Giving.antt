@@ -45,15 +45,15 @@ good_is (Some Waiting) = refl
 good_is (Some (Good files directives messages)) = refl
 good_is (Some (Bad bad messages)) = refl
 
-all_good : (done : List Outcome) (places : List ℕ) → list_all (λ place. is_good_at (slice_get done place)) places ≡ list_all (λ place. has_given (slice_get done place)) places
+all_good : (done : List Outcome) (indices : List ℕ) → list_all (λ index. is_good_at (slice_get done index)) indices ≡ list_all (λ index. has_given (slice_get done index)) indices
 all_good done [] = refl
-all_good done (place ∷ places) = let here = good_is (slice_get done place) in let rest = all_good done places in cc
+all_good done (index ∷ indices) = let here = good_is (slice_get done index) in let rest = all_good done indices in cc
 
 outcome_is : (child : Answers) (setup : Setup) (project : Project) (sources : World) (done : List Outcome) (u : Planned) → outcome_of child setup project sources done u ≡ outcome_after child setup project sources done u
 outcome_is child setup project sources done u =
     let c = command_after setup project done u in
     ap (λ all. if all then judged project u c (child c (view_of done sources u)) else Waiting) (all_good done u.needs)
-    ∙ ap (λ o. if list_all (λ place. has_given (slice_get done place)) u.needs then o else Waiting) (judged_is project u c (child c (view_of done sources u)))
+    ∙ ap (λ o. if list_all (λ index. has_given (slice_get done index)) u.needs then o else Waiting) (judged_is project u c (child c (view_of done sources u)))
 
 -- a table is what its entries say
 
@@ -82,23 +82,23 @@ module _ (child : Answers) (setup : Setup) (project : Project) (sources : World)
   abbrev step : List Outcome → Planned → Outcome
   step = outcome_of child setup project sources
 
-  entries : (place : ℕ) (u : Planned) → slice_get project.plan.planned place ≡ Some u
-      → slice_get (outcomes child setup project sources) place ≡ Some (outcome_after child setup project sources (take place (outcomes child setup project sources)) u)
-  entries place u at = tabled-unfold step project.plan.planned place u at ∙ ap Some (outcome_is child setup project sources (take place (outcomes child setup project sources)) u)
+  entries : (index : ℕ) (u : Planned) → slice_get project.plan.planned index ≡ Some u
+      → slice_get (outcomes child setup project sources) index ≡ Some (outcome_after child setup project sources (take index (outcomes child setup project sources)) u)
+  entries index u at = tabled-unfold step project.plan.planned index u at ∙ ap Some (outcome_is child setup project sources (take index (outcomes child setup project sources)) u)
 
   one_each : length (outcomes child setup project sources) ≡ length project.plan.planned
   one_each = let long : length (outcomes child setup project sources) ≡ 0 + length project.plan.planned = length-tabled_from step [] project.plan.planned in omega (arith, long)
 
   by_entries : (os : List Outcome) → length os ≡ length project.plan.planned
-      → ((place : ℕ) (u : Planned) → slice_get project.plan.planned place ≡ Some u → slice_get os place ≡ Some (outcome_after child setup project sources (take place os) u)) → os ≡ outcomes child setup project sources
+      → ((index : ℕ) (u : Planned) → slice_get project.plan.planned index ≡ Some u → slice_get os index ≡ Some (outcome_after child setup project sources (take index os) u)) → os ≡ outcomes child setup project sources
   by_entries os long each = one_table step os project.plan.planned 0 (omega (arith, long)) (
-      λ place u at. let same : place ≡ 0 + place = omega arith in
-      subst (λ k. slice_get os k ≡ Some (step (take k os) u)) same (each place u at ∙ ap Some (sym (outcome_is child setup project sources (take place os) u)))
+      λ index u at. let same : index ≡ 0 + index = omega arith in
+      subst (λ k. slice_get os k ≡ Some (step (take k os) u)) same (each index u at ∙ ap Some (sym (outcome_is child setup project sources (take index os) u)))
       )
 
 pub outcomes_are_these : OutcomesAreThese
 outcomes_are_these child setup project sources os = (
-  λ same. subst (λ os. (length os ≡ length project.plan.planned) × ((place : ℕ) (u : Planned) → slice_get project.plan.planned place ≡ Some u → slice_get os place ≡ Some (outcome_after child setup project sources (take place os) u)))
+  λ same. subst (λ os. (length os ≡ length project.plan.planned) × ((index : ℕ) (u : Planned) → slice_get project.plan.planned index ≡ Some u → slice_get os index ≡ Some (outcome_after child setup project sources (take index os) u)))
       (sym same) (one_each child setup project sources, entries child setup project sources),
   λ (long, each). by_entries child setup project sources os long each,
 )
@@ -110,7 +110,7 @@ inputs_of (Ok a) names = (λ same. cc, λ same. ap Some same)
 inputs_of (Err fault) names = (λ same. cc, λ never. absurd never)
 
 pub inputs_are_judged : InputsAreJudged
-inputs_are_judged setup project u done selection place r names settled plan at =
+inputs_are_judged setup project u done selection index r names settled plan at =
     let c = command_of setup project u done in
-    let same : judge c r ≡ inputs_if (answer_in project u c r) = judges_as_answered setup project u done selection place r settled plan at ∙ ap inputs_if (answer_is project u c r) in
+    let same : judge c r ≡ inputs_if (answer_in project u c r) = judges_as_answered setup project u done selection index r settled plan at ∙ ap inputs_if (answer_is project u c r) in
     subst (λ found. (found ≡ Some names) ↔ IsOkAnd (answer_in project u c r) (λ answered. answered.inputs ≡ names)) (sym same) (inputs_of (answer_in project u c r) names)

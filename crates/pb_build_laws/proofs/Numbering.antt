@@ -11,7 +11,7 @@ use Rattle.pb_record.specs.declared.record.Needed.{Needed}
 use Rattle.pb_record.specs.declared.record.Needed.TheVariants.{Copies, Numbers}
 use Rattle.pb_record.specs.declared.record.Record.{Record}
 use Rattle.pb_store_soundness.specs.Numbers.{after}
-use Rattle.pb_store_soundness.specs.Records.{RecordParser, reading, ends_as_record, if_of_key, is_key, number_in, number_of, place_of, read_text, record_at}
+use Rattle.pb_store_soundness.specs.Records.{RecordParser, reading, ends_as_record, if_of_key, is_key, number_in, number_of, record_path, read_text, record_at}
 use Rattle.pb_store_soundness.specs.Reuse.{number_if}
 use Rattle.pb_store.specs.Folder.{lacks_number, greatest_at, greatest_if, greatest_named}
 use Rattle.pb_build_laws.specs.Numbers.{NextIsAbove, RecordsAreNumbered, RecordsCount, numbers_at, numbers_in}
@@ -114,4 +114,4 @@ module _ (read : RecordParser) (key : List ℕ) (found : Option (List ℕ)) (r :
 pub records_count : RecordsCount
 unfolding Counts record_at
 records_count folder key files r =
-    (counts_only reading key (finite.get files (place_of folder key)) r (is_key key) (finite.get files (place_of folder key)) refl, counts_back reading key (finite.get files (place_of folder key)) r (is_key key))
+    (counts_only reading key (finite.get files (record_path folder key)) r (is_key key) (finite.get files (record_path folder key)) refl, counts_back reading key (finite.get files (record_path folder key)) r (is_key key))

@@ -89,4 +89,4 @@ fault_is (Good files directives messages) = refl
 fault_is (Bad bad messages) = refl
 
 pub rows_are_these : RowsAreThese
-rows_are_these = (λ project place. key_is (unit_at project place), fault_is)
+rows_are_these = (λ project index. key_is (unit_at project index), fault_is)

@@ -48,9 +48,9 @@ key_here : (found : Option Planned) (rest : List Planned) → key_in found ++ ma
 key_here None rest = refl
 key_here (Some u) rest = refl
 
-started_is : (project : Project) (places : List ℕ) → flat_map (λ place. key_in (unit_at project place)) places ≡ map (λ (u : Planned). u.key) (filter_map (unit_at project) places)
+started_is : (project : Project) (indices : List ℕ) → flat_map (λ index. key_in (unit_at project index)) indices ≡ map (λ (u : Planned). u.key) (filter_map (unit_at project) indices)
 started_is project [] = refl
-started_is project (place ∷ places) = ap (λ keys. key_in (unit_at project place) ++ keys) (started_is project places) ∙ key_here (unit_at project place) (filter_map (unit_at project) places)
+started_is project (index ∷ indices) = ap (λ keys. key_in (unit_at project index) ++ keys) (started_is project indices) ∙ key_here (unit_at project index) (filter_map (unit_at project) indices)
 
 difference_here : (noted : Option (Option (Option Difference))) (rest : List Difference) → difference_in noted ++ rest ≡ cons_option (option_flatten (option_flatten noted)) rest
 difference_here None rest = refl
@@ -58,11 +58,11 @@ difference_here (Some None) rest = refl
 difference_here (Some (Some None)) rest = refl
 difference_here (Some (Some (Some difference))) rest = refl
 
-differences_is : (reasons : Reasons) (places : List ℕ) → flat_map (λ place. difference_in (slice_get reasons place)) places ≡ filter_map (λ place. option_flatten (option_flatten (slice_get reasons place))) places
+differences_is : (reasons : Reasons) (indices : List ℕ) → flat_map (λ index. difference_in (slice_get reasons index)) indices ≡ filter_map (λ index. option_flatten (option_flatten (slice_get reasons index))) indices
 differences_is reasons [] = refl
-differences_is reasons (place ∷ places) =
-    ap (λ more. difference_in (slice_get reasons place) ++ more) (differences_is reasons places)
-    ∙ difference_here (slice_get reasons place) (filter_map (λ place. option_flatten (option_flatten (slice_get reasons place))) places)
+differences_is reasons (index ∷ indices) =
+    ap (λ more. difference_in (slice_get reasons index) ++ more) (differences_is reasons indices)
+    ∙ difference_here (slice_get reasons index) (filter_map (λ index. option_flatten (option_flatten (slice_get reasons index))) indices)
 
 -- those of which nothing differed
 

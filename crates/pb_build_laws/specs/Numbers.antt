@@ -8,7 +8,7 @@ use Rattle.pb_record.specs.declared.record.Needed.{Needed}
 use Rattle.pb_record.specs.declared.record.Needed.TheVariants.{Copies, Numbers}
 use Rattle.pb_record.specs.declared.record.Record.{Record}
 use Rattle.pb_store_soundness.specs.Numbers.{after}
-use Rattle.pb_store_soundness.specs.Records.{reading, ends_as_record, is_key, number_of, place_of, record_at}
+use Rattle.pb_store_soundness.specs.Records.{reading, ends_as_record, is_key, number_of, record_path, record_at}
 use Rattle.pb_store_soundness.specs.Reuse.{number_if}
 use Rattle.pb_store.specs.Folder.{lacks_number, next_in}
 
@@ -37,4 +37,4 @@ NextIsAbove = (folder : List ℕ) (w : World) → next_in folder w ≡ after (fo
 -- read as this record. The record has this key. The key is a valid key.
 abbrev pub RecordsCount : Type 0
 RecordsCount = (folder key : List ℕ) (files : Map) (r : Record)
-    → (record_at reading folder files key ≡ Some r) ↔ ((text : List ℕ) × (finite.get files (place_of folder key) ≡ Some text) × (reading text ≡ Some r) × (r.key ≡ key) × (is_key key ≡ true))
+    → (record_at reading folder files key ≡ Some r) ↔ ((text : List ℕ) × (finite.get files (record_path folder key) ≡ Some text) × (reading text ≡ Some r) × (r.key ≡ key) × (is_key key ≡ true))

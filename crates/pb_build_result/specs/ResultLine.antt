@@ -29,7 +29,7 @@ summary_line s = ended_line s.bad (keys_text s.started)
 
 -- the line of a fault; `place` is a unit or another part of the build
 abbrev pub fault_at : List ℕ → List ℕ → List ℕ
-fault_at place name = concat (codes "fault " ∷ place ∷ codes " " ∷ name ∷ [])
+fault_at unit name = concat (codes "fault " ∷ unit ∷ codes " " ∷ name ∷ [])
 
 abbrev pub fault_line : BuildFault → List ℕ
 fault_line (build.Plan why) = concat (codes "refused " ∷ refusal_name why ∷ [])

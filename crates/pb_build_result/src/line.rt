@@ -60,10 +60,10 @@ fn summary_line(alloc: Global, summary: &Summary) -> Result<String, AllocError>
 }
 
 /// Returns the line of a fault at a unit, or at another part of the build.
-fn fault_at(alloc: Global, place: &str, name: &str) -> Result<String, AllocError>
-    ensures { IfOk result (λ text. string_bytes text ≡ fault_at place.now name.now) }
+fn fault_at(alloc: Global, unit: &str, name: &str) -> Result<String, AllocError>
+    ensures { IfOk result (λ text. string_bytes text ≡ fault_at unit.now name.now) }
 {
-    join_texts(alloc, &["fault ", place, " ", name])
+    join_texts(alloc, &["fault ", unit, " ", name])
 }
 
 /// Returns the line of a build that ended without a summary.

@@ -46,22 +46,22 @@ use Rattle.pb_run.proofs.Views.{is_for}
 use Rattle.pb_store_soundness.specs.Apart.{is_of}
 use Rattle.pb_store_soundness.specs.Grounded.{RecordMap}
 use Rattle.pb_store_soundness.specs.Inputs.{Agrees}
-use Rattle.pb_store_soundness.specs.Records.{out_of, place_of, reading, records}
-use Rattle.pb_store_soundness.proofs.Places.{out_in, place_in, record_same}
+use Rattle.pb_store_soundness.specs.Records.{out_of, record_path, reading, records}
+use Rattle.pb_store_soundness.proofs.RecordPaths.{out_in, record_below, record_same}
 use Rattle.pb_store.specs.Differences.{FirstDifference, FirstOf, replayed}
 use Rattle.pb_store.specs.declared.difference.Difference.{Difference}
 use Rattle.pb_store.specs.declared.replaying.Replayed.{Replayed}
 use Rattle.pb_build_turns.specs.Calling.{ran_again, AnswersAgain, CarriesAgain, FliesAgain, WaitsAgain}
-use Rattle.pb_build_turns.specs.Executor.{needs_of, place_of_unit, places_of, IsConsistent, BuildState}
+use Rattle.pb_build_turns.specs.Executor.{needs_of, index_of_unit, indices_of, IsConsistent, BuildState}
 use Rattle.pb_build_turns.specs.Rows.{is_started}
 use Rattle.pb_build_turns.specs.History.{states_in, AllAnswerAgain, FliesIn, OnlyOf, Replays, History}
 use Rattle.pb_build_turns.specs.declared.executor.RunningUnit.{RunningUnit}
 use Rattle.pb_build_turns.specs.declared.executor.UnitExecutor.{UnitExecutor}
 use Rattle.pb_build_turns.proofs.Happening.{none_of, started_other}
-use Rattle.pb_build_turns.proofs.Lists.{all_at_each, all_get, all_left, all_more, apart_places, get_map, get_set_within}
+use Rattle.pb_build_turns.proofs.Lists.{all_at_each, all_get, all_left, all_more, apart_indices, get_map, get_set_within}
 use Rattle.pb_build_turns.proofs.Reaching.{all_reach, not_of_two}
 use Rattle.pb_build_turns.proofs.States.{another, answered_before, answered_cases}
-use Rattle.pb_build_turns.proofs.Staying.{place_its_own}
+use Rattle.pb_build_turns.proofs.Staying.{record_its_own}
 use Rattle.pb_build_turns.proofs.Unkept.{no_answer}
 use Rattle.pb_unit.specs.declared.plan.Planned.{Planned}
 
@@ -87,20 +87,20 @@ neither x y p q = ap (λ z. z || y) p ∙ q
 -- only folders and records in the target folder were changed
 pub sources_first : (project : Project) (order : IsInOrder project) (es : List (Event BadUnit)) (first now : World) → OnlyOf project es first now → from_nothing project.workspace.target now ≡ from_nothing project.workspace.target first
 sources_first project order es first now only =
-    sources_alike project.workspace.target first now (λ q outside. only.files q (λ place u has at.
+    sources_alike project.workspace.target first now (λ q outside. only.files q (λ unit_index u has at.
     let folder = records_folder project in
-    let key = order.keys place u at in
-    neither (is_at_or_below (out_of folder u.key) q) (is_at_or_below (place_of folder u.key) q)
+    let key = order.keys unit_index u at in
+    neither (is_at_or_below (out_of folder u.key) q) (is_at_or_below (record_path folder u.key) q)
     (outside_within project.workspace.target (out_of folder u.key) q (at_or_below_on project.workspace.target folder (out_of folder u.key) order.target (at_below folder (out_of folder u.key) (out_in folder u.key key))) outside)
-    (outside_within project.workspace.target (place_of folder u.key) q (at_or_below_on project.workspace.target folder (place_of folder u.key) order.target (at_below folder (place_of folder u.key) (place_in folder u.key key))) outside))) only.variables
+    (outside_within project.workspace.target (record_path folder u.key) q (at_or_below_on project.workspace.target folder (record_path folder u.key) order.target (at_below folder (record_path folder u.key) (record_below folder u.key key))) outside))) only.variables
 
 -- what the runs said on which the command of a unit rests, where one that has begun and not answered answers
 pub command_stays : (setup : Setup) (project : Project) (order : IsInOrder project) (es : List (Event BadUnit)) (lawful : IsLawful (needs_of project) es) (i : ℕ) (begun : slice_get (states_in project es) i ≡ Some Begun)
-    (done done' : List (Option (List Directive))) (d : Option (List Directive)) → done' ≡ slice_set done i d → (place : ℕ) (u : Planned) → HasBegun (states_in project es) place → unit_at project place ≡ Some u → command_of setup project u done ≡ command_of setup project u done'
-command_stays setup project order es lawful i begun done done' d set place u has at =
-    command_same setup project u done done' (order.needs_reached place u at) (λ p among.
+    (done done' : List (Option (List Directive))) (d : Option (List Directive)) → done' ≡ slice_set done i d → (unit_index : ℕ) (u : Planned) → HasBegun (states_in project es) unit_index → unit_at project unit_index ≡ Some u → command_of setup project u done ≡ command_of setup project u done'
+command_stays setup project order es lawful i begun done done' d set unit_index u has at =
+    command_same setup project u done done' (order.needs_reached unit_index u at) (λ p among.
     sym (ap (λ (ds : List (Option (List Directive))). slice_get ds p) set ∙ get_set_other done i p d (λ same.
-    false≢true (ap is_good_at (sym begun ∙ ap (slice_get (states_in project es)) same) ∙ good_at (states_in project es) u.reaches p (all_reach project order es lawful place u has at) among))))
+    false≢true (ap is_good_at (sym begun ∙ ap (slice_get (states_in project es)) same) ∙ good_at (states_in project es) u.reaches p (all_reach project order es lawful unit_index u has at) among))))
 
 -- What a record gives again, and what a unit in flight carries.
 
@@ -113,9 +113,9 @@ no_child l e = cc
 ended_is : (x y : Ended) → ◌≡◌ {A = Result Ended StartFault} (Ok x) (Ok y) → x ≡ y
 ended_is x y e = cc
 
-module _ (setup : Setup) (project : Project) (order : IsInOrder project) (first : World) (place : ℕ) (u : Planned) (there : unit_at project place ≡ Some u) where
+module _ (setup : Setup) (project : Project) (order : IsInOrder project) (first : World) (unit_index : ℕ) (u : Planned) (there : unit_at project unit_index ≡ Some u) where
   -- another unit changes only what is its own
-  carries_on : (w w' : World) (other : ℕ) (v : Planned) → unit_at project other ≡ Some v → place ≢ other → ChangesOnly (is_of (records_folder project) v.key) w w' → (done done' : List (Option (List Directive))) → command_of setup project u done ≡ command_of setup project u done'
+  carries_on : (w w' : World) (other : ℕ) (v : Planned) → unit_at project other ≡ Some v → unit_index ≢ other → ChangesOnly (is_of (records_folder project) v.key) w w' → (done done' : List (Option (List Directive))) → command_of setup project u done ≡ command_of setup project u done'
       → (c : Command) (by : Awaited) → CarriesAgain setup project done first w u c by → CarriesAgain setup project done' first w' u c by
   carries_on w w' other v at ne only done done' same c (awaited.Child launched) carries = tt
   carries_on w w' other v at ne only done done' same c (awaited.Record again) carries = record {
@@ -125,20 +125,20 @@ module _ (setup : Setup) (project : Project) (order : IsInOrder project) (first 
     asks = carries.asks ∙ same;
     inputs = carries.inputs;
     gives = carries.gives;
-    stays = λ q inside. only.files q (not_of_two project order place other u v there at ne q inside) ∙ carries.stays q inside;
+    stays = λ q inside. only.files q (not_of_two project order unit_index other u v there at ne q inside) ∙ carries.stays q inside;
   }
 
   -- it has begun, over what stands as at first, and nothing differed
   module _ (w w' : World) (stays : (q : List ℕ) → is_of (records_folder project) u.key q ≡ true → finite.get w.files q ≡ finite.get first.files q)
       (sources : from_nothing project.workspace.target w ≡ from_nothing project.workspace.target first) (done : List (Option (List Directive))) (c : Command) (asks : c ≡ command_of setup project u done) (at : RecordMap) where
     its_target : c.target ≡ project.workspace.target
-    its_target = ap (λ (x : Command). x.target) asks ∙ (is_for setup project u done (order.packages place u there)).target
+    its_target = ap (λ (x : Command). x.target) asks ∙ (is_for setup project u done (order.packages unit_index u there)).target
 
     by_record : (found : Option Record) (again : Replayed) → records (records_folder project) w u.key ≡ found → FirstOf (records_folder project) at c w found None → GivesRecord found (awaited.Record again) → w' ≡ w → WaitsAgain setup project done first w' u c again
     by_record None again is named gives same = absurd (none_some again gives)
     by_record (Some r) again is named gives same = record {
       kept = r;
-      here = sym (record_same reading (records_folder project) first.files w.files u.key (stays (place_of (records_folder project) u.key) (place_its_own (records_folder project) u.key))) ∙ is;
+      here = sym (record_same reading (records_folder project) first.files w.files u.key (stays (record_path (records_folder project) u.key) (record_its_own (records_folder project) u.key))) ∙ is;
       asked = named.asked;
       asks = asks;
       inputs = agrees_still project.workspace.target r.inputs w first (sym sources) (subst (λ target. Agrees target r.inputs w) its_target named.inputs);
@@ -155,11 +155,11 @@ module _ (setup : Setup) (project : Project) (order : IsInOrder project) (first 
 
   -- it answers
   module _ (w left : World) (c : Command) (ended : Ended) (well : Type 0) (still : ℕ → Type 0) (old mid : Counts) (ran : Ran) (lines : List ℕ) (told : lines ≡ unit_lines project u ran.started ran.messages)
-      (done done' : List (Option (List Directive))) (noted : slice_get done' place ≡ Some ran.directives) (same : command_of setup project u done ≡ command_of setup project u done') where
-    answers_so : (by : Awaited) → child_in by ≡ None → CarriesAgain setup project done first w u c by → EndsBy by (Ok ended) well still w left old mid → IsJudged project u c by ended left ran → AnswersAgain setup project done' first place record { fault = ran.bad; lines = lines }
+      (done done' : List (Option (List Directive))) (noted : slice_get done' unit_index ≡ Some ran.directives) (same : command_of setup project u done ≡ command_of setup project u done') where
+    answers_so : (by : Awaited) → child_in by ≡ None → CarriesAgain setup project done first w u c by → EndsBy by (Ok ended) well still w left old mid → IsJudged project u c by ended left ran → AnswersAgain setup project done' first unit_index record { fault = ran.bad; lines = lines }
     answers_so (awaited.Child launched) none carries ends judged = absurd (no_child launched none)
     answers_so (awaited.Record again) none carries ends judged =
-        let folder = order.folders place u there in
+        let folder = order.folders unit_index u there in
         let (unchanged, counted, is_ok) = ends in
         let is : ended ≡ (replayed carries.kept).ended = ended_is ended again.ended is_ok ∙ ap (λ (x : Replayed). x.ended) carries.gives in
         let all : ran ≡ ran_again project u carries.kept first.files =
@@ -184,7 +184,7 @@ module _ (setup : Setup) (project : Project) (order : IsInOrder project) (first 
 pub replays_first : (setup : Setup) (project : Project) (done : List (Option (List Directive))) (running : List RunningUnit) (w : World) → running ≡ [] → Replays setup project done running [] w w
 replays_first setup project done running w none = record {
   waits = subst (AllByRecursion (λ (a : RunningUnit). FliesAgain setup project done w w a)) (sym none) tt;
-  gave = λ place answer state started. absurd (no_answer (needs_of project) place answer state);
+  gave = λ unit_index answer state started. absurd (no_answer (needs_of project) unit_index answer state);
 }
 
 -- A unit begins.
@@ -192,9 +192,9 @@ replays_first setup project done running w none = record {
 -- those that had answered
 pub gave_begun : (setup : Setup) (project : Project) (done : List (Option (List Directive))) (es : List (Event BadUnit)) (first : World) (unit : ℕ) (spawned : Bool) → slice_get (states_in project es) unit ≡ Some Untouched
     → AllAnswerAgain setup project es done first → AllAnswerAgain setup project (Began unit spawned ∷ es) done first
-gave_begun setup project done es first unit spawned untouched gave place answer state started =
-    let (ne, before) = answered_before (states_in project es) unit place answer Untouched untouched state in
-    gave place answer before (sym (started_other es unit place spawned ne) ∙ started)
+gave_begun setup project done es first unit spawned untouched gave unit_index answer state started =
+    let (ne, before) = answered_before (states_in project es) unit unit_index answer Untouched untouched state in
+    gave unit_index answer before (sym (started_other es unit unit_index spawned ne) ∙ started)
 
 module _ (is_modelled : Bool) (child : Answers) (first old : UnitExecutor) (at now new : BuildState) (still : ℕ → Type 0) (es : List (Event BadUnit)) (given : ℕ) (story : History is_modelled child first at old now still es given) (order : IsInOrder old.project) where
   pub begun_again : (unit : ℕ) (u : Planned) → unit_at old.project unit ≡ Some u → slice_get (states_in old.project es) unit ≡ Some Untouched → (IsTrue is_modelled → ChangesOnly (is_of (records_folder old.project) u.key) now.world new.world)
@@ -220,7 +220,7 @@ module _ (is_modelled : Bool) (child : Answers) (first old : UnitExecutor) (at n
       own only_first v at_v =
           subst (λ (x : Planned). CarriesAgain old.setup old.project old.done.items at.world new.world x begun.command begun.awaited) (injective (sym there ∙ at_v))
           (its_own old.setup old.project order at.world unit u there now.world new.world
-          (λ q inside. only_first.files q (λ place x has at_x. not_of_two old.project order unit place u x there at_x (another (states_in old.project es) unit place untouched has) q inside))
+          (λ q inside. only_first.files q (λ unit_index x has at_x. not_of_two old.project order unit unit_index u x there at_x (another (states_in old.project es) unit unit_index untouched has) q inside))
           (sources_first old.project order es at.world now.world only_first) old.done.items begun.command (asks ∙ ap (command_of old.setup old.project u) same_done) (records (records_folder old.project) now.world) begun.awaited difference (differs t) spawned (gives t) (same t))
 
   -- A unit answers.
@@ -237,32 +237,32 @@ module _ (is_modelled : Bool) (child : Answers) (first old : UnitExecutor) (at n
             subst (AllByRecursion (λ (x : RunningUnit). FliesAgain old.setup old.project done' at.world new.world x)) (sym is)
             (all_left (λ (x : RunningUnit). FliesAgain old.setup old.project old.done.items at.world now.world x) (λ (x : RunningUnit). FliesAgain old.setup old.project done' at.world new.world x) old.running.items index
             (λ j y at_j ne waits v at_v. carries_on old.setup old.project order at.world y.unit v at_v now.world new.world a.unit u there
-            (apart_places (places_of old.running.items) j index y.unit a.unit consistent.units_apart (get_map place_of_unit old.running.items j y at_j) (get_map place_of_unit old.running.items index a at_index) ne)
+            (apart_indices (indices_of old.running.items) j index y.unit a.unit consistent.units_apart (get_map index_of_unit old.running.items j y at_j) (get_map index_of_unit old.running.items index a at_index) ne)
             (only t) old.done.items done' (stays so y.unit v (Begun, (all_get (FliesIn old.project es now.world now.counts.starts.flying) old.running.items j y changes.flies at_j).state, refl) at_v) y.begun.command y.begun.awaited (waits v at_v))
             ((story.again t).waits));
-        gave = λ place answer state started. elim (answered_cases (states_in old.project es) a.unit place answer record { fault = ran.bad; lines = lines } Begun so.state state) [
+        gave = λ unit_index answer state started. elim (answered_cases (states_in old.project es) a.unit unit_index answer record { fault = ran.bad; lines = lines } Begun so.state state) [
           | inl (same, its) ↦
-              subst (λ (x : Answer BadUnit). AnswersAgain old.setup old.project done' at.world place x) its
+              subst (λ (x : Answer BadUnit). AnswersAgain old.setup old.project done' at.world unit_index x) its
               (subst (λ n. AnswersAgain old.setup old.project done' at.world n record { fault = ran.bad; lines = lines }) same
               (own so (ap (is_started es) same ∙ started)))
           | inr (ne, before) ↦
-              let g = (story.again t).gave place answer before started in
+              let g = (story.again t).gave unit_index answer before started in
               record {
                 unit = g.unit;
                 there = g.there;
                 kept = g.kept;
                 here = g.here;
-                asks = g.asks ∙ stays so place g.unit (Answered answer, before, refl) g.there;
+                asks = g.asks ∙ stays so unit_index g.unit (Answered answer, before, refl) g.there;
                 inputs = g.inputs;
                 fault = g.fault;
                 lines = g.lines;
-                noted = ap (λ (ds : List (Option (List Directive))). slice_get ds place) set ∙ get_set_other old.done.items a.unit place ran.directives ne ∙ g.noted;
+                noted = ap (λ (ds : List (Option (List Directive))). slice_get ds unit_index) set ∙ get_set_other old.done.items a.unit unit_index ran.directives ne ∙ g.noted;
               }
         ];
       }
     where
-      stays : FliesIn old.project es now.world now.counts.starts.flying a → (place : ℕ) (v : Planned) → HasBegun (states_in old.project es) place → unit_at old.project place ≡ Some v → command_of old.setup old.project v old.done.items ≡ command_of old.setup old.project v done'
-      stays so place v has at_v = command_stays old.setup old.project order es lawful a.unit so.state old.done.items done' ran.directives set place v has at_v
+      stays : FliesIn old.project es now.world now.counts.starts.flying a → (unit_index : ℕ) (v : Planned) → HasBegun (states_in old.project es) unit_index → unit_at old.project unit_index ≡ Some v → command_of old.setup old.project v old.done.items ≡ command_of old.setup old.project v done'
+      stays so unit_index v has at_v = command_stays old.setup old.project order es lawful a.unit so.state old.done.items done' ran.directives set unit_index v has at_v
 
       within : a.unit < length old.done.items
       within = subst (λ n. a.unit < n) (sym consistent.long) (slice_get_within old.project.plan.planned a.unit u there)

@@ -14,7 +14,7 @@ use Rattle.pb_command_types.specs.declared.project.Project.{Project}
 use Rattle.pb_run.specs.UnitSteps.{WritesTo, child_of}
 use Rattle.pb_run.specs.Invariants.{IsInOrder}
 use Rattle.pb_run.specs.declared.begun.SpawnedChild.{SpawnedChild}
-use Rattle.pb_build_turns.specs.Executor.{AreApart, IsOfPlan, place_of_unit, places_of, ticket_in, ticket_of_child, tickets_of}
+use Rattle.pb_build_turns.specs.Executor.{AreApart, IsOfPlan, index_of_unit, indices_of, ticket_in, ticket_of_child, tickets_of}
 use Rattle.pb_build_turns.specs.History.{Changes, FliesIn, NoneWritesTo}
 use Rattle.pb_build_turns.specs.declared.executor.RunningUnit.{RunningUnit}
 use Rattle.pb_build_turns.proofs.Lists.{all_get, get_map}
@@ -61,13 +61,13 @@ owner_of (y ∷ running) ticket has = by (child_of y.begun) refl (λ more. owner
     ]
 
 pub none_writes : (project : Project) (order : IsInOrder project) (first w : World) (running : List RunningUnit) (es : List (Event BadUnit)) (flying : List ChildInFlight) → AllByRecursion (IsOfPlan project) running → map ticket_of_child flying ≡ tickets_of running
-    → Changes project first running es w flying → (place : ℕ) (u : Planned) → unit_at project place ≡ Some u → (Contains (places_of running) place → ⊥) → NoneWritesTo u.out flying
-none_writes project order first w running es flying of_plan tickets changes place u there grounded ticket its at out =
+    → Changes project first running es w flying → (unit_index : ℕ) (u : Planned) → unit_at project unit_index ≡ Some u → (Contains (indices_of running) unit_index → ⊥) → NoneWritesTo u.out flying
+none_writes project order first w running es flying of_plan tickets changes unit_index u there grounded ticket its at out =
     let o = owner_of running ticket (subst (λ (ts : List ℕ). Contains ts ticket) tickets (has_ticket ticket flying its at)) in
     let planned : IsOfPlan project o.one = all_get (IsOfPlan project) running o.index o.one of_plan o.at in
     let flies : FliesIn project es w flying o.one = all_get (FliesIn project es w flying) running o.index o.one changes.flies o.at in
     let writes : WritesTo planned.unit.out (Some o.child) flying = subst (λ (l : Option SpawnedChild). WritesTo planned.unit.out l flying) o.is (flies.writes planned.unit planned.there) in
     let its_out : its.command.out ≡ Some planned.unit.out = subst (λ (c : Option ChildInFlight). IfSome c (λ s. s.command.out ≡ Some planned.unit.out)) (ap (λ (t : ℕ). child_at t flying) o.its ∙ at) writes in
     let same : planned.unit.out ≡ u.out = injective (sym its_out ∙ out) in
-    let ne : o.one.unit ≢ place = λ e. grounded (subst (Contains (places_of running)) e (at_contains (places_of running) o.index o.one.unit (get_map place_of_unit running o.index o.one o.at))) in
-    false≢true (sym (order.apart o.one.unit place planned.unit u planned.there there ne planned.unit.out (at_itself planned.unit.out planned.unit.out refl)) ∙ at_itself u.out planned.unit.out (sym same))
+    let ne : o.one.unit ≢ unit_index = λ e. grounded (subst (Contains (indices_of running)) e (at_contains (indices_of running) o.index o.one.unit (get_map index_of_unit running o.index o.one o.at))) in
+    false≢true (sym (order.apart o.one.unit unit_index planned.unit u planned.there there ne planned.unit.out (at_itself planned.unit.out planned.unit.out refl)) ∙ at_itself u.out planned.unit.out (sym same))

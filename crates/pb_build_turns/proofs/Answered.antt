@@ -1,4 +1,4 @@
--- What has happened, where a unit in flight answers, or a fault comes in its place.
+-- What has happened, where a unit in flight answers, or a fault comes in its index.
 use Rattle.std.proofs.Common.{◌≡◌, ◌≢◌, ◌∙◌, ◌<◌, inl, inr, true, List, ◌∷◌, ℕ, Option, Some, refl, sym, ap, subst, slice_get, slice_set, is_some, length}
 use Rattle.std.proofs.lemmas.Bool.{false≢true}
 use Rattle.std.proofs.lemmas.Option.{slice_get_within}
@@ -18,11 +18,11 @@ use Rattle.pb_run.specs.UnitSteps.{Premise, TrustedRecords, NoRecords, BuildCont
 use Rattle.pb_run.specs.Outcome.{Outcome, directives_in}
 use Rattle.pb_message_units.specs.Telling.{unit_lines}
 use Rattle.pb_run.specs.declared.begun.Begun.{Begun as unit_begun}
-use Rattle.pb_build_turns.specs.Executor.{places_of, place_of_unit, ticket_in, number_in, tickets_of, numbers_of, AreApart}
+use Rattle.pb_build_turns.specs.Executor.{indices_of, index_of_unit, ticket_in, number_in, tickets_of, numbers_of, AreApart}
 use Rattle.pb_build_turns.specs.Rows.{is_started, fault_in, messages_in}
 use Rattle.pb_build_turns.specs.History.{states_in, HistoryHolds, HasGiven, FliesSo}
 use Rattle.pb_build_turns.specs.declared.executor.RunningUnit.{RunningUnit}
-use Rattle.pb_build_turns.proofs.Lists.{all_left, all_get, apart_places, flat_apart, get_map, get_set_within}
+use Rattle.pb_build_turns.proofs.Lists.{all_left, all_get, apart_indices, flat_apart, get_map, get_set_within}
 use Rattle.pb_build_turns.proofs.States.{good_set, answered_cases}
 use Rattle.pb_unit.specs.declared.plan.Planned.{Planned}
 
@@ -35,36 +35,36 @@ not_begun (Answered a) e f = cc
 
 module _ (b : BuildContext) (ss : List (State BadUnit)) (done : List (Option (List Directive))) (next next' : Option ℕ) (w w' : World) (i : ℕ) (answer : Answer BadUnit) (d : Option (List Directive))
     (old : BuildInvariant b ss done next w) (new : BuildInvariant b (slice_set ss i (Answered answer)) (slice_set done i d) next' w') (at : slice_get ss i ≡ Some Begun) where
-  good_other : (place : ℕ) → is_good_at (slice_get ss place) ≡ true → i ≢ place
-  good_other place good same = false≢true (ap is_good_at (sym at ∙ ap (slice_get ss) same) ∙ good)
+  good_other : (index : ℕ) → is_good_at (slice_get ss index) ≡ true → i ≢ index
+  good_other index good same = false≢true (ap is_good_at (sym at ∙ ap (slice_get ss) same) ∙ good)
 
-  good_now : (place : ℕ) → is_good_at (slice_get ss place) ≡ true → is_good_at (slice_get (slice_set ss i (Answered answer)) place) ≡ true
-  good_now place good = ap is_good_at (get_set_other ss i place (Answered answer) (good_other place good)) ∙ good
+  good_now : (index : ℕ) → is_good_at (slice_get ss index) ≡ true → is_good_at (slice_get (slice_set ss i (Answered answer)) index) ≡ true
+  good_now index good = ap is_good_at (get_set_other ss i index (Answered answer) (good_other index good)) ∙ good
 
-  untouched_other : (place : ℕ) → slice_get ss place ≡ Some Untouched → i ≢ place
-  untouched_other place is same = not_begun Begun refl (injective (sym at ∙ ap (slice_get ss) same ∙ is))
+  untouched_other : (index : ℕ) → slice_get ss index ≡ Some Untouched → i ≢ index
+  untouched_other index is same = not_begun Begun refl (injective (sym at ∙ ap (slice_get ss) same ∙ is))
 
-  stands_back : (place : ℕ) → i ≢ place → StandsGood b (slice_set done i d) w' place → StandsGood b done w' place
-  stands_back place ne s = record {
+  stands_back : (index : ℕ) → i ≢ index → StandsGood b (slice_set done i d) w' index → StandsGood b done w' index
+  stands_back index ne s = record {
     unit = s.unit;
     there = s.there;
     files = s.files;
     directives = s.directives;
     messages = s.messages;
     good = s.good;
-    noted = sym (get_set_other done i place d ne) ∙ s.noted;
+    noted = sym (get_set_other done i index d ne) ∙ s.noted;
     holds = s.holds;
   }
 
   records_back : (premise : Premise) → HoldsBy premise b (slice_set ss i (Answered answer)) next' w' → HoldsBy premise b ss next' w'
-  records_back TrustedRecords holds = record { honest = holds.honest; sound = holds.sound; ahead = holds.ahead; recorded = λ place good. holds.recorded place (good_now place good) }
-  records_back NoRecords holds = λ place u there is. holds place u there (get_set_other ss i place (Answered answer) (untouched_other place is) ∙ is)
+  records_back TrustedRecords holds = record { honest = holds.honest; sound = holds.sound; ahead = holds.ahead; recorded = λ index good. holds.recorded index (good_now index good) }
+  records_back NoRecords holds = λ index u there is. holds index u there (get_set_other ss i index (Answered answer) (untouched_other index is) ∙ is)
 
   pub keeps_back : BuildInvariant b ss done next' w'
   keeps_back = record {
     long = old.long;
     sources_stay = new.sources_stay;
-    good = λ place good. stands_back place (good_other place good) (new.good place (good_now place good));
+    good = λ index good. stands_back index (good_other index good) (new.good index (good_now index good));
     closed = old.closed;
     records = records_back b.premise new.records;
   }
@@ -84,10 +84,10 @@ module _ (b : BuildContext) (done : List (Option (List Directive))) (running : L
   pub its_start : is_started es a.unit ≡ is_some (child_of a.begun)
   its_start = so.started
 
-  module _ (places : AreApart (places_of running)) (tickets : AreApart (tickets_of running)) (numbers : AreApart (numbers_of running))
+  module _ (indices : AreApart (indices_of running)) (tickets : AreApart (tickets_of running)) (numbers : AreApart (numbers_of running))
       (others : (other : ℕ) (its : unit_begun) → BeginsApart b (states_in b.project es) a.unit (child_of a.begun) other its next w flying still → IsBegun b other its next' w' flying' still') where
     ne_unit : (j : ℕ) (y : RunningUnit) → slice_get running j ≡ Some y → j ≢ index → y.unit ≢ a.unit
-    ne_unit j y at_j ne = apart_places (places_of running) j index y.unit a.unit places (get_map place_of_unit running j y at_j) (get_map place_of_unit running index a at) ne
+    ne_unit j y at_j ne = apart_indices (indices_of running) j index y.unit a.unit indices (get_map index_of_unit running j y at_j) (get_map index_of_unit running index a at) ne
 
     apart_from : (j : ℕ) (y : RunningUnit) → slice_get running j ≡ Some y → j ≢ index → FliesSo b es next w flying still y → BeginsApart b (states_in b.project es) a.unit (child_of a.begun) y.unit y.begun next w flying still
     apart_from j y at_j ne f = record {
@@ -139,21 +139,21 @@ module _ (b : BuildContext) (done : List (Option (List Directive))) (running : L
         noted = get_set_within done a.unit d within ∙ ap Some noted;
       }
 
-      old_given : (place : ℕ) (other : Answer BadUnit) → a.unit ≢ place → HasGiven b es done place other → HasGiven b (Gave a.unit answer ∷ es) (slice_set done a.unit d) place other
-      old_given place other ne g = record {
+      old_given : (index : ℕ) (other : Answer BadUnit) → a.unit ≢ index → HasGiven b es done index other → HasGiven b (Gave a.unit answer ∷ es) (slice_set done a.unit d) index other
+      old_given index other ne g = record {
         unit = g.unit;
         there = g.there;
         outcome = g.outcome;
         is = g.is;
         fault = g.fault;
         lines = g.lines;
-        noted = get_set_other done a.unit place d ne ∙ g.noted;
+        noted = get_set_other done a.unit index d ne ∙ g.noted;
       }
 
-      given_after : (place : ℕ) (other : Answer BadUnit) → slice_get (slice_set (states_in b.project es) a.unit (Answered answer)) place ≡ Some (Answered other) → HasGiven b (Gave a.unit answer ∷ es) (slice_set done a.unit d) place other
-      given_after place other at_place = elim (answered_cases (states_in b.project es) a.unit place other answer Begun so.state at_place) [
+      given_after : (index : ℕ) (other : Answer BadUnit) → slice_get (slice_set (states_in b.project es) a.unit (Answered answer)) index ≡ Some (Answered other) → HasGiven b (Gave a.unit answer ∷ es) (slice_set done a.unit d) index other
+      given_after index other at_place = elim (answered_cases (states_in b.project es) a.unit index other answer Begun so.state at_place) [
         | inl (same, is_other) ↦ subst (λ n. HasGiven b (Gave a.unit answer ∷ es) (slice_set done a.unit d) n other) same (subst (HasGiven b (Gave a.unit answer ∷ es) (slice_set done a.unit d) a.unit) is_other own_given)
-        | inr (ne, before) ↦ old_given place other ne (h.gave place other before)
+        | inr (ne, before) ↦ old_given index other ne (h.gave index other before)
       ]
 
       pub happened_after : HistoryHolds b (slice_set done a.unit d) (remove running index) next' (Gave a.unit answer ∷ es) w' flying' still'

@@ -17,7 +17,7 @@ use Rattle.pb_run.specs.Outcome.{outcome_from, outcome_by, directives_in}
 use Rattle.pb_message_units.specs.Telling.{unit_lines}
 use Rattle.pb_run.specs.declared.begun.Begun.{Begun as unit_begun}
 use Rattle.pb_run.specs.declared.ran.Ran.{Ran}
-use Rattle.pb_build_turns.specs.Executor.{AreApart, places_of, tickets_of, numbers_of, BuildState}
+use Rattle.pb_build_turns.specs.Executor.{AreApart, indices_of, tickets_of, numbers_of, BuildState}
 use Rattle.pb_build_turns.specs.Rows.{fault_in, messages_in}
 use Rattle.pb_build_turns.specs.History.{states_in, HistoryHolds, FromFirst, History}
 use Rattle.pb_build_turns.specs.declared.executor.RunningUnit.{RunningUnit}
@@ -41,7 +41,7 @@ directives_any (Some e) files other directives messages = refl
 
 module _ (is_modelled : Bool) (child : Answers) (first old : UnitExecutor) (at now new : BuildState) (still still' : ℕ → Type 0) (es : List (Event BadUnit)) (given index : ℕ) (a : RunningUnit) (u : Planned)
     (there : unit_at old.project a.unit ≡ Some u) (story : History is_modelled child first at old now still es given) (at_index : slice_get old.running.items index ≡ Some a)
-    (places : AreApart (places_of old.running.items)) (tickets : AreApart (tickets_of old.running.items)) (numbers : AreApart (numbers_of old.running.items)) (next' : Option ℕ)
+    (indices : AreApart (indices_of old.running.items)) (tickets : AreApart (tickets_of old.running.items)) (numbers : AreApart (numbers_of old.running.items)) (next' : Option ℕ)
     (others : (premise : Premise) (setup : Setup) (sources : World) (states : List (State BadUnit)) (done : List (Option (List Directive))) (other : ℕ) (its : unit_begun) → IsTrue is_modelled
     → CanAnswer (build_context premise child setup old.project sources) states done a.unit u a.begun old.store.next now.world now.counts.starts.flying still
     → BeginsApart (build_context premise child setup old.project sources) states a.unit (child_of a.begun) other its old.store.next now.world now.counts.starts.flying still
@@ -60,7 +60,7 @@ module _ (is_modelled : Bool) (child : Answers) (first old : UnitExecutor) (at n
     less : BuildInvariant (Of f s) (states_in old.project es) old.done.items next' new.world → HistoryHolds (Of f s) old.done.items (remove old.running.items index) next' es new.world new.counts.starts.flying still'
     less keeps =
         answered.happened_less (Of f s) old.done.items old.running.items old.store.next next' es now.world new.world now.counts.starts.flying new.counts.starts.flying still still' h index a at_index u there
-        places tickets numbers others_now keeps
+        indices tickets numbers others_now keeps
 
     module _ (ran : Ran) (lines : List ℕ) (outcome : slice_get (outcomes_in (Of f s)) a.unit ≡ Some (outcome_by (files_in u.out new.world.files) ran))
         (keeps : BuildInvariant (Of f s) (slice_set (states_in old.project es) a.unit (Answered record { fault = ran.bad; lines = lines })) (slice_set old.done.items a.unit ran.directives) next' new.world)
@@ -80,10 +80,10 @@ module _ (is_modelled : Bool) (child : Answers) (first old : UnitExecutor) (at n
         after : HistoryHolds (Of f s) (slice_set old.done.items a.unit ran.directives) (remove old.running.items index) next' (Gave a.unit record { fault = ran.bad; lines = lines } ∷ es) new.world new.counts.starts.flying still'
         after =
             answered.happened_after (Of f s) old.done.items old.running.items old.store.next next' es now.world new.world now.counts.starts.flying new.counts.starts.flying still still' h index a at_index u there
-            places tickets numbers others_now record { fault = ran.bad; lines = lines } ran.directives keeps (outcome_by (files_in u.out new.world.files) ran) outcome
+            indices tickets numbers others_now record { fault = ran.bad; lines = lines } ran.directives keeps (outcome_by (files_in u.out new.world.files) ran) outcome
             (fault_of ran.bad (files_in u.out new.world.files) ran.directives ran.messages) noted_is lines_are
 
-  -- a fault came in its place
+  -- a fault came in its index
   pub failed_happened : (running' : List RunningUnit) → running' ≡ remove old.running.items index
       → ((premise : Premise) (setup : Setup) (sources : World) (states : List (State BadUnit)) (done : List (Option (List Directive))) → IsTrue is_modelled
       → CanAnswer (build_context premise child setup old.project sources) states done a.unit u a.begun old.store.next now.world now.counts.starts.flying still → BuildInvariant (build_context premise child setup old.project sources) states done next' new.world)

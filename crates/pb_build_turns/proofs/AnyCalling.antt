@@ -31,14 +31,14 @@ use Rattle.pb_run.proofs.Recorded.{seen_still}
 use Rattle.pb_run.proofs.Spawning.{out_within, widen}
 use Rattle.pb_run.proofs.Views.{IsFor, is_for}
 use Rattle.pb_store_soundness.specs.Apart.{is_of}
-use Rattle.pb_store_soundness.specs.Records.{out_of, place_of, reading, records}
-use Rattle.pb_store_soundness.proofs.Places.{record_same}
+use Rattle.pb_store_soundness.specs.Records.{out_of, record_path, reading, records}
+use Rattle.pb_store_soundness.proofs.RecordPaths.{record_same}
 use Rattle.pb_store.specs.Differences.{IsReplayed, replayed}
 use Rattle.pb_build_turns.specs.Calling.{CarriesAgain, CarriesAnew, AnswersCalling, BeginsCalling, CallsOver, CallsToBegin, EndsAsReplied, FliesFor, CallBasis, call_basis_on_any}
 use Rattle.pb_build_turns.specs.Executor.{needs_of}
 use Rattle.pb_build_turns.specs.History.{states_in}
 use Rattle.pb_build_turns.proofs.States.{begun_more, begun_now}
-use Rattle.pb_build_turns.proofs.Staying.{place_its_own}
+use Rattle.pb_build_turns.proofs.Staying.{record_its_own}
 use Rattle.pb_unit.specs.declared.plan.Planned.{Planned}
 
 -- More is noted of the runs, by which each unit that has begun has the command that it had.
@@ -46,20 +46,20 @@ use Rattle.pb_unit.specs.declared.plan.Planned.{Planned}
 module _ (child : Answers) (setup : Setup) (project : Project) (done done' : List (Option (List Directive))) where
   -- so this unit
   abbrev SameCommand : ℕ → Type 0
-  SameCommand place = (u : Planned) → unit_at project place ≡ Some u → command_of setup project u done ≡ command_of setup project u done'
+  SameCommand index = (u : Planned) → unit_at project index ≡ Some u → command_of setup project u done ≡ command_of setup project u done'
 
-  begins_same : (place : ℕ) (spawned : Bool) (before : World) (old : Counts) (after : World) (new : Counts) → SameCommand place
-      → BeginsCalling (call_basis_on_any child setup project done) place spawned before old after new → BeginsCalling (call_basis_on_any child setup project done') place spawned before old after new
-  begins_same place spawned before old after new same f = record {
+  begins_same : (index : ℕ) (spawned : Bool) (before : World) (old : Counts) (after : World) (new : Counts) → SameCommand index
+      → BeginsCalling (call_basis_on_any child setup project done) index spawned before old after new → BeginsCalling (call_basis_on_any child setup project done') index spawned before old after new
+  begins_same index spawned before old after new same f = record {
     unit = f.unit;
     there = f.there;
     only = f.only;
     calls = subst (λ (c : Command). CallsToBegin child project f.unit c spawned before old after new) (same f.unit f.there) f.calls;
   }
 
-  answers_same : (place : ℕ) (spawned : Bool) (result : Result (Unit {0}) BuildFault) (before : World) (old : Counts) (after : World) (new : Counts) → SameCommand place
-      → AnswersCalling (call_basis_on_any child setup project done) place spawned result before old after new → AnswersCalling (call_basis_on_any child setup project done') place spawned result before old after new
-  answers_same place spawned result before old after new same f = record {
+  answers_same : (index : ℕ) (spawned : Bool) (result : Result (Unit {0}) BuildFault) (before : World) (old : Counts) (after : World) (new : Counts) → SameCommand index
+      → AnswersCalling (call_basis_on_any child setup project done) index spawned result before old after new → AnswersCalling (call_basis_on_any child setup project done') index spawned result before old after new
+  answers_same index spawned result before old after new same f = record {
     unit = f.unit;
     there = f.there;
     by = f.by;
@@ -76,30 +76,30 @@ module _ (child : Answers) (setup : Setup) (project : Project) (done done' : Lis
     calls = subst (λ (c : Command). CallsBehind f.by (answered_called project f.unit c f.left f.by) f.answer (bare result) f.mid new) (same f.unit f.there) f.calls;
   }
 
-  pub calls_same : (es : List (Event BadUnit)) → IsLawful (needs_of project) es → ((place : ℕ) → HasBegun (states_in project es) place → SameCommand place) → (first : World) (at : Counts) (last : World) (now : Counts)
+  pub calls_same : (es : List (Event BadUnit)) → IsLawful (needs_of project) es → ((index : ℕ) → HasBegun (states_in project es) index → SameCommand index) → (first : World) (at : Counts) (last : World) (now : Counts)
       → CallsOver (call_basis_on_any child setup project done) es first at last now → CallsOver (call_basis_on_any child setup project done') es first at last now
   calls_same [] lawful same first at last now calls = calls
-  calls_same (Began place spawned ∷ es) lawful same first at last now (before, old, calls, begins) =
-      let (earlier, may) = began_lawful (needs_of project) _ es place spawned lawful in (
+  calls_same (Began index spawned ∷ es) lawful same first at last now (before, old, calls, begins) =
+      let (earlier, may) = began_lawful (needs_of project) _ es index spawned lawful in (
         before,
         old,
-        calls_same es earlier (λ p has. same p (begun_more (states_in project es) place p Untouched Begun may.untouched refl has)) first at before old calls,
-        begins_same place spawned before old last now (same place (begun_now (states_in project es) place Untouched Begun may.untouched refl)) begins,
+        calls_same es earlier (λ p has. same p (begun_more (states_in project es) index p Untouched Begun may.untouched refl has)) first at before old calls,
+        begins_same index spawned before old last now (same index (begun_now (states_in project es) index Untouched Begun may.untouched refl)) begins,
       )
-  calls_same (Gave place answer ∷ es) lawful same first at last now (before, old, calls, answers) =
-      let (earlier, flies) = gave_lawful (needs_of project) _ es place answer lawful in (
+  calls_same (Gave index answer ∷ es) lawful same first at last now (before, old, calls, answers) =
+      let (earlier, flies) = gave_lawful (needs_of project) _ es index answer lawful in (
         before,
         old,
-        calls_same es earlier (λ p has. same p (begun_more (states_in project es) place p Begun (Answered answer) flies refl has)) first at before old calls,
-        answers_same place _ _ before old last now (same place (begun_now (states_in project es) place Begun (Answered answer) flies refl)) answers,
+        calls_same es earlier (λ p has. same p (begun_more (states_in project es) index p Begun (Answered answer) flies refl has)) first at before old calls,
+        answers_same index _ _ before old last now (same index (begun_now (states_in project es) index Begun (Answered answer) flies refl)) answers,
       )
 
 -- What a unit in flight waits for: the end of its child, which saw what it is told to see of the world that it left; or the answer that its record gives again, which counts before.
 abbrev pub WaitsTold : CallBasis → ℕ → Planned → Command → World → World → List ChildInFlight → (ℕ → Type 0) → Awaited → Type 0
-WaitsTold told place u c before left flying still (awaited.Child launched) = IsInFlight told.child c (told.sees place u left) launched.ticket flying still
-WaitsTold told place u c before left flying still (awaited.Record again) = IsReplayed (records (records_folder told.project) before u.key) again
+WaitsTold told index u c before left flying still (awaited.Child launched) = IsInFlight told.child c (told.sees index u left) launched.ticket flying still
+WaitsTold told index u c before left flying still (awaited.Record again) = IsReplayed (records (records_folder told.project) before u.key) again
 
-module _ (child : Answers) (setup : Setup) (project : Project) (order : IsInOrder project) (place : ℕ) (u : Planned) (there : unit_at project place ≡ Some u)
+module _ (child : Answers) (setup : Setup) (project : Project) (order : IsInOrder project) (index : ℕ) (u : Planned) (there : unit_at project index ≡ Some u)
     (done : List (Option (List Directive))) (first before : World) (old : Counts) (still : ℕ → Type 0) (c : Command) where
   -- it was begun by the command that it has
   pub asks_now : (by : Awaited) → CarriesAgain setup project done first before u c by → CarriesAnew child setup project done before old.starts.flying still u c by → c ≡ command_of setup project u done
@@ -108,22 +108,22 @@ module _ (child : Answers) (setup : Setup) (project : Project) (order : IsInOrde
 
   module _ (asks : c ≡ command_of setup project u done) where
     is_for_unit : IsFor project u c
-    is_for_unit = subst (IsFor project u) (sym asks) (is_for setup project u done (order.packages place u there))
+    is_for_unit = subst (IsFor project u) (sym asks) (is_for setup project u done (order.packages index u there))
 
     pub writes_to_folder : c.out ≡ Some u.out
     writes_to_folder = is_for_unit.out
 
-    module _ (left : World) (far : (p : ℕ) → Contains u.reaches p → p ≢ place) (done' : List (Option (List Directive))) (same : command_of setup project u done ≡ command_of setup project u done') where
+    module _ (left : World) (far : (p : ℕ) → Contains u.reaches p → p ≢ index) (done' : List (Option (List Directive))) (same : command_of setup project u done ≡ command_of setup project u done') where
       -- its child changes nothing that it sees
       still_seen : ChangesOnlyInSome c.out before left → seen_by c left ≡ seen_by c before
       still_seen inside =
-          seen_still project order place u there before left
+          seen_still project order index u there before left
           (widen (is_at_or_below (out_of (records_folder project) u.key)) (is_of (records_folder project) u.key) before left (out_within (records_folder project) u.key)
-          (subst (λ (out : List ℕ). ChangesOnly (is_at_or_below out) before left) (order.folders place u there) (only_started u.out c.out before left writes_to_folder inside)))
+          (subst (λ (out : List ℕ). ChangesOnly (is_at_or_below out) before left) (order.folders index u there) (only_started u.out c.out before left writes_to_folder inside)))
           u c is_for_unit far
 
       pub waits_on_any : (by : Awaited) (answer : Result Ended StartFault) (well : Type 0) (mid : Counts) → CarriesAgain setup project done first before u c by → CarriesAnew child setup project done before old.starts.flying still u c by
-          → EndsBy by answer well still before left old mid → WaitsTold (call_basis_on_any child setup project done') place u c before left old.starts.flying still by
+          → EndsBy by answer well still before left old mid → WaitsTold (call_basis_on_any child setup project done') index u c before left old.starts.flying still by
       waits_on_any (awaited.Child launched) answer well mid again anew ends =
           let flight = anew.1 in
           let inside : ChangesOnlyInSome c.out before left =
@@ -136,5 +136,5 @@ module _ (child : Answers) (setup : Setup) (project : Project) (order : IsInOrde
             stands = flight.stands;
           }
       waits_on_any (awaited.Record replays) answer well mid again anew ends =
-          ap (option_map replayed) (record_same reading (records_folder project) first.files before.files u.key (again.stays (place_of (records_folder project) u.key) (place_its_own (records_folder project) u.key)) ∙ again.here)
+          ap (option_map replayed) (record_same reading (records_folder project) first.files before.files u.key (again.stays (record_path (records_folder project) u.key) (record_its_own (records_folder project) u.key)) ∙ again.here)
           ∙ ap Some (sym again.gives)

@@ -1,4 +1,4 @@
--- The calls of a crew, where a unit begins or answers, or a fault comes in its place.
+-- The calls of a crew, where a unit begins or answers, or a fault comes in its index.
 use Rattle.std.proofs.Common.{◌≡◌, ◌≢◌, ◌∙◌, ◌∷◌, inr, Bool, true, List, ℕ, Option, Some, None, Contains, Result, Ok, Err, IsTrue, refl, sym, ap, subst, is_some, slice_get, slice_set}
 use Rattle.std.proofs.lemmas.Bool.{false≢true}
 use Rattle.std.specs.Prelude.{IfErr, IfOk, IfSome, IsOk}
@@ -40,7 +40,7 @@ use Rattle.pb_run.specs.declared.ran.Ran.{Ran}
 use Rattle.pb_run.proofs.Answering.{begun_as, command_out, landed_files}
 use Rattle.pb_run.proofs.Halving.{is_command}
 use Rattle.pb_store_soundness.specs.Apart.{is_of}
-use Rattle.pb_store_soundness.specs.Records.{place_of, records}
+use Rattle.pb_store_soundness.specs.Records.{record_path, records}
 use Rattle.pb_store.specs.declared.fault.StoreFault.TheVariants as store
 use Rattle.pb_build_turns.specs.Calling.{FliesAgain, FliesAnew, AnswersCalling, BeginsCalling, CallsCut, CallsCutOnAny, CallsOver, CallsOnAny, CallsToBegin, EndsAsReplied, FliesFor, CallBasis, reply_by, call_basis, call_basis_on_any}
 use Rattle.pb_build_turns.specs.Executor.{needs_of, BuildState}
@@ -163,30 +163,30 @@ has_answered (awaited.Record again) answer well still before left old mid ends a
 
 -- What came of a unit in flight, by what it waits for.
 
-module _ (told : CallBasis) (place : ℕ) (u : Planned) (there : unit_at told.project place ≡ Some u) (c : Command) (asks : c ≡ told.command place u) (writes : c.out ≡ Some u.out) (before left : World) (old : Counts) (still : ℕ → Type 0) where
+module _ (told : CallBasis) (index : ℕ) (u : Planned) (there : unit_at told.project index ≡ Some u) (c : Command) (asks : c ≡ told.command index u) (writes : c.out ≡ Some u.out) (before left : World) (old : Counts) (still : ℕ → Type 0) where
   -- its record counts now, where it has no child
-  counts_now : (by : Awaited) → WaitsTold told place u c before left old.starts.flying still by → GivesRecord (records (records_folder told.project) before u.key) by
+  counts_now : (by : Awaited) → WaitsTold told index u c before left old.starts.flying still by → GivesRecord (records (records_folder told.project) before u.key) by
   counts_now (awaited.Child launched) waits = tt
   counts_now (awaited.Record again) waits = waits
 
   -- its child is in flight for its command
-  its_child : (by : Awaited) → WaitsTold told place u c before left old.starts.flying still by → IfSome (child_in by) (FliesFor (told.command place u) old.starts.flying)
+  its_child : (by : Awaited) → WaitsTold told index u c before left old.starts.flying still by → IfSome (child_in by) (FliesFor (told.command index u) old.starts.flying)
   its_child (awaited.Child launched) flight = (child_spawned (told.child c) c flight.spawned launched.ticket, flight.flies, asks)
   its_child (awaited.Record again) waits = tt
 
   -- what its child sees stood still
-  stood_still : (by : Awaited) (answer : Result Ended StartFault) (well well' : Type 0) (mid : Counts) → WaitsTold told place u c before left old.starts.flying still by → (well' → well) → EndsBy by answer well still before left old mid
+  stood_still : (by : Awaited) (answer : Result Ended StartFault) (well well' : Type 0) (mid : Counts) → WaitsTold told index u c before left old.starts.flying still by → (well' → well) → EndsBy by answer well still before left old mid
       → EndsBy by answer well' (λ ticket. Unit {0}) before left old mid
   stood_still (awaited.Child launched) answer well well' mid flight so ends = record { counted = ends.counted; answered = λ w. ends.answered (so w); only = ends.only; lands = λ stood. ends.lands flight.stands }
   stood_still (awaited.Record again) answer well well' mid waits so ends = ends
 
   -- and so a child gave its reply
-  replied_landing : (launched : SpawnedChild) (ended : Ended) → IsInFlight told.child c (told.sees place u left) launched.ticket old.starts.flying still
-      → (still launched.ticket → IfSome (child_at launched.ticket old.starts.flying) (λ spawned. LandsAs spawned before ended left)) → EndsAsReplied (reply_by told place u left) u ended left
+  replied_landing : (launched : SpawnedChild) (ended : Ended) → IsInFlight told.child c (told.sees index u left) launched.ticket old.starts.flying still
+      → (still launched.ticket → IfSome (child_at launched.ticket old.starts.flying) (λ spawned. LandsAs spawned before ended left)) → EndsAsReplied (reply_by told index u left) u ended left
   replied_landing launched ended flight lands =
       let landed : LandsAs (child_spawned (told.child c) c flight.spawned launched.ticket) before ended left =
       subst (λ (o : Option ChildInFlight). IfSome o (λ spawned. LandsAs spawned before ended left)) flight.flies (lands flight.stands) in
-      let replies : told.child c (seen_by c flight.spawned) ≡ reply_by told place u left = ap (told.child c) flight.sees ∙ ap (λ (d : Command). told.child d (told.sees place u left)) asks in
+      let replies : told.child c (seen_by c flight.spawned) ≡ reply_by told index u left = ap (told.child c) flight.sees ∙ ap (λ (d : Command). told.child d (told.sees index u left)) asks in
       record {
         answer = landed.answer ∙ ap ended_by replies;
         files = landed_files u.out (told.child c (seen_by c flight.spawned)).files (inside_out c.out flight.spawned.files) before left flight.emptied
@@ -194,17 +194,17 @@ module _ (told : CallBasis) (place : ℕ) (u : Planned) (there : unit_at told.pr
             ∙ ap (replied_files u.out) replies;
       }
 
-  replies_so : (by : Awaited) (answer : Result Ended StartFault) (well : Type 0) (mid : Counts) → WaitsTold told place u c before left old.starts.flying still by → EndsBy by answer well still before left old mid
-      → is_some (child_in by) ≡ true → IfOk answer (λ ended. EndsAsReplied (reply_by told place u left) u ended left)
+  replies_so : (by : Awaited) (answer : Result Ended StartFault) (well : Type 0) (mid : Counts) → WaitsTold told index u c before left old.starts.flying still by → EndsBy by answer well still before left old mid
+      → is_some (child_in by) ≡ true → IfOk answer (λ ended. EndsAsReplied (reply_by told index u left) u ended left)
   replies_so (awaited.Child launched) (Ok ended) well mid flight ends is = replied_landing launched ended flight ends.lands
   replies_so (awaited.Child launched) (Err fault) well mid flight ends is = tt
   replies_so (awaited.Record again) answer well mid waits ends is = absurd (false≢true is)
 
-  -- it has answered, or a fault came in its place
-  answers_calling : (by : Awaited) (spawned : Bool) → spawned ≡ is_some (child_in by) → WaitsTold told place u c before left old.starts.flying still by
+  -- it has answered, or a fault came in its index
+  answers_calling : (by : Awaited) (spawned : Bool) → spawned ≡ is_some (child_in by) → WaitsTold told index u c before left old.starts.flying still by
       → (answer : Result Ended StartFault) (result : Result (Unit {0}) BuildFault) (well : Type 0) → (IsOk result → well) → (mid : Counts) → EndsBy by answer well still before left old mid
-      → (after : World) (new : Counts) → ChangesOnly (is_at_or_below (place_of (records_folder told.project) u.key)) left after → IfErr result (IsOfUnit u.key) → CallsBehind by (answered_called told.project u c left by) answer (bare result) mid new
-      → AnswersCalling told place spawned result before old after new
+      → (after : World) (new : Counts) → ChangesOnly (is_at_or_below (record_path (records_folder told.project) u.key)) left after → IfErr result (IsOfUnit u.key) → CallsBehind by (answered_called told.project u c left by) answer (bare result) mid new
+      → AnswersCalling told index spawned result before old after new
   answers_calling by spawned is_child waits answer result well so mid ends after new only named behind = record {
     unit = u;
     there = there;
@@ -223,10 +223,10 @@ module _ (told : CallBasis) (place : ℕ) (u : Planned) (there : unit_at told.pr
   }
 
 -- over a build context it waits so
-waits_in : (b : BuildContext) (place : ℕ) (u : Planned) (c : Command) (next : Option ℕ) (before left : World) (flying : List ChildInFlight) (still : ℕ → Type 0) (by : Awaited) → WaitsBy b u c (view_in b place u) by next before flying still
-    → WaitsTold (call_basis b) place u c before left flying still by
-waits_in b place u c next before left flying still (awaited.Child launched) waits = waits.0
-waits_in b place u c next before left flying still (awaited.Record again) waits = waits.1
+waits_in : (b : BuildContext) (index : ℕ) (u : Planned) (c : Command) (next : Option ℕ) (before left : World) (flying : List ChildInFlight) (still : ℕ → Type 0) (by : Awaited) → WaitsBy b u c (view_in b index u) by next before flying still
+    → WaitsTold (call_basis b) index u c before left flying still by
+waits_in b index u c next before left flying still (awaited.Child launched) waits = waits.0
+waits_in b index u c next before left flying still (awaited.Record again) waits = waits.1
 
 -- In the story of a crew.
 
@@ -238,7 +238,7 @@ module _ (is_modelled : Bool) (child : Answers) (first old : UnitExecutor) (at n
   -- what a call says that takes its answer
   abbrev pub Lands : Result Ran StepFault → Type 0
   Lands said = IsTrue is_modelled → (answer : Result Ended StartFault) × (left : World) × (mid : Counts) × EndsBy a.begun.awaited answer (IsOk said) still now.world left now.counts mid
-      × ChangesOnly (is_at_or_below (place_of (records_folder old.project) u.key)) left new.world
+      × ChangesOnly (is_at_or_below (record_path (records_folder old.project) u.key)) left new.world
       × CallsBehind a.begun.awaited (answered_called old.project u a.begun.command left a.begun.awaited) answer said mid new.counts
 
   -- what is called behind, whatever is told of it
@@ -262,7 +262,7 @@ module _ (is_modelled : Bool) (child : Answers) (first old : UnitExecutor) (at n
   calls_answered answer ran lands t f s k =
       (now.world, now.counts, story.calls t f s k, answers (Ok tt) (Ok ran) (λ ok. ok) tt (λ by names said old new answered. behind_well by names said ran old new) lands t f s k)
 
-  -- a fault came in its place
+  -- a fault came in its index
   cut : (fault : BuildFault) (unit : ℕ) → unit ≡ a.unit → IsTrue is_modelled → FromFirst child first at old (λ b. AnswersCalling (call_basis b) a.unit (is_started es a.unit) (Err fault) now.world now.counts new.world new.counts)
       → FromFirst child first at old (λ b. CallsCut (call_basis b) fault (Some unit) es es at.world at.counts new.world new.counts)
   cut fault unit its t so f s k =
@@ -306,15 +306,15 @@ module _ (is_modelled : Bool) (child : Answers) (first old : UnitExecutor) (at n
         → IsTrue is_modelled → CallsOnAny child old.setup old.project done' (Gave a.unit answer ∷ es) at.world at.counts new.world new.counts
     calls_answered_on_any done' d set answer ran lands t =
         let flies = so_flies t in
-        let same : (place : ℕ) → HasBegun (states_in old.project es) place → (v : Planned) → unit_at old.project place ≡ Some v → command_of old.setup old.project v old.done.items ≡ command_of old.setup old.project v done' =
-        λ place has v at_v. command_stays old.setup old.project order es lawful a.unit flies.state old.done.items done' d set place v has at_v in (
+        let same : (index : ℕ) → HasBegun (states_in old.project es) index → (v : Planned) → unit_at old.project index ≡ Some v → command_of old.setup old.project v old.done.items ≡ command_of old.setup old.project v done' =
+        λ index has v at_v. command_stays old.setup old.project order es lawful a.unit flies.state old.done.items done' d set index v has at_v in (
           now.world,
           now.counts,
           calls_same child old.setup old.project old.done.items done' es lawful same at.world at.counts now.world now.counts (calls t),
           answers_on_any done' (same a.unit (Begun, flies.state, refl) u there) (Ok tt) (Ok ran) (λ ok. ok) tt (λ by names said old new answered. behind_well by names said ran old new) lands t,
         )
 
-    -- a fault came in its place
+    -- a fault came in its index
     cut_on_any : (fault : BuildFault) (unit : ℕ) → unit ≡ a.unit → IsTrue is_modelled → (AnswersCalling (call_basis_on_any child old.setup old.project old.done.items) a.unit (is_started es a.unit) (Err fault) now.world now.counts new.world new.counts)
         → CallsCutOnAny child old.setup old.project old.done.items fault (Some unit) es es at.world at.counts new.world new.counts
     cut_on_any fault unit its t so = (

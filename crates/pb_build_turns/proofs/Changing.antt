@@ -18,13 +18,13 @@ use Rattle.pb_run.specs.Invariants.{IsInOrder, records_folder}
 use Rattle.pb_run.specs.declared.begun.SpawnedChild.{SpawnedChild}
 use Rattle.pb_run.proofs.Writes.{flying_at}
 use Rattle.pb_store_soundness.specs.Apart.{is_of}
-use Rattle.pb_build_turns.specs.Executor.{AreApart, WritesOwn, places_of, place_of_unit, tickets_of, ticket_in}
+use Rattle.pb_build_turns.specs.Executor.{AreApart, WritesOwn, indices_of, index_of_unit, tickets_of, ticket_in}
 use Rattle.pb_build_turns.specs.Rows.{is_started}
 use Rattle.pb_build_turns.specs.History.{states_in, Changes, FliesBeside, FliesIn, HasNoRecord, OnlyOf}
 use Rattle.pb_build_turns.specs.declared.executor.RunningUnit.{RunningUnit}
 use Rattle.pb_build_turns.proofs.Happening.{started_now, started_other}
 use Rattle.pb_build_turns.proofs.Unkept.{bad_begun, bad_given, bad_less, none_bad, none_still}
-use Rattle.pb_build_turns.proofs.Lists.{all_as, all_more, all_at_each, all_get, all_left, apart_places, flat_apart, get_map}
+use Rattle.pb_build_turns.proofs.Lists.{all_as, all_more, all_at_each, all_get, all_left, apart_indices, flat_apart, get_map}
 use Rattle.pb_build_turns.proofs.States.{another, begun_more, begun_now}
 use Rattle.pb_unit.specs.declared.plan.Planned.{Planned}
 
@@ -64,10 +64,10 @@ module _ (project : Project) (running : List RunningUnit) (flying flying' : List
 
 -- only what is of these units was changed, also where one more has begun
 only_more : (project : Project) (es : List (Event BadUnit)) (e : Event BadUnit) (first w w' : World) (unit : ℕ) (u : Planned) → unit_at project unit ≡ Some u
-    → HasBegun (states_in project (e ∷ es)) unit → ((place : ℕ) → HasBegun (states_in project es) place → HasBegun (states_in project (e ∷ es)) place) → ChangesOnly (is_of (records_folder project) u.key) w w' → OnlyOf project es first w → OnlyOf project (e ∷ es) first w'
+    → HasBegun (states_in project (e ∷ es)) unit → ((unit_index : ℕ) → HasBegun (states_in project es) unit_index → HasBegun (states_in project (e ∷ es)) unit_index) → ChangesOnly (is_of (records_folder project) u.key) w w' → OnlyOf project es first w → OnlyOf project (e ∷ es) first w'
 only_more project es e first w w' unit u there now before only old = record {
   variables = only.variables ∙ old.variables;
-  files = λ q outside. only.files q (outside unit u now there) ∙ old.files q (λ place v has at. outside place v (before place has) at);
+  files = λ q outside. only.files q (outside unit u now there) ∙ old.files q (λ unit_index v has at. outside unit_index v (before unit_index has) at);
 }
 
 -- Whose answer was taken is none of those in flight.
@@ -79,14 +79,14 @@ beside_none project first running es w flying old running' is =
     (all_as (FliesIn project es w flying) (FliesBeside project es None) running (λ a f. record { state = f.state; started = f.started; other = λ e. clash e }) old.flies)
 
 -- it flies no more
-pub beside_asked : (project : Project) (first : World) (running : List RunningUnit) (es : List (Event BadUnit)) (w : World) (flying : List ChildInFlight) → Changes project first running es w flying → (index : ℕ) (a : RunningUnit) → AreApart (places_of running) → slice_get running index ≡ Some a
+pub beside_asked : (project : Project) (first : World) (running : List RunningUnit) (es : List (Event BadUnit)) (w : World) (flying : List ChildInFlight) → Changes project first running es w flying → (index : ℕ) (a : RunningUnit) → AreApart (indices_of running) → slice_get running index ≡ Some a
     → (running' : List RunningUnit) → running' ≡ remove running index → AllByRecursion (FliesBeside project es (Some a.unit)) running'
-beside_asked project first running es w flying old index a places at running' is =
+beside_asked project first running es w flying old index a indices at running' is =
     subst (AllByRecursion (FliesBeside project es (Some a.unit))) (sym is)
     (all_left (FliesIn project es w flying) (FliesBeside project es (Some a.unit)) running index (λ j y at_j ne f. record {
       state = f.state;
       started = f.started;
-      other = λ e. apart_places (places_of running) j index y.unit a.unit places (get_map place_of_unit running j y at_j) (get_map place_of_unit running index a at) ne (sym (injective e));
+      other = λ e. apart_indices (indices_of running) j index y.unit a.unit indices (get_map index_of_unit running j y at_j) (get_map index_of_unit running index a at) ne (sym (injective e));
     }) old.flies)
 
 -- Nothing has begun.
@@ -115,7 +115,7 @@ module _ (project : Project) (order : IsInOrder project) (first : World) (runnin
     others_on : Changes project first running (Began unit spawned ∷ es) w' flying'
     others_on = record {
       flies = all_at_each (FliesIn project es w flying) (FliesIn project (Began unit spawned ∷ es) w' flying') running flies_on old.flies;
-      only = only_more project es (Began unit spawned) first w w' unit u there (begun_now (states_in project es) unit Untouched Begun untouched refl) (λ place has. begun_more (states_in project es) unit place Untouched Begun untouched refl has) only old.only;
+      only = only_more project es (Began unit spawned) first w w' unit u there (begun_now (states_in project es) unit Untouched Begun untouched refl) (λ unit_index has. begun_more (states_in project es) unit unit_index Untouched Begun untouched refl has) only old.only;
       unkept = bad_begun project order es w w' unit u there only old.unkept spawned untouched;
     }
 
@@ -139,7 +139,7 @@ module _ (project : Project) (order : IsInOrder project) (first : World) (runnin
           writes = λ v at. subst (λ (x : Planned). WritesTo x.out (child_of a.begun) flying') (injective (sym there ∙ subst (λ n. unit_at project n ≡ Some v) its at)) writes;
         }
 
-  -- A unit answers, or a fault comes in its place.
+  -- A unit answers, or a fault comes in its index.
 
   module _ (index : ℕ) (a : RunningUnit) (at : slice_get running index ≡ Some a) (u : Planned) (there : unit_at project a.unit ≡ Some u) where
     so : FliesIn project es w flying a
@@ -148,10 +148,10 @@ module _ (project : Project) (order : IsInOrder project) (first : World) (runnin
     pub its_writes : WritesTo u.out (child_of a.begun) flying
     its_writes = so.writes u there
 
-    module _ (places : AreApart (places_of running)) (tickets : AreApart (tickets_of running)) (only : ChangesOnly (is_of (records_folder project) u.key) w w')
+    module _ (indices : AreApart (indices_of running)) (tickets : AreApart (tickets_of running)) (only : ChangesOnly (is_of (records_folder project) u.key) w w')
         (stay : (ticket : ℕ) (its : ChildInFlight) → IfSome (child_of a.begun) (λ l. ticket ≢ l.ticket) → child_at ticket flying ≡ Some its → child_at ticket flying' ≡ Some its) (running' : List RunningUnit) (is : running' ≡ remove running index) where
       ne_unit : (j : ℕ) (y : RunningUnit) → slice_get running j ≡ Some y → j ≢ index → a.unit ≢ y.unit
-      ne_unit j y at_j ne e = apart_places (places_of running) j index y.unit a.unit places (get_map place_of_unit running j y at_j) (get_map place_of_unit running index a at) ne (sym e)
+      ne_unit j y at_j ne e = apart_indices (indices_of running) j index y.unit a.unit indices (get_map index_of_unit running j y at_j) (get_map index_of_unit running index a at) ne (sym e)
 
       other_ticket : (j : ℕ) (y : RunningUnit) → slice_get running j ≡ Some y → j ≢ index → (l : SpawnedChild) → (child_of y.begun) ≡ Some l → (o : Option SpawnedChild) → (child_of a.begun) ≡ o → IfSome o (λ k. l.ticket ≢ k.ticket)
       other_ticket j y at_j ne l theirs None ours = tt
@@ -190,6 +190,6 @@ module _ (project : Project) (order : IsInOrder project) (first : World) (runnin
               gone = gone_still j y at_j ne f;
               writes = writes_still j y at_j ne f;
             }) old.flies);
-        only = only_more project es (Gave a.unit answer) first w w' a.unit u there (begun_now (states_in project es) a.unit Begun (Answered answer) so.state refl) (λ place has. begun_more (states_in project es) a.unit place Begun (Answered answer) so.state refl has) only old.only;
+        only = only_more project es (Gave a.unit answer) first w w' a.unit u there (begun_now (states_in project es) a.unit Begun (Answered answer) so.state refl) (λ unit_index has. begun_more (states_in project es) a.unit unit_index Begun (Answered answer) so.state refl has) only old.only;
         unkept = bad_given project order es w w' a.unit u there only old.unkept answer so.state (λ bad started. unkept bad (so.gone u there (sym so.started ∙ started)));
       }

@@ -26,7 +26,7 @@ use Rattle.pb_run.specs.Steps.{HasCause, is_of_start, BeginsBy, LandsBy}
 use Rattle.pb_run.proofs.Naming.{MayAnswerUnit, MayBeginUnit}
 use Rattle.pb_run.specs.UnitSteps.{child_of, key_at, key_in}
 use Rattle.pb_run.specs.declared.begun.SpawnedChild.{SpawnedChild}
-use Rattle.pb_build_turns.specs.Executor.{AreApart, places_of, ticket_of_child, ticket_in, tickets_of, launched_of, BuildState}
+use Rattle.pb_build_turns.specs.Executor.{AreApart, indices_of, ticket_of_child, ticket_in, tickets_of, launched_of, BuildState}
 use Rattle.pb_build_turns.specs.History.{states_in, upped, CameAfter, NamesUnit, CountersSoFar, NoneWritesTo, NumbersGiven, Spends, Stops, StopsAt, StopsAtSink, StopsBy}
 use Rattle.pb_build_turns.specs.declared.executor.RunningUnit.{RunningUnit}
 use Rattle.pb_build_turns.proofs.Lists.{all_get, flat_more, get_map, length_push, without_first, without_other}
@@ -57,7 +57,7 @@ appends_part a b c xs ys first (n, less, then') =
 
 -- Units that have a child.
 
-without_none : (n : ℕ) (ns : List RunningUnit) → AllByRecursion (λ m. n ≢ m) (places_of ns) → launched_of ns ≡ events.without n (launched_of ns)
+without_none : (n : ℕ) (ns : List RunningUnit) → AllByRecursion (λ m. n ≢ m) (indices_of ns) → launched_of ns ≡ events.without n (launched_of ns)
 without_none n [] all = refl
 without_none n (x ∷ ns) all = by (is_some (child_of x.begun)) (without_none n ns all.1)
   where
@@ -65,7 +65,7 @@ without_none n (x ∷ ns) all = by (is_some (child_of x.begun)) (without_none n 
     by true more = ap (λ l. x.unit ∷ l) more ∙ sym (without_other x.unit n (launched_of ns) (λ e. all.0 (sym e)))
     by false more = more
 
-pub launched_left : (running : List RunningUnit) (index : ℕ) (a : RunningUnit) → AreApart (places_of running) → slice_get running index ≡ Some a → launched_of (remove running index) ≡ events.without a.unit (launched_of running)
+pub launched_left : (running : List RunningUnit) (index : ℕ) (a : RunningUnit) → AreApart (indices_of running) → slice_get running index ≡ Some a → launched_of (remove running index) ≡ events.without a.unit (launched_of running)
 launched_left [] index a apart at = absurd (clash at)
 launched_left (x ∷ running) zero a apart at = subst (λ (y : RunningUnit). launched_of running ≡ events.without y.unit (if_so (is_some (child_of x.begun)) x.unit ++ launched_of running)) (injective at) (by (is_some (child_of x.begun)))
   where
@@ -75,7 +75,7 @@ launched_left (x ∷ running) zero a apart at = subst (λ (y : RunningUnit). lau
 launched_left (x ∷ running) (suc k) a apart at = by (is_some (child_of x.begun)) (launched_left running k a apart.1 at)
   where
     ne : x.unit ≢ a.unit
-    ne = all_get (λ m. x.unit ≢ m) (places_of running) k a.unit apart.0 (get_map (λ (y : RunningUnit). y.unit) running k a at)
+    ne = all_get (λ m. x.unit ≢ m) (indices_of running) k a.unit apart.0 (get_map (λ (y : RunningUnit). y.unit) running k a at)
 
     by : (b : Bool) → launched_of (remove running k) ≡ events.without a.unit (launched_of running) → if_so b x.unit ++ launched_of (remove running k) ≡ events.without a.unit (if_so b x.unit ++ launched_of running)
     by true more = ap (λ l. x.unit ∷ l) more ∙ sym (without_other x.unit a.unit (launched_of running) ne)
@@ -176,7 +176,7 @@ module _ (project : Project) (first now new : BuildState) (started : List ℕ) (
 
     stops_at : (key : List ℕ) (spawned : Bool) → key ≡ u.key → StopsAt is_modelled project first new key (Began unit spawned ∷ es)
     stops_at key spawned named = record {
-      place = unit;
+      index = unit;
       unit = u;
       there = there;
       named = sym named;
@@ -283,7 +283,7 @@ module _ (project : Project) (first now new : BuildState) (started : List ℕ) (
   settings_same None same = ap (λ (s : Starts). s.settings) same ∙ goes.settings
   settings_same (Some l) landed = ap (λ (s : Starts). s.settings) landed ∙ goes.settings
 
-  pub goes_answered : AreApart (places_of running) → (answer : Answer BadUnit) → new.counts.failures ≡ now.counts.failures → LandsBy (child_of a.begun) now.counts.starts new.counts.starts → new.most ≡ now.most
+  pub goes_answered : AreApart (indices_of running) → (answer : Answer BadUnit) → new.counts.failures ≡ now.counts.failures → LandsBy (child_of a.begun) now.counts.starts new.counts.starts → new.most ≡ now.most
       → CountersSoFar project first new started (remove running index) (Gave a.unit answer ∷ es) given
   goes_answered apart answer failures lands most = record {
     started_are = goes.started_are;
@@ -299,7 +299,7 @@ module _ (project : Project) (first now new : BuildState) (started : List ℕ) (
   module _ (u : Planned) (there : unit_at project a.unit ≡ Some u) (is_modelled : Bool) (alone : IsTrue is_modelled → NoneWritesTo u.out new.counts.starts.flying) where
     stops_there : (key : List ℕ) → key ≡ u.key → StopsAt is_modelled project first new key es
     stops_there key named = record {
-      place = a.unit;
+      index = a.unit;
       unit = u;
       there = there;
       named = sym named;

@@ -55,11 +55,11 @@ use Rattle.pb_unit.specs.declared.plan.Planned.{Planned}
 
 -- Needs come earlier in plan order.
 
-need_before : (us : List Planned) (i u v : ℕ) (wanted : List ℕ) → ((k : ℕ) (x : Planned) → slice_get us k ≡ Some x → AllByRecursion (λ place. place < i + k) x.needs) → slice_get (map (λ (x : Planned). x.needs) us) u ≡ Some wanted → Contains wanted v → v < i + u
+need_before : (us : List Planned) (i u v : ℕ) (wanted : List ℕ) → ((k : ℕ) (x : Planned) → slice_get us k ≡ Some x → AllByRecursion (λ index. index < i + k) x.needs) → slice_get (map (λ (x : Planned). x.needs) us) u ≡ Some wanted → Contains wanted v → v < i + u
 need_before [] i u v wanted each at has = absurd (clash at)
-need_before (x ∷ us) i zero v wanted each at has = each_of (λ place. place < i + 0) wanted v (subst (AllByRecursion (λ place. place < i + 0)) (injective at) (each 0 x refl)) has
+need_before (x ∷ us) i zero v wanted each at has = each_of (λ index. index < i + 0) wanted v (subst (AllByRecursion (λ index. index < i + 0)) (injective at) (each 0 x refl)) has
 need_before (x ∷ us) i (suc u) v wanted each at has =
-    let less : v < suc i + u = need_before us (suc i) u v wanted (λ k y at_y. subst (λ n. AllByRecursion (λ place. place < n) y.needs) (shift k) (each (suc k) y at_y)) at has in
+    let less : v < suc i + u = need_before us (suc i) u v wanted (λ k y at_y. subst (λ n. AllByRecursion (λ index. index < n) y.needs) (shift k) (each (suc k) y at_y)) at has in
     omega (arith, less)
   where
     shift : (k : ℕ) → i + suc k ≡ suc i + k
@@ -67,7 +67,7 @@ need_before (x ∷ us) i (suc u) v wanted each at has =
 
 pub in_plan_order : (project : Project) → IsInOrder project → IsInPlanOrder (needs_of project)
 in_plan_order project order u v wanted at has =
-    let less : v < 0 + u = need_before project.plan.planned 0 u v wanted (λ k x at_x. subst (λ n. AllByRecursion (λ place. place < n) x.needs) (none k) (order.needs k x at_x)) at has in
+    let less : v < 0 + u = need_before project.plan.planned 0 u v wanted (λ k x at_x. subst (λ n. AllByRecursion (λ index. index < n) x.needs) (none k) (order.needs k x at_x)) at has in
     omega (arith, less)
   where
     none : (k : ℕ) → k ≡ 0 + k
@@ -75,16 +75,16 @@ in_plan_order project order u v wanted at has =
 
 -- Nothing has begun.
 
-untouched_at : (needs : List (List ℕ)) (place : ℕ) (s : State BadUnit) → slice_get (map (λ _. Untouched) needs) place ≡ Some s → s ≡ Untouched
-untouched_at [] place s at = absurd (clash at)
+untouched_at : (needs : List (List ℕ)) (index : ℕ) (s : State BadUnit) → slice_get (map (λ _. Untouched) needs) index ≡ Some s → s ≡ Untouched
+untouched_at [] index s at = absurd (clash at)
 untouched_at (n ∷ needs) zero s at = sym (injective at)
-untouched_at (n ∷ needs) (suc place) s at = untouched_at needs place s at
+untouched_at (n ∷ needs) (suc index) s at = untouched_at needs index s at
 
 no_answer : (answer : Answer BadUnit) → Answered answer ≡ Untouched → ⊥
 no_answer answer e = cc
 
-none_begun : (project : Project) (place : ℕ) → HasBegun (untouched project) place → ⊥
-none_begun project place (s, at, begun) = false≢true (sym begun ∙ ap is_untouched (untouched_at (needs_of project) place s at))
+none_begun : (project : Project) (index : ℕ) → HasBegun (untouched project) index → ⊥
+none_begun project index (s, at, begun) = false≢true (sym begun ∙ ap is_untouched (untouched_at (needs_of project) index s at))
 
 pub story_first : (is_modelled : Bool) (child : Answers) (c : UnitExecutor) (at : BuildState) (still : ℕ → Type 0) → c.running.items ≡ [] → c.started.items ≡ [] → History is_modelled child c at c at still [] 0
 story_first is_modelled child c at still running started = record {
@@ -106,24 +106,24 @@ story_first is_modelled child c at still running started = record {
   happened = λ t f s keeps. record {
     keeps = keeps;
     begun = subst (AllByRecursion _) (sym running) tt;
-    gave = λ place answer is. absurd (no_answer answer (untouched_at (needs_of c.project) place (Answered answer) is));
+    gave = λ index answer is. absurd (no_answer answer (untouched_at (needs_of c.project) index (Answered answer) is));
   };
   unrecorded = λ t. none_in_flight c.project at.world;
-  childless = λ t place u q there state apart started inside. refl;
+  childless = λ t index u q there state apart started inside. refl;
   again = λ t. replays_first c.setup c.project c.done.items c.running.items at.world running;
   anew = λ t. replies_first child c.setup c.project c.done.items c.running.items at.world at.counts.starts.flying still running;
   left = λ t. recordings_first child c.setup c.project c.done.items c.running.items c.store.next at.world running;
-  began = λ t place has. absurd (none_begun c.project place has);
+  began = λ t index has. absurd (none_begun c.project index has);
   quiet = λ t none numbered. refl;
   calls = λ t f s keeps. (refl, refl);
   calls_on_any = λ t. (refl, refl);
-  unnoted = λ place at. refl;
-  noted = λ place s at ne. absurd (ne (untouched_at (needs_of c.project) place s at));
+  unnoted = λ index at. refl;
+  noted = λ index s at ne. absurd (ne (untouched_at (needs_of c.project) index s at));
 }
 
 -- What stands.
 
-all_given : (b : BuildContext) (done : List (Option (List Directive))) (es : List (Event BadUnit)) → ((place : ℕ) (answer : Answer BadUnit) → slice_get (states_in b.project es) place ≡ Some (Answered answer) → HasGiven b es done place answer)
+all_given : (b : BuildContext) (done : List (Option (List Directive))) (es : List (Event BadUnit)) → ((index : ℕ) (answer : Answer BadUnit) → slice_get (states_in b.project es) index ≡ Some (Answered answer) → HasGiven b es done index answer)
     → AllTold b.project es 0 b.project.plan.planned (outcomes_in b) done (states_in b.project es)
 all_given b done es gave k answer at =
     let g = gave k answer at in
@@ -133,7 +133,7 @@ all_given b done es gave k answer at =
       outcome = g.outcome;
       is = g.is;
       fault = g.fault;
-      lines = λ place same. let e : k ≡ place = omega (arith, same) in g.lines ∙ ap (λ n. unit_lines b.project g.unit (is_started es n) (messages_in g.outcome)) e;
+      lines = λ index same. let e : k ≡ index = omega (arith, same) in g.lines ∙ ap (λ n. unit_lines b.project g.unit (is_started es n) (messages_in g.outcome)) e;
       noted = g.noted;
     }
 
@@ -187,7 +187,7 @@ module _ (b : BuildContext) (done : List (Option (List Directive))) (running : L
       stands = stands;
       next_is = refl;
       all = ended.all;
-      answer = is ∙ ap (λ places. summary_by b.project.plan.planned (states_in b.project es) done places reasons (first_bad (states_in b.project es))) same ∙ summary_so;
+      answer = is ∙ ap (λ indices. summary_by b.project.plan.planned (states_in b.project es) done indices reasons (first_bad (states_in b.project es))) same ∙ summary_so;
       began = began;
     }
 
@@ -226,7 +226,7 @@ module _ {S : Type 0} (is_modelled : Bool) (child : Answers) (Turns : S → List
 
   -- why the units had begun, whatever the records hold
   abbrev commands : ℕ → Planned → Command
-  commands place u = command_of c.setup c.project u c.done.items
+  commands index u = command_of c.setup c.project u c.done.items
 
   began_new : (fault : BuildFault) (before : List (Event BadUnit)) (reasons : Reasons) → reasons ≡ c.reasons.items → IsLawful (needs_of c.project) es → CameAfter c.project fault before es → (IsTrue is_modelled → Changes c.project at.world c.running.items es mid.world mid.counts.starts.flying)
       → (IsTrue is_modelled → AllBeganOnAny c.setup c.project c.done.items before c.reasons.items at.world mid.world) → IsTrue is_modelled → AllBeganOnAny c.setup c.project c.done.items before reasons at.world new.world
@@ -266,10 +266,10 @@ module _ {S : Type 0} (is_modelled : Bool) (child : Answers) (Turns : S → List
     only = λ t. subst (λ (p : Project). OnlyOf p es at.world new.world) ends.project (told at.world es t (ends.changes t)).changes.only;
     dropping = λ t. subst (λ (p : Project). ChangesInFlight p ends.before asked mid.world new.world) ends.project ((told at.world es t (ends.changes t)).alone ends.before asked (ends.beside t));
     unkept = λ t. subst (λ (p : Project). KeepsNoneOfBad p es new.world) ends.project (told at.world es t (ends.changes t)).changes.unkept;
-    dropped = λ t. subst (λ (p : Project). KeepsNoneInFlight p ends.before asked new.world) ends.project (λ place u there state apart started. (told at.world es t (ends.changes t)).unrecorded place u there (ends.unrecorded t place u there state apart started));
+    dropped = λ t. subst (λ (p : Project). KeepsNoneInFlight p ends.before asked new.world) ends.project (λ index u there state apart started. (told at.world es t (ends.changes t)).unrecorded index u there (ends.unrecorded t index u there state apart started));
     childless = λ t. subst (λ (p : Project). KeepsChildless p ends.before asked at.world new.world) ends.project
-        (λ place u q there state apart started inside.
-        (told at.world es t (ends.changes t)).childless place u q there (started_after c.project ends.before es (lawful ends.project flies) (or_before c.project fault ends.before es ends.came) place state started) inside ∙ ends.childless t place u q there state apart started inside);
+        (λ index u q there state apart started inside.
+        (told at.world es t (ends.changes t)).childless index u q there (started_after c.project ends.before es (lawful ends.project flies) (or_before c.project fault ends.before es ends.came) index state started) inside ∙ ends.childless t index u q there state apart started inside);
     reasons = c.reasons.items;
     done = c.done.items;
     began = λ t. on_first (λ s p. AllBeganOnAny s p c.done.items ends.before c.reasons.items at.world new.world) ends.setup ends.project (began_new fault ends.before c.reasons.items refl (lawful ends.project flies) ends.came ends.changes ends.began t);
@@ -332,7 +332,7 @@ module _ {S : Type 0} (is_modelled : Bool) (child : Answers) (Turns : S → List
         ∙ ap (λ ss. summary_by c.project.plan.planned ss d.done.items d.started.items d.reasons.items (first_bad ss)) states_are
 
     keys_are : summary.started ≡ started_keys first.project es
-    keys_are = ap (λ (s : Summary). s.started) now_is ∙ ap (λ places. keys_at c.project.plan.planned places) started_is ∙ ap (λ (p : Project). started_keys p es) story.project
+    keys_are = ap (λ (s : Summary). s.started) now_is ∙ ap (λ indices. keys_at c.project.plan.planned indices) started_is ∙ ap (λ (p : Project). started_keys p es) story.project
 
     lines_are : Appends at.heard.taken new.heard.taken (due (states_in first.project es))
     lines_are =
@@ -349,7 +349,7 @@ module _ {S : Type 0} (is_modelled : Bool) (child : Answers) (Turns : S → List
       finished = ap is_finished (sym flown.states_are) ∙ finished;
       success = ap (λ (s : Summary). s.success) now_is ∙ success_of (bad_told c.project.plan.planned (states_in c.project es) (first_bad (states_in c.project es)))
           ∙ ap (λ (p : Project). is_success (bad_told p.plan.planned (states_in p es) (first_bad (states_in p es)))) story.project;
-      good = λ success. subst (λ (p : Project). (place : ℕ) (u : Planned) → unit_at p place ≡ Some u → is_good_at (slice_get (states_in p es) place) ≡ true) story.project
+      good = λ success. subst (λ (p : Project). (index : ℕ) (u : Planned) → unit_at p index ≡ Some u → is_good_at (slice_get (states_in p es) index) ≡ true) story.project
           (all_good_at c.project es c.project.plan.planned (states_in c.project es) (length_states (needs_of c.project) es ∙ length-map c.project.plan.planned (λ (u : Planned). u.needs))
           (ap is_finished (sym states_are) ∙ finished) (sym (ap (λ (s : Summary). s.success) now_is) ∙ success));
       bad = ap (λ (s : Summary). s.bad) now_is ∙ ap (λ (p : Project). key_told (bad_told p.plan.planned (states_in p es) (first_bad (states_in p es)))) story.project;
@@ -362,10 +362,10 @@ module _ {S : Type 0} (is_modelled : Bool) (child : Answers) (Turns : S → List
       directives = ap (λ (s : Summary). s.directives) now_is
           ∙ ap (λ ds. noted_told c.project.plan.planned ds (first_bad (states_in c.project es))) (ap (λ (x : UnitExecutor). x.done.items) same)
           ∙ ap (λ (p : Project). noted_told p.plan.planned c.done.items (first_bad (states_in p es))) story.project;
-      unnoted = λ place at_place.
-          let less : place < length first.project.plan.planned = subst (λ (n : ℕ). place < n) (length_states (needs_of first.project) es ∙ length-map first.project.plan.planned (λ (u : Planned). u.needs)) (slice_get_within (states_in first.project es) place Untouched at_place) in
-          ap (λ (items : Reasons). slice_get items place) (ap (λ (x : UnitExecutor). x.reasons.items) same)
-          ∙ (story.unnoted place (ap (λ (p : Project). slice_get (states_in p es) place) story.project ∙ at_place) ∙ (ap (λ (items : Reasons). slice_get items place) empty ∙ none_noted first.project.plan.planned place less));
+      unnoted = λ index at_place.
+          let less : index < length first.project.plan.planned = subst (λ (n : ℕ). index < n) (length_states (needs_of first.project) es ∙ length-map first.project.plan.planned (λ (u : Planned). u.needs)) (slice_get_within (states_in first.project es) index Untouched at_place) in
+          ap (λ (items : Reasons). slice_get items index) (ap (λ (x : UnitExecutor). x.reasons.items) same)
+          ∙ (story.unnoted index (ap (λ (p : Project). slice_get (states_in p es) index) story.project ∙ at_place) ∙ (ap (λ (items : Reasons). slice_get items index) empty ∙ none_noted first.project.plan.planned index less));
       noted = subst (λ (p : Project). NotesStarted p es d.reasons.items) story.project (subst (NotesStarted c.project es) (sym (ap (λ (x : UnitExecutor). x.reasons.items) same)) story.noted);
       lines = lines_are;
       faults = ap (λ (x : SinkState). x.faults) heard ∙ story.goes.faults;
@@ -383,9 +383,9 @@ module _ {S : Type 0} (is_modelled : Bool) (child : Answers) (Turns : S → List
       numbers = (c.store.next, story.numbers);
       taken = λ t. subst (λ (p : Project). NumbersGiven (LacksNumber p at.world) es first.store.next c.store.next) story.project (story.taken t);
       unkept = λ t. subst (λ (p : Project). KeepsNoneOfBad p es new.world) story.project (told at.world es t (story.changes t)).changes.unkept;
-      dropped = λ t. subst (λ (p : Project). KeepsNoneInFlight p es None new.world) story.project (λ place u there state apart started. (told at.world es t (story.changes t)).unrecorded place u there (story.unrecorded t place u there state apart started));
+      dropped = λ t. subst (λ (p : Project). KeepsNoneInFlight p es None new.world) story.project (λ index u there state apart started. (told at.world es t (story.changes t)).unrecorded index u there (story.unrecorded t index u there state apart started));
       childless = λ t. subst (λ (p : Project). KeepsChildless p es None at.world new.world) story.project
-          (λ place u q there state apart started inside. (told at.world es t (story.changes t)).childless place u q there started inside ∙ story.childless t place u q there state apart started inside);
+          (λ index u q there state apart started inside. (told at.world es t (story.changes t)).childless index u q there started inside ∙ story.childless t index u q there state apart started inside);
       began = λ t. on_first (λ s p. AllBeganOnAny s p c.done.items es d.reasons.items at.world new.world) story.setup story.project (began_whole t);
       again = λ t. on_first (λ s p. AllAnswerAgain s p es c.done.items at.world) story.setup story.project (story.again t).gave;
       anew = λ t. on_first (λ s p. AllAnswerAnew child s p es c.done.items new.world) story.setup story.project ((told at.world es t (story.changes t)).anew c.setup c.done.items (lawful story.project flown.flies) (story.anew t).gave);
@@ -424,10 +424,10 @@ ends_before is_modelled child Turns setup project next from at none = record {
   dropping = λ t. record { variables = refl; files = λ q apart. refl };
   unkept = λ t. none_bad project at.world;
   dropped = λ t. none_in_flight project at.world;
-  childless = λ t place u q there state apart started inside. refl;
+  childless = λ t index u q there state apart started inside. refl;
   reasons = [];
   done = [];
-  began = λ t place has. absurd (none_begun project place has);
+  began = λ t index has. absurd (none_begun project index has);
   started = λ t. none_began project _ _ OutOfMemory [] at.world at.world;
   again = λ t. (replays_first setup project [] [] at.world refl).gave;
   anew = λ t. (replies_first child setup project [] [] at.world [] (λ n. Unit {0}) refl).gave;
@@ -436,10 +436,10 @@ ends_before is_modelled child Turns setup project next from at none = record {
     stands = stands (build_context f child setup project sources) (nothing_said project) [] next [] at.world [] (λ n. Unit {0}) record {
       keeps = keeps;
       begun = tt;
-      gave = λ place answer is. absurd (no_answer answer (untouched_at (needs_of project) place (Answered answer) is));
+      gave = λ index answer is. absurd (no_answer answer (untouched_at (needs_of project) index (Answered answer) is));
     };
     reasons = [];
-    began = λ place has. absurd (none_begun project place has);
+    began = λ index has. absurd (none_begun project index has);
     started = none_began project _ _ OutOfMemory [] at.world at.world;
   };
   calls = λ t f sources keeps. (at.world, at.counts, (refl, refl), inl (inr refl, refl, refl));

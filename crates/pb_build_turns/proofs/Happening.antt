@@ -26,21 +26,21 @@ use Rattle.pb_build_turns.proofs.States.{good_set, another, answered_before}
 use Rattle.pb_unit.specs.declared.plan.Planned.{Planned}
 
 -- whether a child was started for a unit, where another begins, or this one
-pub started_other : (es : List (Event BadUnit)) (unit place : ℕ) (spawned : Bool) → unit ≢ place → is_started (Began unit spawned ∷ es) place ≡ is_started es place
-started_other es unit place spawned ne = ap (λ b. if b then spawned else is_started es place) (ne_eqb unit place ne)
+pub started_other : (es : List (Event BadUnit)) (unit index : ℕ) (spawned : Bool) → unit ≢ index → is_started (Began unit spawned ∷ es) index ≡ is_started es index
+started_other es unit index spawned ne = ap (λ b. if b then spawned else is_started es index) (ne_eqb unit index ne)
 
 pub started_now : (es : List (Event BadUnit)) (unit : ℕ) (spawned : Bool) → is_started (Began unit spawned ∷ es) unit ≡ spawned
 started_now es unit spawned = ap (λ b. if b then spawned else is_started es unit) (eq-eqb unit unit refl)
 
 -- and what had happened before it began
-pub before_other : (es : List (Event BadUnit)) (unit place : ℕ) (spawned : Bool) → unit ≢ place → events_before (Began unit spawned ∷ es) place ≡ events_before es place
-before_other es unit place spawned ne = ap (λ b. if b then es else events_before es place) (ne_eqb unit place ne)
+pub before_other : (es : List (Event BadUnit)) (unit index : ℕ) (spawned : Bool) → unit ≢ index → events_before (Began unit spawned ∷ es) index ≡ events_before es index
+before_other es unit index spawned ne = ap (λ b. if b then es else events_before es index) (ne_eqb unit index ne)
 
 pub before_now : (es : List (Event BadUnit)) (unit : ℕ) (spawned : Bool) → events_before (Began unit spawned ∷ es) unit ≡ es
 before_now es unit spawned = ap (λ b. if b then es else events_before es unit) (eq-eqb unit unit refl)
 
-one_unit : (project : Project) (place : ℕ) (u v : Planned) → unit_at project place ≡ Some u → unit_at project place ≡ Some v → u ≡ v
-one_unit project place u v at there = injective (sym at ∙ there)
+one_unit : (project : Project) (index : ℕ) (u v : Planned) → unit_at project index ≡ Some u → unit_at project index ≡ Some v → u ≡ v
+one_unit project index u v at there = injective (sym at ∙ there)
 
 none_some : {A : Type 0} (x : A) → None ≡ Some x → ⊥
 none_some x e = cc
@@ -82,14 +82,14 @@ module _ (b : BuildContext) (order : IsInOrder b.project) (done : List (Option (
       started = started_other es unit a.unit spawned (ne_flying a so) ∙ so.started;
     }
 
-    given_on : (place : ℕ) (answer : Answer BadUnit) → unit ≢ place → HasGiven b es done place answer → HasGiven b (Began unit spawned ∷ es) done place answer
-    given_on place answer ne g = record {
+    given_on : (index : ℕ) (answer : Answer BadUnit) → unit ≢ index → HasGiven b es done index answer → HasGiven b (Began unit spawned ∷ es) done index answer
+    given_on index answer ne g = record {
       unit = g.unit;
       there = g.there;
       outcome = g.outcome;
       is = g.is;
       fault = g.fault;
-      lines = g.lines ∙ ap (λ s. unit_lines b.project g.unit s (messages_in g.outcome)) (sym (started_other es unit place spawned ne));
+      lines = g.lines ∙ ap (λ s. unit_lines b.project g.unit s (messages_in g.outcome)) (sym (started_other es unit index spawned ne));
       noted = g.noted;
     }
 
@@ -98,7 +98,7 @@ module _ (b : BuildContext) (order : IsInOrder b.project) (done : List (Option (
     happened_begun = record {
       keeps = keeps;
       begun = all_as (FliesSo b es next w flying still) (FliesSo b (Began unit spawned ∷ es) next' w' flying' still') running flies_on h.begun;
-      gave = λ place answer at. let (ne, before) = answered_before (states_in b.project es) unit place answer Untouched may.untouched at in given_on place answer ne (h.gave place answer before);
+      gave = λ index answer at. let (ne, before) = answered_before (states_in b.project es) unit index answer Untouched may.untouched at in given_on index answer ne (h.gave index answer before);
     }
 
     module _ (a : RunningUnit) (its : a.unit ≡ unit) (flag : spawned ≡ is_some (child_of a.begun)) (begun_so : IsBegun b unit a.begun next' w' flying' still') where

@@ -95,18 +95,18 @@ changes_dropped c counts consistent first es w w' flying' index a at running' is
 
 -- where a unit had no record it has none
 pub unrecorded_dropped : (c : UnitExecutor) (counts : Counts) (consistent : IsConsistent c counts) (first : World) (es : List (Event BadUnit)) (w w' : World) (index : ℕ) (a : RunningUnit) (at : slice_get c.running.items index ≡ Some a) (old : Changes c.project first c.running.items es w counts.starts.flying)
-    → ((out : List ℕ) → WritesTo out (child_of a.begun) counts.starts.flying → ChangesOnly (is_at_or_below out) w w') → (place : ℕ) (v : Planned) → unit_at c.project place ≡ Some v → HasNoRecord c.project v w → HasNoRecord c.project v w'
-unrecorded_dropped c counts consistent first es w w' index a at old only place v there none =
+    → ((out : List ℕ) → WritesTo out (child_of a.begun) counts.starts.flying → ChangesOnly (is_at_or_below out) w w') → (unit_index : ℕ) (v : Planned) → unit_at c.project unit_index ≡ Some v → HasNoRecord c.project v w → HasNoRecord c.project v w'
+unrecorded_dropped c counts consistent first es w w' index a at old only unit_index v there none =
     let of_plan : IsOfPlan c.project a = all_get (IsOfPlan c.project) c.running.items index a consistent.units at in
     let so : FliesIn c.project es w counts.starts.flying a = all_get (FliesIn c.project es w counts.starts.flying) c.running.items index a old.flies at in
     let inside : ChangesOnly (is_at_or_below of_plan.unit.out) w w' = only of_plan.unit.out (so.writes of_plan.unit of_plan.there) in
-    elim (cases_eq a.unit place) [
+    elim (cases_eq a.unit unit_index) [
       | inl same ↦ subst (λ (x : Planned). HasNoRecord c.project x w') (injective (sym of_plan.there ∙ ap (unit_at c.project) same ∙ there))
           (launched_gone reading (records_folder c.project) of_plan.unit.key of_plan.unit.out w w' (consistent.order.keys a.unit of_plan.unit of_plan.there) (consistent.order.folders a.unit of_plan.unit of_plan.there) inside
           (subst (λ (x : Planned). HasNoRecord c.project x w) (sym (injective (sym of_plan.there ∙ ap (unit_at c.project) same ∙ there))) none))
       | inr ne ↦ none_still c.project consistent.order es w w' a.unit of_plan.unit of_plan.there
           (widen (is_at_or_below (out_of (records_folder c.project) of_plan.unit.key)) (is_of (records_folder c.project) of_plan.unit.key) w w' (out_within (records_folder c.project) of_plan.unit.key)
-          (subst (λ o. ChangesOnly (is_at_or_below o) w w') (consistent.order.folders a.unit of_plan.unit of_plan.there) inside)) place v there (λ e. ne (sym e)) none
+          (subst (λ o. ChangesOnly (is_at_or_below o) w w') (consistent.order.folders a.unit of_plan.unit of_plan.there) inside)) unit_index v there (λ e. ne (sym e)) none
     ]
 
 -- why units have begun stays so
@@ -177,15 +177,15 @@ in_flight_twice project es asked u v w first then' = record {
 
 -- nothing changes of one for which no child was started
 pub childless_dropped : (c : UnitExecutor) (counts : Counts) (consistent : IsConsistent c counts) (first : World) (es : List (Event BadUnit)) (w w' : World) (index : ℕ) (a : RunningUnit) (at : slice_get c.running.items index ≡ Some a) (old : Changes c.project first c.running.items es w counts.starts.flying)
-    → ((out : List ℕ) → WritesTo out (child_of a.begun) counts.starts.flying → ChangesOnly (is_at_or_below out) w w') → (place : ℕ) (v : Planned) (q : List ℕ) → unit_at c.project place ≡ Some v → is_started es place ≡ false → is_of (records_folder c.project) v.key q ≡ true
+    → ((out : List ℕ) → WritesTo out (child_of a.begun) counts.starts.flying → ChangesOnly (is_at_or_below out) w w') → (unit_index : ℕ) (v : Planned) (q : List ℕ) → unit_at c.project unit_index ≡ Some v → is_started es unit_index ≡ false → is_of (records_folder c.project) v.key q ≡ true
     → finite.get w'.files q ≡ finite.get w.files q
-childless_dropped c counts consistent first es w w' index a at old only place v q there started inside =
+childless_dropped c counts consistent first es w w' index a at old only unit_index v q there started inside =
     let of_plan : IsOfPlan c.project a = all_get (IsOfPlan c.project) c.running.items index a consistent.units at in
     let so : FliesIn c.project es w counts.starts.flying a = all_get (FliesIn c.project es w counts.starts.flying) c.running.items index a old.flies at in
-    elim (cases_eq a.unit place) [
+    elim (cases_eq a.unit unit_index) [
       | inl same ↦ none_dropped (child_of a.begun) counts.starts.flying w w' (none_of (child_of a.begun) (sym so.started ∙ ap (is_started es) same ∙ started)) only q
       | inr ne ↦
-          (only_its c counts consistent es w w' a of_plan.unit of_plan.there so only).files q (not_of_two c.project consistent.order place a.unit v of_plan.unit there of_plan.there (λ e. ne (sym e)) q inside)
+          (only_its c counts consistent es w w' a of_plan.unit of_plan.there so only).files q (not_of_two c.project consistent.order unit_index a.unit v of_plan.unit there of_plan.there (λ e. ne (sym e)) q inside)
     ]
 
 -- all that is still so after one of them was dropped, and after the next

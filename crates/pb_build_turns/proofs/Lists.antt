@@ -1,4 +1,4 @@
--- Lists: what is added at the end, taken out at a place, and said of each item.
+-- Lists: what is added at the end, taken out at an index, and said of each item.
 use Rattle.std.proofs.Common.{◌≡◌, ◌≢◌, ◌∙◌, ◌++◌, ◌<◌, inl, inr, List, [], ◌∷◌, ℕ, zero, suc, Some, Contains, if◌then◌else◌, refl, sym, ap, subst, arith, slice_get, map, length, append_assoc, eq-eqb, slice_set}
 use Rattle.std.proofs.lemmas.Bool.{ne_eqb}
 use Rattle.std.specs.List.{AllByRecursion, flat_map, remove}
@@ -147,15 +147,15 @@ among f [] k x n P at is all = absurd (clash at)
 among f (y ∷ xs) zero x n P at is all = (subst (λ l. AllByRecursion P (l ++ flat_map f xs)) (ap f (injective at) ∙ is) all).0
 among f (y ∷ xs) (suc k) x n P at is all = among f xs k x n P at is (all_right P (f y) (flat_map f xs) all)
 
--- numbers at two places differ
-pub apart_places : (ns : List ℕ) (i j m n : ℕ) → AreApart ns → slice_get ns i ≡ Some m → slice_get ns j ≡ Some n → i ≢ j → m ≢ n
-apart_places [] i j m n apart a b ne = absurd (clash a)
-apart_places (x ∷ ns) zero zero m n apart a b ne = absurd (ne refl)
-apart_places (x ∷ ns) zero (suc j) m n apart a b ne = subst (λ y. y ≢ n) (injective a) (all_get (λ y. x ≢ y) ns j n apart.0 b)
-apart_places (x ∷ ns) (suc i) zero m n apart a b ne = λ e. subst (λ y. y ≢ m) (injective b) (all_get (λ y. x ≢ y) ns i m apart.0 a) (sym e)
-apart_places (x ∷ ns) (suc i) (suc j) m n apart a b ne = apart_places ns i j m n apart.1 a b (λ e. ne (ap suc e))
+-- numbers at two indices differ
+pub apart_indices : (ns : List ℕ) (i j m n : ℕ) → AreApart ns → slice_get ns i ≡ Some m → slice_get ns j ≡ Some n → i ≢ j → m ≢ n
+apart_indices [] i j m n apart a b ne = absurd (clash a)
+apart_indices (x ∷ ns) zero zero m n apart a b ne = absurd (ne refl)
+apart_indices (x ∷ ns) zero (suc j) m n apart a b ne = subst (λ y. y ≢ n) (injective a) (all_get (λ y. x ≢ y) ns j n apart.0 b)
+apart_indices (x ∷ ns) (suc i) zero m n apart a b ne = λ e. subst (λ y. y ≢ m) (injective b) (all_get (λ y. x ≢ y) ns i m apart.0 a) (sym e)
+apart_indices (x ∷ ns) (suc i) (suc j) m n apart a b ne = apart_indices ns i j m n apart.1 a b (λ e. ne (ap suc e))
 
--- items at two places that each give a number give different ones
+-- items at two indices that each give a number give different ones
 pub flat_apart : {A : Type 0} (f : A → List ℕ) (xs : List A) (i j : ℕ) (x y : A) (m n : ℕ) → AreApart (flat_map f xs) → slice_get xs i ≡ Some x → slice_get xs j ≡ Some y → f x ≡ m ∷ [] → f y ≡ n ∷ [] → i ≢ j → m ≢ n
 flat_apart f [] i j x y m n apart a b is_x is_y ne = absurd (clash a)
 flat_apart f (z ∷ xs) zero zero x y m n apart a b is_x is_y ne = absurd (ne refl)

@@ -20,7 +20,7 @@ use Rattle.pb_run.specs.Invariants.{IsInOrder, records_folder}
 use Rattle.pb_run.specs.declared.begun.SpawnedChild.{SpawnedChild}
 use Rattle.pb_store_soundness.specs.Numbers.{after, IsBefore}
 use Rattle.pb_store.specs.Folder.{TakesNumber}
-use Rattle.pb_build_turns.specs.Executor.{AreApart, IsConsistent, IsOfPlan, place_of_unit, places_of, ticket_in, number_in, tickets_of, numbers_of, ticket_of_child}
+use Rattle.pb_build_turns.specs.Executor.{AreApart, IsConsistent, IsOfPlan, index_of_unit, indices_of, ticket_in, number_in, tickets_of, numbers_of, ticket_of_child}
 use Rattle.pb_build_turns.specs.declared.executor.RunningUnit.{RunningUnit}
 use Rattle.pb_build_turns.specs.declared.executor.UnitExecutor.{UnitExecutor}
 use Rattle.pb_build_turns.proofs.Lists.{has_given, all_more, all_as, all_removed, all_flat, flat_more, flat_stays, flat_without, flat_ones, apart_more, apart_flat, map_removed}
@@ -118,7 +118,7 @@ manned_same old new before now consistent project folder done reasons running ne
   long = ap length done ∙ consistent.long ∙ ap (λ (p : Project). length p.plan.planned) (sym project);
   reasoned = reasons ∙ consistent.reasoned ∙ ap (λ (p : Project). length p.plan.planned) (sym project);
   units = subst (λ (p : Project). AllByRecursion (IsOfPlan p) new.running.items) (sym project) (subst (AllByRecursion (IsOfPlan old.project)) (sym running) consistent.units);
-  units_apart = subst (λ (items : List RunningUnit). AreApart (places_of items)) (sym running) consistent.units_apart;
+  units_apart = subst (λ (items : List RunningUnit). AreApart (indices_of items)) (sym running) consistent.units_apart;
   tickets = ap (map ticket_of_child) flying ∙ consistent.tickets ∙ ap tickets_of (sym running);
   tickets_apart = subst (λ (items : List RunningUnit). AreApart (tickets_of items)) (sym running) consistent.tickets_apart;
   numbers_apart = subst (λ (items : List RunningUnit). AreApart (numbers_of items)) (sym running) consistent.numbers_apart;
@@ -127,7 +127,7 @@ manned_same old new before now consistent project folder done reasons running ne
 }
 
 -- a unit more in flight
-module _ (old new : UnitExecutor) (before now : Counts) (a : RunningUnit) (consistent : IsConsistent old before) (free : Contains (places_of old.running.items) a.unit → ⊥) (of_plan : IsOfPlan old.project a)
+module _ (old new : UnitExecutor) (before now : Counts) (a : RunningUnit) (consistent : IsConsistent old before) (free : Contains (indices_of old.running.items) a.unit → ⊥) (of_plan : IsOfPlan old.project a)
     (project : new.project ≡ old.project) (folder : new.store.folder ≡ old.store.folder) (done : new.done.items ≡ old.done.items) (reasons : length new.reasons.items ≡ length old.reasons.items) (running : new.running.items ≡ old.running.items ++ a ∷ [])
     (next : TakesNumber old.store.next new.store.next) (begins : BeginsBy (child_of a.begun) before.starts now.starts)
     (number : (l : SpawnedChild) → (child_of a.begun) ≡ Some l → (old.store.next ≡ Some l.number) × (new.store.next ≡ after l.number)) where
@@ -137,8 +137,8 @@ module _ (old new : UnitExecutor) (before now : Counts) (a : RunningUnit) (consi
   numbers_are : numbers_of new.running.items ≡ numbers_of old.running.items ++ number_in (child_of a.begun)
   numbers_are = ap numbers_of running ∙ flat_more (λ (x : RunningUnit). number_in (child_of x.begun)) old.running.items (a ∷ []) ∙ ap (λ ns. numbers_of old.running.items ++ ns) (append-nil (number_in (child_of a.begun)))
 
-  places_are : places_of new.running.items ≡ places_of old.running.items ++ a.unit ∷ []
-  places_are = ap places_of running ∙ map-append place_of_unit old.running.items (a ∷ [])
+  indices_are : indices_of new.running.items ≡ indices_of old.running.items ++ a.unit ∷ []
+  indices_are = ap indices_of running ∙ map-append index_of_unit old.running.items (a ∷ [])
 
   flies : (o : Option SpawnedChild) → BeginsBy o before.starts now.starts → map ticket_of_child now.starts.flying ≡ tickets_of old.running.items ++ ticket_in o
   flies None same = ap (λ (s : Starts). map ticket_of_child s.flying) same ∙ consistent.tickets ∙ sym (append-nil (tickets_of old.running.items))
@@ -167,7 +167,7 @@ module _ (old new : UnitExecutor) (before now : Counts) (a : RunningUnit) (consi
     long = ap length done ∙ consistent.long ∙ ap (λ (p : Project). length p.plan.planned) (sym project);
     reasoned = reasons ∙ consistent.reasoned ∙ ap (λ (p : Project). length p.plan.planned) (sym project);
     units = subst (λ (p : Project). AllByRecursion (IsOfPlan p) new.running.items) (sym project) (subst (AllByRecursion (IsOfPlan old.project)) (sym running) (all_more (IsOfPlan old.project) old.running.items (a ∷ []) consistent.units (of_plan, tt)));
-    units_apart = subst AreApart (sym places_are) (apart_more (places_of old.running.items) a.unit consistent.units_apart (none_among a.unit (places_of old.running.items) free));
+    units_apart = subst AreApart (sym indices_are) (apart_more (indices_of old.running.items) a.unit consistent.units_apart (none_among a.unit (indices_of old.running.items) free));
     tickets = flies (child_of a.begun) begins ∙ sym tickets_are;
     tickets_apart = subst AreApart (sym tickets_are) (tickets_so (child_of a.begun) begins);
     numbers_apart = subst AreApart (sym numbers_are) (numbers_so (child_of a.begun) refl);
@@ -184,9 +184,9 @@ module _ (old new : UnitExecutor) (before now : Counts) (index : ℕ) (a : Runni
       ap (λ (s : Starts). map ticket_of_child s.flying) landed ∙ tickets_without l.ticket before.starts.flying ∙ ap (events.without l.ticket) consistent.tickets
       ∙ sym (flat_without (λ (x : RunningUnit). ticket_in (child_of x.begun)) old.running.items index a l.ticket consistent.tickets_apart at (ap ticket_in is))
 
-  places_apart : AreApart (places_of (remove old.running.items index))
-  places_apart =
-      subst AreApart (flat_ones place_of_unit (remove old.running.items index)) (apart_flat (λ (x : RunningUnit). x.unit ∷ []) old.running.items index (subst AreApart (sym (flat_ones place_of_unit old.running.items)) consistent.units_apart))
+  indices_apart : AreApart (indices_of (remove old.running.items index))
+  indices_apart =
+      subst AreApart (flat_ones index_of_unit (remove old.running.items index)) (apart_flat (λ (x : RunningUnit). x.unit ∷ []) old.running.items index (subst AreApart (sym (flat_ones index_of_unit old.running.items)) consistent.units_apart))
 
   pub manned_answered : IsConsistent new now
   manned_answered = record {
@@ -195,7 +195,7 @@ module _ (old new : UnitExecutor) (before now : Counts) (index : ℕ) (a : Runni
     long = done ∙ consistent.long ∙ ap (λ (p : Project). length p.plan.planned) (sym project);
     reasoned = reasons ∙ consistent.reasoned ∙ ap (λ (p : Project). length p.plan.planned) (sym project);
     units = subst (λ (p : Project). AllByRecursion (IsOfPlan p) new.running.items) (sym project) (subst (AllByRecursion (IsOfPlan old.project)) (sym running) (all_removed (IsOfPlan old.project) old.running.items index consistent.units));
-    units_apart = subst (λ (items : List RunningUnit). AreApart (places_of items)) (sym running) places_apart;
+    units_apart = subst (λ (items : List RunningUnit). AreApart (indices_of items)) (sym running) indices_apart;
     tickets = flies_less (child_of a.begun) refl lands ∙ ap tickets_of (sym running);
     tickets_apart = subst (λ (items : List RunningUnit). AreApart (tickets_of items)) (sym running) (apart_flat (λ (x : RunningUnit). ticket_in (child_of x.begun)) old.running.items index consistent.tickets_apart);
     numbers_apart = subst (λ (items : List RunningUnit). AreApart (numbers_of items)) (sym running) (apart_flat (λ (x : RunningUnit). number_in (child_of x.begun)) old.running.items index consistent.numbers_apart);
@@ -205,5 +205,5 @@ module _ (old new : UnitExecutor) (before now : Counts) (index : ℕ) (a : Runni
   }
 
   -- the places of those that are left
-  pub places_left : places_of new.running.items ≡ remove (places_of old.running.items) index
-  places_left = ap places_of running ∙ map_removed place_of_unit old.running.items index
+  pub indices_left : indices_of new.running.items ≡ remove (indices_of old.running.items) index
+  indices_left = ap indices_of running ∙ map_removed index_of_unit old.running.items index

@@ -27,7 +27,7 @@ use Rattle.pb_store.specs.Folder.{TakesNext, TakesNumber, lacks_number}
 use Rattle.pb_build_turns.proofs.Lists.{all_get, differs, get_map}
 use Rattle.pb_build_turns.proofs.Waiting.{carries_none, carries_number}
 use Rattle.pb_build_turns.specs.Calling.{CarriesAgain, FliesAgain}
-use Rattle.pb_build_turns.specs.Executor.{AreApart, launched_of, place_of_unit, places_of, BuildState}
+use Rattle.pb_build_turns.specs.Executor.{AreApart, launched_of, index_of_unit, indices_of, BuildState}
 use Rattle.pb_build_turns.specs.Rows.{is_started}
 use Rattle.pb_build_turns.specs.History.{LacksNumber, NumbersGiven, Spends, History}
 use Rattle.pb_build_turns.specs.declared.executor.RunningUnit.{RunningUnit}
@@ -45,23 +45,23 @@ some_or_none None = inr refl
 some_or_none (Some l) = inl refl
 
 -- a unit whose child flies is in flight
-launched_flies : (running : List RunningUnit) (n : ℕ) → Contains (launched_of running) n → Contains (places_of running) n
+launched_flies : (running : List RunningUnit) (n : ℕ) → Contains (launched_of running) n → Contains (indices_of running) n
 launched_flies [] n has = has
 launched_flies (x ∷ running) n has = by (child_of x.begun) (λ more. launched_flies running n more) has
   where
-    by : (o : Option SpawnedChild) → (Contains (launched_of running) n → Contains (places_of running) n) → Contains (if_so (is_some o) x.unit ++ launched_of running) n → Contains (x.unit ∷ places_of running) n
-    by None flies more = contains_tail x.unit (places_of running) n (flies more)
+    by : (o : Option SpawnedChild) → (Contains (launched_of running) n → Contains (indices_of running) n) → Contains (if_so (is_some o) x.unit ++ launched_of running) n → Contains (x.unit ∷ indices_of running) n
+    by None flies more = contains_tail x.unit (indices_of running) n (flies more)
     by (Some l) flies more = elim (contains_cases x.unit (launched_of running) n more) [
-      | inl same ↦ subst (λ m. Contains (m ∷ places_of running) n) (sym same) (contains_head n (places_of running))
-      | inr rest ↦ contains_tail x.unit (places_of running) n (flies rest)
+      | inl same ↦ subst (λ m. Contains (m ∷ indices_of running) n) (sym same) (contains_head n (indices_of running))
+      | inr rest ↦ contains_tail x.unit (indices_of running) n (flies rest)
     ]
 
 -- one in flight that is among those whose children fly has a child
-pub has_child : (running : List RunningUnit) (index : ℕ) (a : RunningUnit) → AreApart (places_of running) → slice_get running index ≡ Some a → Contains (launched_of running) a.unit → IsSome (child_of a.begun)
+pub has_child : (running : List RunningUnit) (index : ℕ) (a : RunningUnit) → AreApart (indices_of running) → slice_get running index ≡ Some a → Contains (launched_of running) a.unit → IsSome (child_of a.begun)
 has_child [] index a apart at has = absurd (clash at)
 has_child (x ∷ running) zero a apart at has = elim (some_or_none (child_of a.begun)) [
   | inl some ↦ some
-  | inr none ↦ absurd (differs a.unit a.unit (places_of running) (subst (λ (y : RunningUnit). AllByRecursion (λ m. y.unit ≢ m) (places_of running)) same apart.0) (launched_flies running a.unit (left none)) refl)
+  | inr none ↦ absurd (differs a.unit a.unit (indices_of running) (subst (λ (y : RunningUnit). AllByRecursion (λ m. y.unit ≢ m) (indices_of running)) same apart.0) (launched_flies running a.unit (left none)) refl)
 ]
   where
     same : x ≡ a
@@ -72,7 +72,7 @@ has_child (x ∷ running) zero a apart at has = elim (some_or_none (child_of a.b
 has_child (x ∷ running) (suc index) a apart at has = has_child running index a apart.1 at (by (child_of x.begun) has)
   where
     other : x.unit ≢ a.unit
-    other = differs x.unit a.unit (places_of running) apart.0 (at_contains (places_of running) index a.unit (get_map place_of_unit running index a at))
+    other = differs x.unit a.unit (indices_of running) apart.0 (at_contains (indices_of running) index a.unit (get_map index_of_unit running index a at))
 
     by : (o : Option SpawnedChild) → Contains (if_so (is_some o) x.unit ++ launched_of running) a.unit → Contains (launched_of running) a.unit
     by None more = more
@@ -130,7 +130,7 @@ spends_answered Lacks es first now key launched (Device unit NumbersSpent) old n
 spends_answered Lacks es first now key launched Sink old new may numbers = tt
 spends_answered Lacks es first now key launched OutOfMemory old new may numbers = tt
 
--- The numbers along a story, over a modelled place.
+-- The numbers along a story, over a modelled index.
 
 pub begun_taken : (is_modelled : Bool) (child : Answers) (first old : UnitExecutor) (at now : BuildState) (still : ℕ → Type 0) (es : List (Event BadUnit)) (given unit : ℕ) → History is_modelled child first at old now still es given
     → (next : Option ℕ) (o : Option SpawnedChild) → MatchOption o (next ≡ old.store.next) (λ launched. (old.store.next ≡ Some launched.number) × (next ≡ after launched.number))

@@ -32,15 +32,15 @@ some_last [] x none = cc
 some_last (y ∷ xs) x none = cc
 
 -- where no child was started, none was for any unit
-pub none_started : (es : List (Event BadUnit)) (place : ℕ) → started_by es ≡ [] → is_started es place ≡ false
-none_started [] place none = refl
-none_started (Began unit true ∷ es) place none = absurd (some_last (started_by es) unit none)
-none_started (Began unit false ∷ es) place none = both (unit == place) (is_started es place) (none_started es place (left_none (started_by es) [] none))
+pub none_started : (es : List (Event BadUnit)) (index : ℕ) → started_by es ≡ [] → is_started es index ≡ false
+none_started [] index none = refl
+none_started (Began unit true ∷ es) index none = absurd (some_last (started_by es) unit none)
+none_started (Began unit false ∷ es) index none = both (unit == index) (is_started es index) (none_started es index (left_none (started_by es) [] none))
   where
     both : (b c : Bool) → c ≡ false → (if b then false else c) ≡ false
     both true c is = refl
     both false c is = is
-none_started (Gave unit answer ∷ es) place none = none_started es place none
+none_started (Gave unit answer ∷ es) index none = none_started es index none
 
 -- A unit begins.
 
@@ -54,12 +54,12 @@ begun_quiet is_modelled child first old at now new still es given unit story beg
 
 -- A unit answers.
 
-module _ (project : Project) (es : List (Event BadUnit)) (first w w' : World) (place : ℕ) (u : Planned) (there : unit_at project place ≡ Some u) where
-  quiet_answered : (o : Option SpawnedChild) → is_started es place ≡ is_some o → (o ≡ None → lacks_number (records (records_folder project) w u.key) ≡ false → w' ≡ w) → IsQuiet project es first w → IsQuiet project es first w'
+module _ (project : Project) (es : List (Event BadUnit)) (first w w' : World) (index : ℕ) (u : Planned) (there : unit_at project index ≡ Some u) where
+  quiet_answered : (o : Option SpawnedChild) → is_started es index ≡ is_some o → (o ≡ None → lacks_number (records (records_folder project) w u.key) ≡ false → w' ≡ w) → IsQuiet project es first w → IsQuiet project es first w'
   quiet_answered None started same quiet = λ none numbered.
       let as_first = quiet none numbered in
-      same refl (ap (λ (v : World). lacks_number (records (records_folder project) v u.key)) as_first ∙ numbered place u there) ∙ as_first
-  quiet_answered (Some l) started same quiet = λ none numbered. absurd (false≢true (sym (none_started es place none) ∙ started))
+      same refl (ap (λ (v : World). lacks_number (records (records_folder project) v u.key)) as_first ∙ numbered index u there) ∙ as_first
+  quiet_answered (Some l) started same quiet = λ none numbered. absurd (false≢true (sym (none_started es index none) ∙ started))
 
 pub answered_quiet : (is_modelled : Bool) (child : Answers) (first old : UnitExecutor) (at now new : BuildState) (still : ℕ → Type 0) (es : List (Event BadUnit)) (given : ℕ) → History is_modelled child first at old now still es given
     → (index : ℕ) (a : RunningUnit) (u : Planned) → unit_at old.project a.unit ≡ Some u → slice_get old.running.items index ≡ Some a → (answer : Answer BadUnit)

@@ -57,42 +57,42 @@ none_first folder key c w r n is same =
     }
 
 -- no record lacks a number
-numbered_all : (b : BuildContext) (w : World) → EachHasRecord b w → (place : ℕ) → LacksNumber b.project w place false
-numbered_all b w each place u there =
-    let h = each place u there in
+numbered_all : (b : BuildContext) (w : World) → EachHasRecord b w → (index : ℕ) → LacksNumber b.project w index false
+numbered_all b w each index u there =
+    let h = each index u there in
     let is : h.unit ≡ u = injective (sym h.there ∙ there) in
     sym (ap (λ (x : Planned). lacks_number (records_in b w x.key)) is) ∙ ap lacks_number h.here ∙ ap (λ (o : Option ℕ). not (is_some o)) h.numbered
 
 -- so none does from that of a unit
-none_differs : (b : BuildContext) (w : World) (place : ℕ) (u : Planned) → unit_at b.project place ≡ Some u → HasRecord b w place → FirstDifference (records_folder b.project) u.key (command_in b place u) w None
-none_differs b w place u there h =
-    subst (λ (x : Planned). FirstDifference (records_folder b.project) x.key (command_in b place x) w None) (injective (sym h.there ∙ there))
-    (none_first (records_folder b.project) h.unit.key (command_in b place h.unit) w h.kept h.number h.numbered h.same)
+none_differs : (b : BuildContext) (w : World) (index : ℕ) (u : Planned) → unit_at b.project index ≡ Some u → HasRecord b w index → FirstDifference (records_folder b.project) u.key (command_in b index u) w None
+none_differs b w index u there h =
+    subst (λ (x : Planned). FirstDifference (records_folder b.project) x.key (command_in b index x) w None) (injective (sym h.there ∙ there))
+    (none_first (records_folder b.project) h.unit.key (command_in b index h.unit) w h.kept h.number h.numbered h.same)
 
 -- Where a child was started, one was the first.
 
 record IsFirstStart (needs : List (List ℕ)) (es : List (Event BadUnit)) : Type 0 where
-  pub place : ℕ
-  pub begun : HasBegun (states_after needs es) place
-  pub started : is_started es place ≡ true
-  pub none : started_by (events_before es place) ≡ []
+  pub index : ℕ
+  pub begun : HasBegun (states_after needs es) index
+  pub started : is_started es index ≡ true
+  pub none : started_by (events_before es index) ≡ []
 
 first_begun : (needs : List (List ℕ)) (es : List (Event BadUnit)) (u : ℕ) (spawned : Bool) → MayBegin needs (states_after needs es) u → (started_by es ≡ []) ⊎ IsFirstStart needs es
     → (started_by (Began u spawned ∷ es) ≡ []) ⊎ IsFirstStart needs (Began u spawned ∷ es)
 first_begun needs es u true may (inl none) = inr record {
-  place = u;
+  index = u;
   begun = begun_now (states_after needs es) u Untouched Begun may.untouched refl;
   started = started_now es u true;
   none = ap (λ (x : List (Event BadUnit)). started_by x) (before_now es u true) ∙ none;
 }
 first_begun needs es u false may (inl none) = inl (append-nil (started_by es) ∙ none)
 first_begun needs es u spawned may (inr f) =
-    let ne = another (states_after needs es) u f.place may.untouched f.begun in
+    let ne = another (states_after needs es) u f.index may.untouched f.begun in
     inr record {
-      place = f.place;
-      begun = begun_more (states_after needs es) u f.place Untouched Begun may.untouched refl f.begun;
-      started = started_other es u f.place spawned ne ∙ f.started;
-      none = ap (λ (x : List (Event BadUnit)). started_by x) (before_other es u f.place spawned ne) ∙ f.none;
+      index = f.index;
+      begun = begun_more (states_after needs es) u f.index Untouched Begun may.untouched refl f.begun;
+      started = started_other es u f.index spawned ne ∙ f.started;
+      none = ap (λ (x : List (Event BadUnit)). started_by x) (before_other es u f.index spawned ne) ∙ f.none;
     }
 
 first_start : (needs : List (List ℕ)) (es : List (Event BadUnit)) → IsLawful needs es → (started_by es ≡ []) ⊎ IsFirstStart needs es
@@ -101,8 +101,8 @@ first_start needs _ (begin es u spawned before may) = first_begun needs es u spa
 first_start needs _ (answer es u given before flying gives) = elim (first_start needs es before) [
   | inl none ↦ inl none
   | inr f ↦ inr record {
-    place = f.place;
-    begun = begun_more (states_after needs es) u f.place Begun (Answered given) flying refl f.begun;
+    index = f.index;
+    begun = begun_more (states_after needs es) u f.index Begun (Answered given) flying refl f.begun;
     started = f.started;
     none = f.none;
   }
@@ -113,10 +113,10 @@ pub starts_nothing : StartsNothing
 starts_nothing b es reasons first now lawful began each = elim (first_start (needs_of b.project) es lawful) [
   | inl none ↦ none
   | inr f ↦
-      let g = began f.place f.begun in
+      let g = began f.index f.begun in
       let as_first : g.world ≡ first = g.unstarted f.none (numbered_all b first each) in
-      let named = subst (λ (w : World). FirstDifference (records_folder b.project) g.unit.key (command_in b f.place g.unit) w g.difference) as_first g.named in
-      let nothing_is : g.difference ≡ None = one_difference (records_folder b.project) g.unit.key (command_in b f.place g.unit) first g.difference None named (none_differs b first f.place g.unit g.there (each f.place g.unit g.there)) in
+      let named = subst (λ (w : World). FirstDifference (records_folder b.project) g.unit.key (command_in b f.index g.unit) w g.difference) as_first g.named in
+      let nothing_is : g.difference ≡ None = one_difference (records_folder b.project) g.unit.key (command_in b f.index g.unit) first g.difference None named (none_differs b first f.index g.unit g.there (each f.index g.unit g.there)) in
       absurd (false≢true (sym (ap (λ (o : Option Difference). is_some o) nothing_is) ∙ sym g.started ∙ f.started))
 ]
 
@@ -135,16 +135,16 @@ dropped_count [] old new dropped = ap (λ (c : Counts). c.starts.count) dropped
 dropped_count (ticket ∷ tickets) old new (result, may, more) = dropped_count tickets (counted_finish ticket result old) new more ∙ finish_count ticket result old
 
 pub leaves_records : {S : Type 0} (Turns : S → List ℕ → List ℕ → Step → S → Type 0) → LeavesRecords Turns
-leaves_records Turns child setup project next from last summary old new ends success sources keeps place u there =
+leaves_records Turns child setup project next from last summary old new ends success sources keeps index u there =
     let b = build_context TrustedRecords child setup project sources in
     let whole = ends.told refl TrustedRecords sources keeps in
     let holds : HoldsRecords b (states_in project ends.es) whole.stands.next new.world = whole.stands.keeps.records in
-    holds.recorded place (ends.good success place u there)
+    holds.recorded index (ends.good success index u there)
 
 pub starts_none_again : {S : Type 0} (Turns : S → List ℕ → List ℕ → Step → S → Type 0) → StartsNoneAgain Turns
 starts_none_again Turns child setup project next from last summary old new ends premise sources keeps each =
     let whole = ends.told refl premise sources keeps in
     let none : started_by ends.es ≡ [] = starts_nothing (build_context premise child setup project sources) ends.es ends.reasons old.world new.world (steps_are_lawful Turns (needs_of project) Anyhow Anything from ends.es last ends.flies) whole.began each in (
-      dropped_count (map ticket_of_child ends.mid.starts.flying) ends.mid new.counts ends.drained ∙ ends.starts ∙ ap (λ places. upped (length places) old.counts.starts.count) none,
-      ends.started ∙ ap (λ places. flat_map (λ place. key_in (unit_at project place)) places) none,
+      dropped_count (map ticket_of_child ends.mid.starts.flying) ends.mid new.counts ends.drained ∙ ends.starts ∙ ap (λ indices. upped (length indices) old.counts.starts.count) none,
+      ends.started ∙ ap (λ indices. flat_map (λ index. key_in (unit_at project index)) indices) none,
     )

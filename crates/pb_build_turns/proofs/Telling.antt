@@ -25,7 +25,7 @@ module _ (project : Project) (es : List (Event BadUnit)) where
     pub outcome : Outcome
     pub is : slice_get os k ≡ Some outcome
     pub fault : answer.fault ≡ fault_in outcome
-    pub lines : (place : ℕ) → place ≡ i + k → answer.lines ≡ unit_lines project unit (is_started es place) (messages_in outcome)
+    pub lines : (index : ℕ) → index ≡ i + k → answer.lines ≡ unit_lines project unit (is_started es index) (messages_in outcome)
     pub noted : slice_get ds k ≡ Some (directives_in outcome)
 
   abbrev pub AllTold : ℕ → List Planned → List Outcome → List (Option (List Directive)) → List (State BadUnit) → Type 0
@@ -40,7 +40,7 @@ module _ (project : Project) (es : List (Event BadUnit)) where
         outcome = t.outcome;
         is = t.is;
         fault = t.fault;
-        lines = λ place same. let e : place ≡ i + suc k = omega (arith, same) in t.lines place e;
+        lines = λ index same. let e : index ≡ i + suc k = omega (arith, same) in t.lines index e;
         noted = t.noted;
       }
 
@@ -133,20 +133,20 @@ module _ (project : Project) (es : List (Event BadUnit)) where
 
   bad_past : (u : Planned) (us : List Planned) (s : State BadUnit) (ss : List (State BadUnit)) (o : Option ℕ) → bad_told (u ∷ us) (s ∷ ss) (option_map suc o) ≡ bad_told us ss o
   bad_past u us s ss None = refl
-  bad_past u us s ss (Some place) = refl
+  bad_past u us s ss (Some index) = refl
 
   count_past : (n : ℕ) (o : Option ℕ) → count_told (suc n) (option_map suc o) ≡ suc (count_told n o)
   count_past n None = refl
-  count_past n (Some place) = omega arith
+  count_past n (Some index) = omega arith
 
   -- where none is bad at the end, each is good
   pub all_good_at : (us : List Planned) (ss : List (State BadUnit)) → length ss ≡ length us → is_finished ss ≡ true → is_none (bad_told us ss (first_bad ss)) ≡ true
-      → (place : ℕ) (u : Planned) → slice_get us place ≡ Some u → is_good_at (slice_get ss place) ≡ true
-  all_good_at [] ss long finished none place u at = absurd (clash at)
-  all_good_at (v ∷ us) [] long finished none place u at = absurd (omega (arith, long))
-  all_good_at (v ∷ us) (Untouched ∷ ss) long finished none place u at = absurd (false≢true finished)
-  all_good_at (v ∷ us) (Begun ∷ ss) long finished none place u at = absurd (false≢true finished)
-  all_good_at (v ∷ us) (Answered a ∷ ss) long finished none place u at = by a.fault refl place at (λ more well k there. all_good_at us ss (omega (arith, long)) more well k u there)
+      → (index : ℕ) (u : Planned) → slice_get us index ≡ Some u → is_good_at (slice_get ss index) ≡ true
+  all_good_at [] ss long finished none index u at = absurd (clash at)
+  all_good_at (v ∷ us) [] long finished none index u at = absurd (omega (arith, long))
+  all_good_at (v ∷ us) (Untouched ∷ ss) long finished none index u at = absurd (false≢true finished)
+  all_good_at (v ∷ us) (Begun ∷ ss) long finished none index u at = absurd (false≢true finished)
+  all_good_at (v ∷ us) (Answered a ∷ ss) long finished none index u at = by a.fault refl index at (λ more well k there. all_good_at us ss (omega (arith, long)) more well k u there)
     where
       by : (f : Option BadUnit) → a.fault ≡ f → (k : ℕ) → slice_get (v ∷ us) k ≡ Some u
           → (is_finished ss ≡ true → is_none (bad_told us ss (first_bad ss)) ≡ true → (n : ℕ) → slice_get us n ≡ Some u → is_good_at (slice_get ss n) ≡ true) → is_good_at (slice_get (Answered a ∷ ss) k) ≡ true
@@ -205,7 +205,7 @@ bad_within n (Answered a ∷ ss) p is = by (is_none a.fault) (λ more. bad_withi
     by false more found = let same : n ≡ p = injective found in omega (arith, same)
 
 -- the place of the first bad one is one of the plan
-pub bad_fits : (ss : List (State BadUnit)) (n : ℕ) (o : Option ℕ) → length ss ≡ n → o ≡ first_bad ss → IfSome o (λ place. place < n)
+pub bad_fits : (ss : List (State BadUnit)) (n : ℕ) (o : Option ℕ) → length ss ≡ n → o ≡ first_bad ss → IfSome o (λ index. index < n)
 bad_fits ss n None long is = tt
 bad_fits ss n (Some p) long is = let less : p < 0 + length ss = bad_within 0 ss p (sym is) in omega (arith, less, long)
 

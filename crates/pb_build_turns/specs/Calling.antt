@@ -36,7 +36,7 @@ use Rattle.pb_run.specs.declared.begun.SpawnedChild.{SpawnedChild}
 use Rattle.pb_run.specs.declared.ran.Ran.{Ran}
 use Rattle.pb_store_soundness.specs.Apart.{is_of}
 use Rattle.pb_store_soundness.specs.Inputs.{Agrees, reply_in}
-use Rattle.pb_store_soundness.specs.Records.{records, place_of}
+use Rattle.pb_store_soundness.specs.Records.{records, record_path}
 use Rattle.pb_store.specs.Differences.{replayed}
 use Rattle.pb_store.specs.declared.replaying.Replayed.{Replayed}
 use Rattle.pb_build_turns.specs.Rows.{is_started}
@@ -192,7 +192,7 @@ pub record AnswersCalling (b : CallBasis) (index : ℕ) (spawned : Bool) (result
   pub answer : Result Ended StartFault
   pub ends : EndsBy by answer (IsOk result) (λ ticket. Unit {0}) before left old mid
   pub replied : spawned ≡ true → IfOk answer (λ ended. EndsAsReplied (reply_by b index unit left) unit ended left)
-  pub only : ChangesOnly (is_at_or_below (place_of (records_folder b.project) unit.key)) left after
+  pub only : ChangesOnly (is_at_or_below (record_path (records_folder b.project) unit.key)) left after
   pub named : IfErr result (IsOfUnit unit.key)
   pub calls : CallsBehind by (answered_called b.project unit (b.command index unit) left by) answer (bare result) mid new
 

@@ -36,11 +36,11 @@ moment at heard = record { world = at.world; counts = at.counts; most = at.most;
 abbrev pub needs_of : Project → List (List ℕ)
 needs_of project = map (λ (u : Planned). u.needs) project.plan.planned
 
-abbrev pub place_of_unit : RunningUnit → ℕ
-place_of_unit a = a.unit
+abbrev pub index_of_unit : RunningUnit → ℕ
+index_of_unit a = a.unit
 
-abbrev pub places_of : List RunningUnit → List ℕ
-places_of running = map place_of_unit running
+abbrev pub indices_of : List RunningUnit → List ℕ
+indices_of running = map index_of_unit running
 
 abbrev pub ticket_in : Option SpawnedChild → List ℕ
 ticket_in None = []
@@ -89,7 +89,7 @@ pub record IsConsistent (c : UnitExecutor) (counts : Counts) : Type 0 where
   pub long : length c.done.items ≡ length c.project.plan.planned
   pub reasoned : length c.reasons.items ≡ length c.project.plan.planned
   pub units : AllByRecursion (IsOfPlan c.project) c.running.items
-  pub units_apart : AreApart (places_of c.running.items)
+  pub units_apart : AreApart (indices_of c.running.items)
   pub tickets : map ticket_of_child counts.starts.flying ≡ tickets_of c.running.items
   pub tickets_apart : AreApart (tickets_of c.running.items)
   pub numbers_apart : AreApart (numbers_of c.running.items)

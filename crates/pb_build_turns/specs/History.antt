@@ -34,7 +34,7 @@ use Rattle.pb_run.specs.Outcome.{Outcome, directives_in}
 use Rattle.pb_run.specs.Invariants.{records_folder}
 use Rattle.pb_message_units.specs.Telling.{unit_lines}
 use Rattle.pb_store_soundness.specs.Apart.{is_of}
-use Rattle.pb_store_soundness.specs.Records.{place_of, records}
+use Rattle.pb_store_soundness.specs.Records.{record_path, records}
 use Rattle.pb_store.specs.Differences.{FirstDifference}
 use Rattle.pb_store.specs.Folder.{numbered, TakesNext, TakesNumber, lacks_number, migrated}
 use Rattle.pb_store.specs.declared.difference.Difference.{Difference}
@@ -50,7 +50,7 @@ use Rattle.pb_unit.specs.declared.plan.Planned.{Planned}
 abbrev pub states_in : Project → List (Event BadUnit) → List (State BadUnit)
 states_in project es = states_after (needs_of project) es
 
--- What is true of the counters, the sink and the lists, over every place.
+-- What is true of the counters, the sink and the lists, over every index.
 
 -- the counter after it was raised n times
 abbrev pub upped : ℕ → ℕ → ℕ
@@ -77,11 +77,11 @@ NoneWritesTo out flying = (ticket : ℕ) (its : ChildInFlight) → child_at tick
 -- A call for the unit with this key failed, or no run number was left for the unit. The unit has
 -- begun and not answered, and has no child in flight. All lines that were due have been written.
 pub record StopsAt (is_modelled : Bool) (project : Project) (first now : BuildState) (key : List ℕ) (es : List (Event BadUnit)) : Type 0 where
-  pub place : ℕ
+  pub index : ℕ
   pub unit : Planned
-  pub there : unit_at project place ≡ Some unit
+  pub there : unit_at project index ≡ Some unit
   pub named : unit.key ≡ key
-  pub flies : slice_get (states_in project es) place ≡ Some Begun
+  pub flies : slice_get (states_in project es) index ≡ Some Begun
   pub landed : IsTrue is_modelled → NoneWritesTo unit.out now.counts.starts.flying
   pub lines : Appends first.heard.taken now.heard.taken (due (states_in project es))
   pub faults : now.heard.faults ≡ first.heard.faults
@@ -144,11 +144,11 @@ abbrev pub Spends : (ℕ → Bool → Type 0) → BuildFault → Option ℕ → 
 Spends Lacks (Device key NumbersSpent) first es = NumbersGiven Lacks es first None
 Spends Lacks fault first es = Unit {0}
 
--- over a place that is not modelled, it is not known whether the record of a unit lacked a number
+-- over a index that is not modelled, it is not known whether the record of a unit lacked a number
 abbrev pub IsUntold : ℕ → Bool → Type 0
 IsUntold unit lacks = ⊥
 
--- What is true over a modelled place.
+-- What is true over a modelled index.
 
 -- The unit at this index has its outcome of a clean build: its fault, its lines and its noted
 -- directives. The unit's lines say whether a child was started for the unit.
@@ -163,9 +163,9 @@ pub record HasGiven (b : BuildContext) (es : List (Event BadUnit)) (done : List 
 
 -- the events that came before the unit at this index began
 abbrev pub events_before : List (Event BadUnit) → ℕ → List (Event BadUnit)
-events_before [] place = []
-events_before (Began unit spawned ∷ es) place = if unit == place then es else events_before es place
-events_before (Gave unit answer ∷ es) place = events_before es place
+events_before [] index = []
+events_before (Began unit spawned ∷ es) index = if unit == index then es else events_before es index
+events_before (Gave unit answer ∷ es) index = events_before es index
 
 -- The only changes are in the output folders and the records of units that have begun.
 pub record OnlyOf (project : Project) (es : List (Event BadUnit)) (old new : World) : Type 0 where
@@ -199,7 +199,7 @@ pub record BeganFor (project : Project) (sources : World) (command : ℕ → Pla
   pub there : unit_at project index ≡ Some unit
   pub world : World
   pub sources_stay : from_nothing project.workspace.target world ≡ sources
-  pub record_stays : finite.get world.files (place_of (records_folder project) unit.key) ≡ finite.get first.files (place_of (records_folder project) unit.key)
+  pub record_stays : finite.get world.files (record_path (records_folder project) unit.key) ≡ finite.get first.files (record_path (records_folder project) unit.key)
   pub only : OnlyOf project (events_before es index) first world
   pub reaches : are_good (states_in project es) unit.reaches ≡ true
   pub reached_stay : (p : ℕ) (v : Planned) (q : List ℕ) → Contains unit.reaches p → unit_at project p ≡ Some v → is_of (records_folder project) v.key q ≡ true → finite.get world.files q ≡ finite.get now.files q
@@ -299,9 +299,9 @@ pub record Replies (child : Answers) (setup : Setup) (project : Project) (done :
 
 -- the events that came before the unit at this index answered
 abbrev pub events_until : List (Event BadUnit) → ℕ → List (Event BadUnit)
-events_until [] place = []
-events_until (Began unit spawned ∷ es) place = events_until es place
-events_until (Gave unit answer ∷ es) place = if unit == place then es else events_until es place
+events_until [] index = []
+events_until (Began unit spawned ∷ es) index = events_until es index
+events_until (Gave unit answer ∷ es) index = if unit == index then es else events_until es index
 
 -- The record of a unit for which a child was started. The record has the unit's command, the
 -- child's reply to what the child sees of this world, and the present values of the inputs. The
@@ -321,7 +321,7 @@ pub record LeavesRecord (child : Answers) (setup : Setup) (project : Project) (d
   pub again : started ≡ false → answer.fault ≡ None
       → (number : Option ℕ) × NumbersGiven (LacksNumber project first) until next number × (lacks_number (records (records_folder project) first unit.key) ≡ true → IsSome number)
       × (records (records_folder project) now unit.key ≡ migrated number (numbered (records (records_folder project) now) (needed_keys project unit)) (records (records_folder project) first unit.key))
-  pub bad : started ≡ false → IsSome answer.fault → finite.get now.files (place_of (records_folder project) unit.key) ≡ finite.get first.files (place_of (records_folder project) unit.key)
+  pub bad : started ≡ false → IsSome answer.fault → finite.get now.files (record_path (records_folder project) unit.key) ≡ finite.get first.files (record_path (records_folder project) unit.key)
 
 -- Each answered unit has left a record as `LeavesRecord` says. This is so whether the records are
 -- true or not.

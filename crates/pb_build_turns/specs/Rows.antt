@@ -53,9 +53,9 @@ fault_in (Bad bad messages) = Some bad
 
 -- a child was started for the unit at this index when it began
 abbrev pub is_started : List (Event BadUnit) → ℕ → Bool
-is_started [] place = false
-is_started (Began unit spawned ∷ es) place = if unit == place then spawned else is_started es place
-is_started (Gave unit answer ∷ es) place = is_started es place
+is_started [] index = false
+is_started (Began unit spawned ∷ es) index = if unit == index then spawned else is_started es index
+is_started (Gave unit answer ∷ es) index = is_started es index
 
 -- The lines of these units, the first of which has the index `i`. Each line says whether a child
 -- was started for its unit.
@@ -137,7 +137,7 @@ summary_of project es reasons rows = record {
   directives = directives_told rows;
 }
 
--- The same reports, made from the answers. These definitions also work over a place that is not
+-- The same reports, made from the answers. These definitions also work over a index that is not
 -- modelled.
 
 abbrev pub fault_of : State BadUnit → Option BadUnit
@@ -169,7 +169,7 @@ noted_of (u ∷ us) (d ∷ noted) = keyed u.key d ++ noted_of us noted
 -- including the bad unit. If there is no index, these are all units.
 abbrev pub count_told : ℕ → Option ℕ → ℕ
 count_told units None = units
-count_told units (Some place) = place + 1
+count_told units (Some index) = index + 1
 
 -- The noted directives of the reported units. `count_told` is the number of these units.
 abbrev pub noted_told : List Planned → List (Option (List Directive)) → Option ℕ → List (List ℕ × List Directive)
@@ -177,11 +177,11 @@ noted_told units noted bad = noted_of (take (count_told (length units) bad) unit
 
 -- the keys of the units at these indices
 abbrev pub keys_at : List Planned → List ℕ → List (List ℕ)
-keys_at units places = flat_map (λ index. key_in (slice_get units index)) places
+keys_at units indices = flat_map (λ index. key_in (slice_get units index)) indices
 
 -- the first differences of the units at these indices, if they are noted
 abbrev pub differences_at : Reasons → List ℕ → List Difference
-differences_at reasons places = flat_map (λ index. difference_in (slice_get reasons index)) places
+differences_at reasons indices = flat_map (λ index. difference_in (slice_get reasons index)) indices
 
 abbrev pub summary_by : List Planned → List (State BadUnit) → List (Option (List Directive)) → List ℕ → Reasons → Option ℕ → Summary
 summary_by units states noted started reasons bad = record {

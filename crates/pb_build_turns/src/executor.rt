@@ -10,7 +10,7 @@ ghost use Rattle.pb_run_flight.specs.declared.flight.State.TheVariants as state;
 ghost use Rattle.pb_place_types.specs.Counts.{up};
 ghost use Rattle.pb_build_result.specs.declared.bad_unit.BadUnit.{BadUnit};
 ghost use Rattle.pb_run.specs.UnitSteps.{child_of};
-ghost use Rattle.pb_build_turns.specs.Executor.{needs_of, noted, places_of, IsAble, IsConsistent, BuildState, moment};
+ghost use Rattle.pb_build_turns.specs.Executor.{needs_of, noted, indices_of, IsAble, IsConsistent, BuildState, moment};
 ghost use Rattle.pb_place_types.specs.Sinks.{SinkState};
 ghost use Rattle.pb_build_turns.specs.History.{History, StoryEnds, states_in};
 
@@ -115,17 +115,17 @@ fn begin_at<P: Place>(
     requires consistent { IsConsistent crew.old (P.at place.old).counts }
     requires able { IsAble P.is_modelled crew.old (P.at place.old) }
     requires unit { unit < length (needs_of crew.old.project) }
-    requires grounded { Contains (places_of crew.old.running.items) unit → ⊥ }
+    requires grounded { Contains (indices_of crew.old.running.items) unit → ⊥ }
     ensures consistent { IsConsistent crew.new (P.at place.new).counts }
     ensures able { OnOk result (IsAble P.is_modelled crew.new (P.at place.new)) }
     ensures project { crew.new.project ≡ crew.old.project }
     ensures flying { OnOk result
-        (places_of crew.new.running.items ≡ places_of crew.old.running.items ++ unit ∷ []) }
+        (indices_of crew.new.running.items ≡ indices_of crew.old.running.items ++ unit ∷ []) }
     ensures story { (first : UnitExecutor) (at : BuildState) (heard : SinkState)
         (es : List (Event BadUnit))
         (given : ℕ)
         → History P.is_modelled P.child first at crew.old (moment (P.at place.old) heard)
-        (P.at place.old).still es given → places_of crew.old.running.items ≡ flying_after es
+        (P.at place.old).still es given → indices_of crew.old.running.items ≡ flying_after es
         → IsLawful (needs_of crew.old.project) es
         → given ≡ count_due (states_in crew.old.project es)
         → MayBegin (needs_of crew.old.project) (states_in crew.old.project es) unit
@@ -199,20 +199,20 @@ fn answer_at<P: Place>(
 ) -> Result<Answer<BadUnit>, BuildFault>
     requires consistent { IsConsistent crew.old (P.at place.old).counts }
     requires able { IsAble P.is_modelled crew.old (P.at place.old) }
-    requires within { index < length (places_of crew.old.running.items) }
+    requires within { index < length (indices_of crew.old.running.items) }
     ensures consistent { IsConsistent crew.new (P.at place.new).counts }
     ensures able { OnOk result (IsAble P.is_modelled crew.new (P.at place.new)) }
     ensures project { crew.new.project ≡ crew.old.project }
-    ensures flying { places_of crew.new.running.items
-        ≡ remove (places_of crew.old.running.items) index }
+    ensures flying { indices_of crew.new.running.items
+        ≡ remove (indices_of crew.old.running.items) index }
     ensures story { (first : UnitExecutor) (at : BuildState) (heard : SinkState)
         (es : List (Event BadUnit))
         (given unit : ℕ)
         → History P.is_modelled P.child first at crew.old (moment (P.at place.old) heard)
-        (P.at place.old).still es given → places_of crew.old.running.items ≡ flying_after es
+        (P.at place.old).still es given → indices_of crew.old.running.items ≡ flying_after es
         → IsLawful (needs_of crew.old.project) es
         → given ≡ count_due (states_in crew.old.project es)
-        → slice_get (places_of crew.old.running.items) index ≡ Some unit
+        → slice_get (indices_of crew.old.running.items) index ≡ Some unit
         → slice_get (states_in crew.old.project es) unit ≡ Some state.Begun
         → MatchResult result
         (λ answer.
@@ -234,36 +234,36 @@ fn answer_at<P: Place>(
 }
 
 /// Returns the plan indices of the units in flight.
-fn places_of(alloc: Global, running: &[RunningUnit]) -> Result<Vec<usize>, AllocError>
-    ensures { IfOk result (λ places. places.items ≡ places_of running.now) }
+fn indices_of(alloc: Global, running: &[RunningUnit]) -> Result<Vec<usize>, AllocError>
+    ensures { IfOk result (λ indices. indices.items ≡ indices_of running.now) }
 {
-    let mut places = Vec::new(alloc);
+    let mut indices = Vec::new(alloc);
     for one in running {
-        places.push(one.unit)?;
+        indices.push(one.unit)?;
     }
-    Ok(places)
+    Ok(indices)
 }
 
 impl<P: Place, O: Out> Executor<P, O, BadUnit, BuildFault> for UnitExecutor {
     ghost needs = { λ crew. needs_of crew.project };
 
-    ghost flying = { λ crew. places_of crew.running.items };
+    ghost flying = { λ crew. indices_of crew.running.items };
 
-    ghost holds = { λ crew place out. IsConsistent crew (P.at place).counts };
+    ghost holds = { λ crew index out. IsConsistent crew (P.at index).counts };
 
-    ghost able = { λ crew place out. IsAble P.is_modelled crew (P.at place) };
+    ghost able = { λ crew index out. IsAble P.is_modelled crew (P.at index) };
 
-    ghost story = { λ first first_place first_out crew place out es given.
+    ghost story = { λ first first_place first_out crew index out es given.
         History P.is_modelled P.child first (moment (P.at first_place) (O.heard first_out)) crew
-        (moment (P.at place) (O.heard out)) (P.at place).still es given };
+        (moment (P.at index) (O.heard out)) (P.at index).still es given };
 
-    ghost stops = { λ fault asked first first_place first_out crew place out es.
+    ghost stops = { λ fault asked first first_place first_out crew index out es.
         StoryEnds P.is_modelled P.child fault asked first
         (moment (P.at first_place) (O.heard first_out)) crew
-        (moment (P.at place) (O.heard out)) (P.at place).still es };
+        (moment (P.at index) (O.heard out)) (P.at index).still es };
 
     fn in_flight(&self, alloc: Global) -> Result<Vec<usize>, AllocError> {
-        places_of(alloc, self.running.as_slice())
+        indices_of(alloc, self.running.as_slice())
     }
 
     fn begin(

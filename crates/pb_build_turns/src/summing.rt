@@ -18,24 +18,24 @@ fn note_key(
     alloc: Global,
     keys: &mut Items<Text>,
     units: &[Planned],
-    place: usize,
+    index: usize,
 ) -> Result<(), AllocError>
-    ensures { OnOk result (keys.new ≡ keys.old ++ key_in (slice_get units.now place)) }
+    ensures { OnOk result (keys.new ≡ keys.old ++ key_in (slice_get units.now index)) }
 {
-    if place >= units.len() {
+    if index >= units.len() {
         return Ok(());
     }
-    keys.push(units[place].key.copy(alloc)?)?;
+    keys.push(units[index].key.copy(alloc)?)?;
     Ok(())
 }
 
 /// Returns the keys of the units at these indices.
-fn keys_at(alloc: Global, units: &[Planned], places: &[usize]) -> Result<Items<Text>, AllocError>
-    ensures { IfOk result (λ keys. keys ≡ keys_at units.now places.now) }
+fn keys_at(alloc: Global, units: &[Planned], indices: &[usize]) -> Result<Items<Text>, AllocError>
+    ensures { IfOk result (λ keys. keys ≡ keys_at units.now indices.now) }
 {
     let mut keys = Items::new(alloc);
-    for place in places {
-        note_key(alloc, &mut keys, units, *place)?;
+    for index in indices {
+        note_key(alloc, &mut keys, units, *index)?;
     }
     Ok(keys)
 }
@@ -96,14 +96,14 @@ fn note_difference(
     alloc: Global,
     found: &mut Items<Difference>,
     reasons: &[Option<Option<Difference>>],
-    place: usize,
+    index: usize,
 ) -> Result<(), AllocError>
-    ensures { OnOk result (found.new ≡ found.old ++ difference_in (slice_get reasons.now place)) }
+    ensures { OnOk result (found.new ≡ found.old ++ difference_in (slice_get reasons.now index)) }
 {
-    if place >= reasons.len() {
+    if index >= reasons.len() {
         return Ok(());
     }
-    note_reason(alloc, found, &reasons[place])?;
+    note_reason(alloc, found, &reasons[index])?;
     Ok(())
 }
 
@@ -111,13 +111,13 @@ fn note_difference(
 fn differences_at(
     alloc: Global,
     reasons: &[Option<Option<Difference>>],
-    places: &[usize],
+    indices: &[usize],
 ) -> Result<Items<Difference>, AllocError>
-    ensures { IfOk result (λ found. found ≡ differences_at reasons.now places.now) }
+    ensures { IfOk result (λ found. found ≡ differences_at reasons.now indices.now) }
 {
     let mut found = Items::new(alloc);
-    for place in places {
-        note_difference(alloc, &mut found, reasons, *place)?;
+    for index in indices {
+        note_difference(alloc, &mut found, reasons, *index)?;
     }
     Ok(found)
 }
@@ -184,17 +184,17 @@ fn bad_at(
     alloc: Global,
     units: &[Planned],
     states: Vec<State<BadUnit>>,
-    place: usize,
+    index: usize,
 ) -> Result<Option<(Text, BadUnit)>, AllocError>
     requires long { length units.now ≡ length states.items }
-    ensures { IfOk result (λ bad. bad ≡ bad_told units.now states.items (Some place)) }
+    ensures { IfOk result (λ bad. bad ≡ bad_told units.now states.items (Some index)) }
 {
-    if place >= units.len() {
+    if index >= units.len() {
         return Ok(None);
     }
     let mut states = states;
-    let state = states.swap_remove(place);
-    with_key(alloc, &units[place].key, fault_of(state))
+    let state = states.swap_remove(index);
+    with_key(alloc, &units[index].key, fault_of(state))
 }
 
 /// Returns the key and the fault of a bad unit, and what its child printed.
@@ -211,12 +211,12 @@ fn told_apart(alloc: Global, bad: Option<(Text, BadUnit)>) -> (Option<(Text, Uni
 /// Returns the number of reported units, from the start of plan order. All units are reported, or
 /// else all units up to and including the first bad unit.
 fn count_told(units: usize, bad: Option<usize>) -> usize
-    requires { IfSome bad (λ place. place < units) }
+    requires { IfSome bad (λ index. index < units) }
     ensures { result ≡ count_told units bad }
 {
     match bad {
         None => units,
-        Some(place) => place + 1,
+        Some(index) => index + 1,
     }
 }
 
@@ -237,7 +237,7 @@ pub(crate) fn summary_of(
     requires long { length units.now ≡ length states.items }
     requires noted { length units.now ≡ length done.now }
     requires reasoned { length units.now ≡ length reasons.now }
-    requires within { IfSome first_bad (λ place. place < length units.now) }
+    requires within { IfSome first_bad (λ index. index < length units.now) }
     ensures { IfOk result
         (λ summary.
         summary
@@ -250,7 +250,7 @@ pub(crate) fn summary_of(
     let directives = noted_of(alloc, units, done, count)?;
     let bad = match first_bad {
         None => None,
-        Some(place) => bad_at(alloc, units, states, place)?,
+        Some(index) => bad_at(alloc, units, states, index)?,
     };
     let success = bad.is_none();
     let (bad, said) = told_apart(alloc, bad);

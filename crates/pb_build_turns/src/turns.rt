@@ -24,12 +24,12 @@ use pb_unit::Planned;
 use std::alloc::{AllocError, Global};
 
 /// Returns a copy of these indices.
-fn copy_indices(alloc: Global, places: &[usize]) -> Result<Items<usize>, AllocError>
-    ensures { IfOk result (λ items. items ≡ places.now) }
+fn copy_indices(alloc: Global, indices: &[usize]) -> Result<Items<usize>, AllocError>
+    ensures { IfOk result (λ items. items ≡ indices.now) }
 {
     let mut items = Items::new(alloc);
-    for place in places {
-        items.push(*place)?;
+    for index in indices {
+        items.push(*index)?;
     }
     Ok(items)
 }

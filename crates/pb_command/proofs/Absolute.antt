@@ -17,13 +17,13 @@ use Rattle.pb_command.specs.Laws.{HasPaths, IsAbsolute, CommandsAreAbsolute}
 use Rattle.pb_command_types.specs.Targets.{package_of, unit_at}
 
 module _ (project : Project) (has : HasPaths project) where
-  one_read : (place : ℕ) (unit : Option Planned) → slice_get project.plan.planned place ≡ unit → All (λ folder. is_path folder ≡ true) (folder_in unit)
-  one_read place None is = All-from_recursion (λ folder. is_path folder ≡ true) [] tt
-  one_read place (Some unit) is = All-from_recursion (λ folder. is_path folder ≡ true) (unit.out ∷ []) (all_at (λ (unit : Planned). is_path unit.out ≡ true) project.plan.planned place unit has.units is, tt)
+  one_read : (index : ℕ) (unit : Option Planned) → slice_get project.plan.planned index ≡ unit → All (λ folder. is_path folder ≡ true) (folder_in unit)
+  one_read index None is = All-from_recursion (λ folder. is_path folder ≡ true) [] tt
+  one_read index (Some unit) is = All-from_recursion (λ folder. is_path folder ≡ true) (unit.out ∷ []) (all_at (λ (unit : Planned). is_path unit.out ≡ true) project.plan.planned index unit has.units is, tt)
 
-  all_read : (places : List ℕ) → All (λ folder. is_path folder ≡ true) (flat_map (read_at project) places)
+  all_read : (indices : List ℕ) → All (λ folder. is_path folder ≡ true) (flat_map (read_at project) indices)
   all_read [] = All-from_recursion (λ folder. is_path folder ≡ true) [] tt
-  all_read (place ∷ places) = All-append (λ folder. is_path folder ≡ true) (read_at project place) (flat_map (read_at project) places) (one_read place (unit_at project place) refl) (all_read places)
+  all_read (index ∷ indices) = All-append (λ folder. is_path folder ≡ true) (read_at project index) (flat_map (read_at project) indices) (one_read index (unit_at project index) refl) (all_read indices)
 
   of_what : (what : What) (setup : Setup) (unit : Planned) (done : List (Option (List Directive))) (p : Package) → is_path unit.out ≡ true → is_path p.folder ≡ true → IsAbsolute (command_by what setup project unit done p)
   of_what Run setup unit done p out folder = record { folder = folder; target = has.target; out = out; reads = all_read unit.reaches }

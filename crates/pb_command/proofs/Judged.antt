@@ -54,8 +54,8 @@ module _ (setup : Setup) (project : Project) (u : Planned) (done : List (Option 
   in_package word = by_what u.unit.what refl word
 
 pub judges_as_answered : JudgesAsAnswered
-judges_as_answered setup project u done selection place r settled plan at =
-    let tells : TellsWhat u = all_at TellsWhat project.plan.planned place u (keys_tell_what project.workspace project.features selection project.profile project.plan settled plan) at in
-    let has : HasSettings project.workspace plan.line u = all_at (HasSettings project.workspace plan.line) project.plan.planned place u plan.settings at in
+judges_as_answered setup project u done selection index r settled plan at =
+    let tells : TellsWhat u = all_at TellsWhat project.plan.planned index u (keys_tell_what project.workspace project.features selection project.profile project.plan settled plan) at in
+    let has : HasSettings project.workspace plan.line u = all_at (HasSettings project.workspace plan.line) project.plan.planned index u plan.settings at in
     subst (λ (o : Option Package). judge (command_for setup project u done o) r ≡ inputs_if (answered_of project u (command_for setup project u done o) (ended_by r) (file_at (dep_info_of project u) (replied_files u.out r))))
     (sym has.package_at) (in_package setup project u done has.owner r has.package_at tells.out)

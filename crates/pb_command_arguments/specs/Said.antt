@@ -48,7 +48,7 @@ binary_word name _ = []
 
 -- the search folders that the run at an index requests, in printed order
 abbrev pub searched_words : List (Option (List Directive)) → ℕ → List (List ℕ)
-searched_words done place = flat_map search_word (said_at done place)
+searched_words done index = flat_map search_word (said_at done index)
 
 -- the search folders that are requested by the runs that the unit reaches, in plan order
 abbrev pub search_words : Planned → List (Option (List Directive)) → List (List ℕ)

@@ -21,11 +21,11 @@ fn push_read(
     alloc: Global,
     reads: &mut Items<PathText>,
     project: &Project,
-    place: usize,
+    index: usize,
 ) -> Result<(), AllocError>
-    ensures { OnOk result (reads.new ≡ reads.old ++ read_at project.now place) }
+    ensures { OnOk result (reads.new ≡ reads.old ++ read_at project.now index) }
 {
-    if let Some(unit) = unit_at(project, place) {
+    if let Some(unit) = unit_at(project, index) {
         reads.push(unit.out.copy(alloc)?)?;
     }
     Ok(())
@@ -36,12 +36,12 @@ fn push_reads(
     alloc: Global,
     reads: &mut Items<PathText>,
     project: &Project,
-    places: &[usize],
+    indices: &[usize],
 ) -> Result<(), AllocError>
-    ensures { OnOk result (reads.new ≡ reads.old ++ flat_map (read_at project.now) places.now) }
+    ensures { OnOk result (reads.new ≡ reads.old ++ flat_map (read_at project.now) indices.now) }
 {
-    for place in places {
-        push_read(alloc, reads, project, *place)?;
+    for index in indices {
+        push_read(alloc, reads, project, *index)?;
     }
     Ok(())
 }
@@ -76,11 +76,11 @@ fn push_folder_at(
     alloc: Global,
     words: &mut Items<Text>,
     project: &Project,
-    place: usize,
+    index: usize,
 ) -> Result<(), AllocError>
-    ensures { OnOk result (words.new ≡ words.old ++ folder_words_at project.now place) }
+    ensures { OnOk result (words.new ≡ words.old ++ folder_words_at project.now index) }
 {
-    match unit_at(project, place) {
+    match unit_at(project, index) {
         Some(unit) => {
             if is_library(&unit.unit.what) {
                 push_folder(alloc, words, unit.out.as_str())?;
@@ -96,13 +96,13 @@ fn push_folders(
     alloc: Global,
     words: &mut Items<Text>,
     project: &Project,
-    places: &[usize],
+    indices: &[usize],
 ) -> Result<(), AllocError>
     ensures { OnOk result (words.new ≡ words.old
-        ++ flat_map (folder_words_at project.now) places.now) }
+        ++ flat_map (folder_words_at project.now) indices.now) }
 {
-    for place in places {
-        push_folder_at(alloc, words, project, *place)?;
+    for index in indices {
+        push_folder_at(alloc, words, project, *index)?;
     }
     Ok(())
 }

@@ -219,11 +219,11 @@ fn push_searched(
     alloc: Global,
     words: &mut Items<Text>,
     done: &[Option<Directives>],
-    place: usize,
+    index: usize,
 ) -> Result<(), AllocError>
-    ensures { OnOk result (words.new ≡ words.old ++ searched_words done.now place) }
+    ensures { OnOk result (words.new ≡ words.old ++ searched_words done.now index) }
 {
-    push_searches(alloc, words, said_at(done, place))
+    push_searches(alloc, words, said_at(done, index))
 }
 
 /// Adds the search folders of the runs at some indices.
@@ -231,12 +231,12 @@ fn push_all_searched(
     alloc: Global,
     words: &mut Items<Text>,
     done: &[Option<Directives>],
-    places: &[usize],
+    indices: &[usize],
 ) -> Result<(), AllocError>
-    ensures { OnOk result (words.new ≡ words.old ++ flat_map (searched_words done.now) places.now) }
+    ensures { OnOk result (words.new ≡ words.old ++ flat_map (searched_words done.now) indices.now) }
 {
-    for place in places {
-        push_searched(alloc, words, done, *place)?;
+    for index in indices {
+        push_searched(alloc, words, done, *index)?;
     }
     Ok(())
 }

@@ -152,11 +152,11 @@ fn set_out(
     alloc: Global,
     all: &mut TextMap,
     project: &Project,
-    place: usize,
+    index: usize,
 ) -> Result<(), AllocError>
-    ensures { OnOk result (all.new ≡ all_set all.old (out_pairs (unit_at project.now place))) }
+    ensures { OnOk result (all.new ≡ all_set all.old (out_pairs (unit_at project.now index))) }
 {
-    match unit_at(project, place) {
+    match unit_at(project, index) {
         Some(unit) => {
             all.insert(alloc, "OUT_DIR", unit.out.as_str())?;
             Ok(())
@@ -172,12 +172,12 @@ fn set_run_at(
     all: &mut TextMap,
     project: &Project,
     done: &[Option<Directives>],
-    place: usize,
+    index: usize,
 ) -> Result<(), AllocError>
-    ensures { OnOk result (all.new ≡ all_set all.old (run_at project.now done.now place)) }
+    ensures { OnOk result (all.new ≡ all_set all.old (run_at project.now done.now index)) }
 {
-    set_out(alloc, all, project, place)?;
-    set_envs(alloc, all, said_at(done, place))?;
+    set_out(alloc, all, project, index)?;
+    set_envs(alloc, all, said_at(done, index))?;
     Ok(())
 }
 
@@ -193,7 +193,7 @@ fn set_own_run(
         ≡ all_set all.old (own_run_pairs project.now unit.now done.now)) }
 {
     match own_run(project, unit) {
-        Some(place) => set_run_at(alloc, all, project, done, place),
+        Some(index) => set_run_at(alloc, all, project, done, index),
         None => Ok(()),
     }
 }

@@ -271,13 +271,13 @@ fn set_passed_by(
     alloc: Global,
     all: &mut TextMap,
     project: &Project,
-    place: usize,
+    index: usize,
     said: &Directives,
 ) -> Result<(), AllocError>
     ensures { OnOk result (all.new
-        ≡ all_set all.old (passed_by project.now (unit_at project.now place) said.now)) }
+        ≡ all_set all.old (passed_by project.now (unit_at project.now index) said.now)) }
 {
-    match unit_at(project, place) {
+    match unit_at(project, index) {
         Some(unit) => {
             if is_run(&unit.unit.what) {
                 set_linked(alloc, all, package_of(project, unit), said)?;
@@ -295,15 +295,15 @@ fn set_passed_at(
     all: &mut TextMap,
     project: &Project,
     done: &[Option<Directives>],
-    place: usize,
+    index: usize,
 ) -> Result<(), AllocError>
-    ensures { OnOk result (all.new ≡ all_set all.old (passed_at project.now done.now place)) }
+    ensures { OnOk result (all.new ≡ all_set all.old (passed_at project.now done.now index)) }
 {
-    match done.get(place) {
-        Some(Some(said)) => set_passed_by(alloc, all, project, place, said),
+    match done.get(index) {
+        Some(Some(said)) => set_passed_by(alloc, all, project, index, said),
         _ => {
             let nothing = Items::new(alloc);
-            set_passed_by(alloc, all, project, place, &nothing)
+            set_passed_by(alloc, all, project, index, &nothing)
         }
     }
 }
@@ -315,13 +315,13 @@ fn set_passed(
     all: &mut TextMap,
     project: &Project,
     done: &[Option<Directives>],
-    places: &[usize],
+    indices: &[usize],
 ) -> Result<(), AllocError>
     ensures { OnOk result (all.new
-        ≡ all_set all.old (flat_map (passed_at project.now done.now) places.now)) }
+        ≡ all_set all.old (flat_map (passed_at project.now done.now) indices.now)) }
 {
-    for place in places {
-        set_passed_at(alloc, all, project, done, *place)?;
+    for index in indices {
+        set_passed_at(alloc, all, project, done, *index)?;
     }
     Ok(())
 }

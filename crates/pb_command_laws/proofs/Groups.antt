@@ -190,17 +190,17 @@ folder_gives : (u : Planned) → Gives (folder_words u.out) (codes "-L") (depend
 unfolding folder_words option
 folder_gives u = gives_one (codes "-L") (dependency_in u) refl
 
-pub folders_give : (project : Project) (places : List ℕ) → Gives (flat_map (folder_words_at project) places) (codes "-L") (map dependency_in (libraries_at project places))
+pub folders_give : (project : Project) (indices : List ℕ) → Gives (flat_map (folder_words_at project) indices) (codes "-L") (map dependency_in (libraries_at project indices))
 folders_give project [] = gives_none (codes "-L")
-folders_give project (place ∷ places) = by (unit_at project place) (folders_give project places)
+folders_give project (index ∷ indices) = by (unit_at project index) (folders_give project indices)
   where
-    by : (u : Option Planned) → Gives (flat_map (folder_words_at project) places) (codes "-L") (map dependency_in (libraries_at project places))
-        → Gives (folder_words_in u ++ flat_map (folder_words_at project) places) (codes "-L") (map dependency_in (filter (λ (u : Planned). is_library u.unit.what) (cons_option u (filter_map (unit_at project) places))))
+    by : (u : Option Planned) → Gives (flat_map (folder_words_at project) indices) (codes "-L") (map dependency_in (libraries_at project indices))
+        → Gives (folder_words_in u ++ flat_map (folder_words_at project) indices) (codes "-L") (map dependency_in (filter (λ (u : Planned). is_library u.unit.what) (cons_option u (filter_map (unit_at project) indices))))
     by None rest = rest
     by (Some u) rest = kind (is_library u.unit.what)
       where
-        kind : (r : Bool) → Gives (cond r (folder_words u.out) [] ++ flat_map (folder_words_at project) places) (codes "-L") (map dependency_in (cond r (u ∷ libraries_at project places) (libraries_at project places)))
-        kind true = gives_both (folder_words u.out) (flat_map (folder_words_at project) places) (codes "-L") (dependency_in u ∷ []) (map dependency_in (libraries_at project places)) (folder_gives u) rest
+        kind : (r : Bool) → Gives (cond r (folder_words u.out) [] ++ flat_map (folder_words_at project) indices) (codes "-L") (map dependency_in (cond r (u ∷ libraries_at project indices) (libraries_at project indices)))
+        kind true = gives_both (folder_words u.out) (flat_map (folder_words_at project) indices) (codes "-L") (dependency_in u ∷ []) (map dependency_in (libraries_at project indices)) (folder_gives u) rest
         kind false = rest
 
 extern_gives : (pair : List ℕ × List ℕ) → Gives (extern_word pair) (codes "--extern") (pair.1 ∷ [])
@@ -281,15 +281,15 @@ arguments_give name said =
     (gives_both (flat_map argument_word said) (flat_map binaries_word said) (codes "-C") (map link_arg all) (map link_arg binaries) (flags_give argument_word flag_for_all said argument_gives) (flags_give binaries_word flag_for_binaries said binaries_gives))
     (flags_give (binary_word name) (flag_for name) said (binary_gives name)))
 
-pub searches_give : (done : List (Option (List Directive))) (places : List ℕ) → Gives (flat_map (searched_words done) places) (codes "-L") (flat_map folder_searched (flat_map (said_at done) places))
+pub searches_give : (done : List (Option (List Directive))) (indices : List ℕ) → Gives (flat_map (searched_words done) indices) (codes "-L") (flat_map folder_searched (flat_map (said_at done) indices))
 searches_give done [] = gives_none (codes "-L")
-searches_give done (place ∷ places) =
-    let words = flat_map search_word (said_at done place) in
-    let later = flat_map (searched_words done) places in
-    let here = flat_map folder_searched (said_at done place) in
-    let there = flat_map folder_searched (flat_map (said_at done) places) in
-    gives_same (words ++ later) (codes "-L") (here ++ there) (flat_map folder_searched (said_at done place ++ flat_map (said_at done) places)) (sym (flat_map-append folder_searched (said_at done place) (flat_map (said_at done) places)))
-    (gives_both words later (codes "-L") here there (gives_each (codes "-L") search_word folder_searched (said_at done place) search_gives) (searches_give done places))
+searches_give done (index ∷ indices) =
+    let words = flat_map search_word (said_at done index) in
+    let later = flat_map (searched_words done) indices in
+    let here = flat_map folder_searched (said_at done index) in
+    let there = flat_map folder_searched (flat_map (said_at done) indices) in
+    gives_same (words ++ later) (codes "-L") (here ++ there) (flat_map folder_searched (said_at done index ++ flat_map (said_at done) indices)) (sym (flat_map-append folder_searched (said_at done index) (flat_map (said_at done) indices)))
+    (gives_both words later (codes "-L") here there (gives_each (codes "-L") search_word folder_searched (said_at done index) search_gives) (searches_give done indices))
 
 -- what the run of the unit's own package asks for
 abbrev pub linked_by : What → Option Library → List Directive → List (List ℕ)

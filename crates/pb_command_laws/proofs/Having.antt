@@ -57,13 +57,13 @@ same_pairs (d ∷ said) = λ i. one d i ++ same_pairs said i
     one _ = refl
 
 -- what the run of the unit's own package gives
-run_parted : (project : Project) (done : List (Option (List Directive))) (place : Option ℕ) → run_there project done place ≡ row (codes "OUT_DIR") (folder_at project place) ++ flat_map variable_set (said_there done place)
+run_parted : (project : Project) (done : List (Option (List Directive))) (index : Option ℕ) → run_there project done index ≡ row (codes "OUT_DIR") (folder_at project index) ++ flat_map variable_set (said_there done index)
 run_parted project done None = refl
-run_parted project done (Some place) = by (unit_at project place)
+run_parted project done (Some index) = by (unit_at project index)
   where
-    by : (u : Option Planned) → out_pairs u ++ flat_map env_pair (said_at done place) ≡ row (codes "OUT_DIR") (option_map (λ (u : Planned). u.out) u) ++ flat_map variable_set (said_at done place)
-    by None = same_pairs (said_at done place)
-    by (Some u) = ap (λ more. (codes "OUT_DIR", u.out) ∷ more) (same_pairs (said_at done place))
+    by : (u : Option Planned) → out_pairs u ++ flat_map env_pair (said_at done index) ≡ row (codes "OUT_DIR") (option_map (λ (u : Planned). u.out) u) ++ flat_map variable_set (said_at done index)
+    by None = same_pairs (said_at done index)
+    by (Some u) = ap (λ more. (codes "OUT_DIR", u.out) ∷ more) (same_pairs (said_at done index))
 
 module _ (setup : Setup) (project : Project) (unit : Planned) (done : List (Option (List Directive))) (p : Package) where
   -- what a compile has behind what every unit has

@@ -110,15 +110,15 @@ module _ (project : Project) (unit : Planned) (p : Package) (settled : IsSettled
   library_plain None is = refl
   library_plain (Some l) is = crate_plain l.name is
 
-  package_is : (place : ℕ) (q : Package) → slice_get project.workspace.packages place ≡ Some q → IsPackage (length project.workspace.packages) q
-  package_is place q at = all_at (IsPackage (length project.workspace.packages)) project.workspace.packages place q settled.packages at
+  package_is : (index : ℕ) (q : Package) → slice_get project.workspace.packages index ≡ Some q → IsPackage (length project.workspace.packages) q
+  package_is index q at = all_at (IsPackage (length project.workspace.packages)) project.workspace.packages index q settled.packages at
 
-  library_at_plain : (place : ℕ) → IsPlain (library_name_at project place)
-  library_at_plain place = by (slice_get project.workspace.packages place) refl
+  library_at_plain : (index : ℕ) → IsPlain (library_name_at project index)
+  library_at_plain index = by (slice_get project.workspace.packages index) refl
     where
-      by : (q : Option Package) → slice_get project.workspace.packages place ≡ q → IsPlain (library_name (library_in q))
+      by : (q : Option Package) → slice_get project.workspace.packages index ≡ q → IsPlain (library_name (library_in q))
       by None at = refl
-      by (Some q) at = library_plain q.library (package_is place q at).crate_name
+      by (Some q) at = library_plain q.library (package_is index q at).crate_name
 
   entry_plain : (n : ℕ) (entry : Entry) → slice_get p.entries n ≡ Some entry → IsPlain (entry_name project entry)
   entry_plain n entry at = by entry.renamed

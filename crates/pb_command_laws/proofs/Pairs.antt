@@ -22,7 +22,7 @@ pub all_from : {A : Type 0} (P : A → Type 0) (xs : List A) → ((x : A) → Co
 all_from P [] each = tt
 all_from P (x ∷ xs) each = (each x (head x xs), all_from P xs (λ y there. each y (tail x xs y there)))
 
--- what holds of each of a list holds of the one at a place
+-- what holds of each of a list holds of the one at an index
 pub all_at : {A : Type 0} (P : A → Type 0) (xs : List A) (k : ℕ) (x : A) → All P xs → slice_get xs k ≡ Some x → P x
 all_at P xs k x all at = subst P (get_or_from_slice_get xs k x x at) (all k x (slice_get_within xs k x at))
 

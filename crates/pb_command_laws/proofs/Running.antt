@@ -76,25 +76,25 @@ module _ (project : Project) (done : Lines) where
       of None = refl
       of (Some links) = refl
 
-  same_place : (place : ℕ) → passed_at project done place ≡ tabled_on (option_and_then (links_of_run project) (unit_at project place)) (said_at done place)
+  same_index : (index : ℕ) → passed_at project done index ≡ tabled_on (option_and_then (links_of_run project) (unit_at project index)) (said_at done index)
   unfolding passed_at
-  same_place place = by (unit_at project place)
+  same_index index = by (unit_at project index)
     where
-      by : (u : Option Planned) → passed_by project u (said_at done place) ≡ tabled_on (option_and_then (links_of_run project) u) (said_at done place)
+      by : (u : Option Planned) → passed_by project u (said_at done index) ≡ tabled_on (option_and_then (links_of_run project) u) (said_at done index)
       by None = refl
       by (Some u) = kind (is_run u.unit.what)
         where
-          kind : (r : Bool) → cond r (linked_pairs (links_in (package_of project u)) (said_at done place)) [] ≡ tabled_on (cond r (option_and_then (λ (p : Package). p.links) (package_of project u)) None) (said_at done place)
-          kind true = same_links (package_of project u) (said_at done place)
+          kind : (r : Bool) → cond r (linked_pairs (links_in (package_of project u)) (said_at done index)) [] ≡ tabled_on (cond r (option_and_then (λ (p : Package). p.links) (package_of project u)) None) (said_at done index)
+          kind true = same_links (package_of project u) (said_at done index)
           kind false = refl
 
-  handed_last : (places : List ℕ) (name : List ℕ) → last_value name (flat_map (passed_at project done) places) ≡ last_value name (flat_map (handed_on project done) places)
+  handed_last : (indices : List ℕ) (name : List ℕ) → last_value name (flat_map (passed_at project done) indices) ≡ last_value name (flat_map (handed_on project done) indices)
   handed_last [] name = refl
-  handed_last (place ∷ places) name =
-      let links = option_and_then (links_of_run project) (unit_at project place) in
-      last-append name (passed_at project done place) (flat_map (passed_at project done) places)
-      ∙ (λ i. option_or (handed_last places name i) ((ap (last_value name) (same_place place) ∙ tabled_last links (said_at done place) name) i))
-      ∙ sym (last-append name (handed_on project done place) (flat_map (handed_on project done) places))
+  handed_last (index ∷ indices) name =
+      let links = option_and_then (links_of_run project) (unit_at project index) in
+      last-append name (passed_at project done index) (flat_map (passed_at project done) indices)
+      ∙ (λ i. option_or (handed_last indices name i) ((ap (last_value name) (same_index index) ∙ tabled_last links (said_at done index) name) i))
+      ∙ sym (last-append name (handed_on project done index) (flat_map (handed_on project done) indices))
 
 -- ---- features, settings, what the package links
 

@@ -16,12 +16,12 @@ use Rattle.pb_command_laws.specs.Starts.{StartsCompiler, StartsScript, CompilesS
 abbrev Lines : Type 0
 Lines = List (Option (List Directive))
 
-reads_are : (project : Project) (places : List ℕ) → flat_map (read_at project) places ≡ map (λ (u : Planned). u.out) (filter_map (unit_at project) places)
+reads_are : (project : Project) (indices : List ℕ) → flat_map (read_at project) indices ≡ map (λ (u : Planned). u.out) (filter_map (unit_at project) indices)
 reads_are project [] = refl
-reads_are project (place ∷ places) = by (unit_at project place) (reads_are project places)
+reads_are project (index ∷ indices) = by (unit_at project index) (reads_are project indices)
   where
-    by : (u : Option Planned) → flat_map (read_at project) places ≡ map (λ (u : Planned). u.out) (filter_map (unit_at project) places)
-        → folder_in u ++ flat_map (read_at project) places ≡ map (λ (u : Planned). u.out) (cons_option u (filter_map (unit_at project) places))
+    by : (u : Option Planned) → flat_map (read_at project) indices ≡ map (λ (u : Planned). u.out) (filter_map (unit_at project) indices)
+        → folder_in u ++ flat_map (read_at project) indices ≡ map (λ (u : Planned). u.out) (cons_option u (filter_map (unit_at project) indices))
     by None later = later
     by (Some u) later = ap (λ folders. u.out ∷ folders) later
 

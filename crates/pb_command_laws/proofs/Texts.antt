@@ -23,18 +23,18 @@ module _ {T U : Type 0} (read : List ℕ → Result T Problem) where
   -- lines of which the first has this number
   data From (all : List T → U) (number : ℕ) (lines : List (List ℕ)) : Result U LineFault → Type 0 where
     each : (parts : List T) (are : AllZip (λ line part. read line ≡ Ok part) lines parts) → From all number lines (Ok (all parts))
-    first : (place k : ℕ) (is : k ≡ place + number) (line : List ℕ) (problem : Problem) (there : slice_get lines place ≡ Some line) (wrong : read line ≡ Err problem)
-        (before : (n : ℕ) (other : List ℕ) → n < place → slice_get lines n ≡ Some other → is_ok (read other) ≡ true) → From all number lines (Err (fault_at k problem))
+    first : (index k : ℕ) (is : k ≡ index + number) (line : List ℕ) (problem : Problem) (there : slice_get lines index ≡ Some line) (wrong : read line ≡ Err problem)
+        (before : (n : ℕ) (other : List ℕ) → n < index → slice_get lines n ≡ Some other → is_ok (read other) ≡ true) → From all number lines (Err (fault_at k problem))
 
   from_one : (all : List T → U) (lines : List (List ℕ)) (answer : Result U LineFault) → From all 1 lines answer → LinesAreRead read all lines answer
   from_one all lines _ (each parts are) = texts.each parts are
-  from_one all lines _ (first place k is line problem there wrong before) =
-      subst (λ n. LinesAreRead read all lines (Err (fault_at n problem))) (sym is) (texts.first place line problem there wrong before)
+  from_one all lines _ (first index k is line problem there wrong before) =
+      subst (λ n. LinesAreRead read all lines (Err (fault_at n problem))) (sym is) (texts.first index line problem there wrong before)
 
   -- put on the parts of the whole
   put : {V : Type 0} (put_on : U → V) (all : List T → U) (lines : List (List ℕ)) (answer : Result U LineFault) → LinesAreRead read all lines answer → LinesAreRead read (λ parts. put_on (all parts)) lines (answer >>= (λ u. Ok (put_on u)))
   put put_on all lines _ (texts.each parts are) = texts.each parts are
-  put put_on all lines _ (texts.first place line problem there wrong before) = texts.first place line problem there wrong before
+  put put_on all lines _ (texts.first index line problem there wrong before) = texts.first index line problem there wrong before
 
   module _ (nothing : U) (join : T → U → U) (fold : ℕ → List (List ℕ) → Result U LineFault) (base : (number : ℕ) → fold number [] ≡ Ok nothing)
       (step : (number : ℕ) (line : List ℕ) (lines : List (List ℕ)) → fold number (line ∷ lines) ≡ lifted (fault_at number) (read line) >>= (λ here. fold (number + 1) lines >>= (λ more. Ok (join here more)))) where
@@ -43,9 +43,9 @@ module _ {T U : Type 0} (read : List ℕ → Result T Problem) where
 
     one_more : (number : ℕ) (line : List ℕ) (lines : List (List ℕ)) (part : T) → read line ≡ Ok part → (rest : Result U LineFault) → From all (number + 1) lines rest → From all number (line ∷ lines) (rest >>= (λ more. Ok (join part more)))
     one_more number line lines part reads _ (each parts are) = each (part ∷ parts) (reads, are)
-    one_more number line lines part reads _ (first place k is other problem there wrong before) = first (suc place) k (omega arith) other problem there wrong ok_before
+    one_more number line lines part reads _ (first index k is other problem there wrong before) = first (suc index) k (omega arith) other problem there wrong ok_before
       where
-        ok_before : (n : ℕ) (other : List ℕ) → n < suc place → slice_get (line ∷ lines) n ≡ Some other → is_ok (read other) ≡ true
+        ok_before : (n : ℕ) (other : List ℕ) → n < suc index → slice_get (line ∷ lines) n ≡ Some other → is_ok (read other) ≡ true
         ok_before zero other low at = let same : line ≡ other = cc in ap (λ l. is_ok (read l)) (sym same) ∙ ap is_ok reads
         ok_before (suc n) other low at = before n other (omega arith) at
 
@@ -69,7 +69,7 @@ module _ {T U : Type 0} (read : List ℕ → Result T Problem) where
 
 same_all : {T U : Type 0} (read : List ℕ → Result T Problem) (all other : List T → U) (lines : List (List ℕ)) (answer : Result U LineFault) → ((parts : List T) → all parts ≡ other parts) → LinesAreRead read all lines answer → LinesAreRead read other lines answer
 same_all read all other lines _ same (texts.each parts are) = subst (λ u. LinesAreRead read other lines (Ok u)) (sym (same parts)) (texts.each parts are)
-same_all read all other lines _ same (texts.first place line problem there wrong before) = texts.first place line problem there wrong before
+same_all read all other lines _ same (texts.first index line problem there wrong before) = texts.first index line problem there wrong before
 
 said_all : (parts : List (List Directive)) → all_of [] (λ here more. here ++ more) parts ≡ flat_map (λ said. said) parts
 said_all [] = refl

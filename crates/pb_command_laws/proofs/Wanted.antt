@@ -77,14 +77,14 @@ module _ (project : Project) (u : Planned) (p : Package) (stands : StandsInPlan 
       all_at (λ (x : Planned). x.out ≡ below (profile_folder project.workspace project.profile) x.key) project.plan.planned k v stands.planned.folders at
       ∙ ap (below (profile_folder project.workspace project.profile)) (all_at (λ (x : Planned). x.key ≡ key_of project.workspace x.unit) project.plan.planned k v stands.planned.keys at)
 
-  -- the library of the package at a place, as the unit needs it
+  -- the library of the package at an index, as the unit needs it
   record IsNeeded (owner : ℕ) (file : Option (List ℕ)) : Type 0 where
     made : has_library (slice_get project.workspace.packages owner) ≡ true
     file_is : file ≡ file_in (folder_of project (unit owner side Lib)) (codes "lib" ++ crate_at project owner ++ codes ".rlib")
 
   at_need : (owner k : ℕ) → is_run u.unit.what ≡ false → needed is_library project u owner ≡ Some k → IsNeeded owner (library_file project u owner)
   at_need owner k compiles is =
-      let (v, at, passes, owner_is, need) = found_is project stands.selection stands.planned stands.place u stands.there is_library owner k is in
+      let (v, at, passes, owner_is, need) = found_is project stands.selection stands.planned stands.index u stands.there is_library owner k is in
       let of = library_need project.workspace project.features u.unit.owner u.unit.side u.unit.what v.unit compiles need passes in
       let what_is = library_is v.unit.what passes in
       let same : v.unit ≡ unit owner side Lib = λ i. record { owner = owner_is i; side = of.side_is i; what = what_is i } in
@@ -131,7 +131,7 @@ module _ (project : Project) (u : Planned) (p : Package) (stands : StandsInPlan 
   library_to : (owner : ℕ) (crate file : List ℕ) → is_run u.unit.what ≡ false → IsLibraryOf project owner side crate file
       → Contains (needs_of project.workspace project.features u.unit.owner u.unit.side u.unit.what) (unit owner side Lib) → library_file project u owner ≡ Some file
   library_to owner crate file compiles of need =
-      let (k, is) = is_found project stands.selection stands.planned stands.place u stands.there is_library (unit owner side Lib) need refl in
+      let (k, is) = is_found project stands.selection stands.planned stands.index u stands.there is_library (unit owner side Lib) need refl in
       (at_need owner k compiles is).file_is
       ∙ ap (λ c. file_in (folder_of project (unit owner side Lib)) (codes "lib" ++ c ++ codes ".rlib")) (crate_so owner side crate file of) ∙ of.file_is
 
@@ -170,16 +170,16 @@ module _ (project : Project) (u : Planned) (p : Package) (stands : StandsInPlan 
   hears_own : hears u.unit.what ≡ true → HearsOwnRun project u p
   hears_own kind = record { some = some; none = none }
     where
-      some : is_some p.script ≡ true → (place : ℕ) × (own_run project u ≡ Some place) × IsRunOf project u.unit.owner u.unit.side place
+      some : is_some p.script ≡ true → (index : ℕ) × (own_run project u ≡ Some index) × IsRunOf project u.unit.owner u.unit.side index
       some has =
           let need = run_needed project.workspace project.features u.unit.owner u.unit.side u.unit.what (kind_is u.unit.what kind) (ap has_script stands.owner ∙ has) in
-          let (k, is) = is_found project stands.selection stands.planned stands.place u stands.there is_run (unit u.unit.owner u.unit.side Run) need refl in
-          let (v, at, passes, owner_is, among) = found_is project stands.selection stands.planned stands.place u stands.there is_run u.unit.owner k is in
+          let (k, is) = is_found project stands.selection stands.planned stands.index u stands.there is_run (unit u.unit.owner u.unit.side Run) need refl in
+          let (v, at, passes, owner_is, among) = found_is project stands.selection stands.planned stands.index u stands.there is_run u.unit.owner k is in
           let own = run_need project.workspace project.features u.unit.owner u.unit.side u.unit.what v.unit (kind_is u.unit.what kind) among passes in
           (k, is, record { run = v; there = at; is = own.is })
 
       none : is_some p.script ≡ false → own_run project u ≡ None
-      none has = none_found project stands.selection stands.planned stands.place u stands.there is_run u.unit.owner (λ v among passes.
+      none has = none_found project stands.selection stands.planned stands.index u stands.there is_run u.unit.owner (λ v among passes.
           let own = run_need project.workspace project.features u.unit.owner u.unit.side u.unit.what v (kind_is u.unit.what kind) among passes in
           let wrong : is_some p.script ≡ true = ap has_script (sym stands.owner) ∙ own.made in
           absurd (cc))
@@ -191,8 +191,8 @@ module _ (project : Project) (u : Planned) (p : Package) (stands : StandsInPlan 
       let what_is = run_is u.unit.what runs in
       let need : Contains (needs_of project.workspace project.features u.unit.owner u.unit.side u.unit.what) (unit u.unit.owner u.unit.side Script) =
       subst (λ what. Contains (needs_of project.workspace project.features u.unit.owner u.unit.side what) (unit u.unit.owner u.unit.side Script)) (sym what_is) (head (unit u.unit.owner u.unit.side Script) _) in
-      let (k, is) = is_found project stands.selection stands.planned stands.place u stands.there is_script (unit u.unit.owner u.unit.side Script) need refl in
-      let (v, at, passes, owner_is, among) = found_is project stands.selection stands.planned stands.place u stands.there is_script u.unit.owner k is in
+      let (k, is) = is_found project stands.selection stands.planned stands.index u stands.there is_script (unit u.unit.owner u.unit.side Script) need refl in
+      let (v, at, passes, owner_is, among) = found_is project stands.selection stands.planned stands.index u stands.there is_script u.unit.owner k is in
       let same : v.unit ≡ unit u.unit.owner u.unit.side Script =
       script_need project.workspace project.features u.unit.owner u.unit.side v.unit (subst (λ what. Contains (needs_of project.workspace project.features u.unit.owner u.unit.side what) v.unit) what_is among) passes in
       let out : v.out ≡ folder_of project (unit u.unit.owner u.unit.side Script) = out_is k v at ∙ ap (folder_of project) same in

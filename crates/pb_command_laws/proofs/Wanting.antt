@@ -17,7 +17,7 @@ use Rattle.pb_workspace_types.specs.declared.package.Side.TheVariants.{Host}
 use Rattle.pb_workspace_types.specs.declared.workspace.Workspace.{Workspace}
 use Rattle.pb_command_types.specs.Targets.{unit_at, is_library, is_script, is_run, is_one_of, needed}
 use Rattle.pb_command_types.specs.declared.project.Project.{Project}
-use Rattle.pb_unit.specs.Plan.{ArePlaces, IsPlan}
+use Rattle.pb_unit.specs.Plan.{AreIndices, IsPlan}
 use Rattle.pb_unit.specs.Units.{unit, has_library, has_script, hands_on, entries_at, is_normal, is_build, library_by, tool_by, run_by, libraries, tools, runs, own_library, own_run, needs_of, needs, Reaches, direct, onward, IsPlanned}
 use Rattle.pb_unit.specs.declared.plan.Planned.{Planned}
 use Rattle.pb_unit.specs.declared.unit.Unit.{Unit as OfPlan}
@@ -207,16 +207,16 @@ longer : (ws : Workspace) (features : Features) (a b c : OfPlan) → Reaches ws 
 longer ws features _ _ c (direct a b need) more = onward a b c need (direct b c more)
 longer ws features _ _ c (onward a d b need rest) more = onward a d c need (longer ws features d b c rest more)
 
-module _ (project : Project) (selection : Selection) (planned : IsPlan project.workspace project.features selection project.profile project.plan) (place : ℕ) (u : Planned) (there : slice_get project.plan.planned place ≡ Some u) where
+module _ (project : Project) (selection : Selection) (planned : IsPlan project.workspace project.features selection project.profile project.plan) (index : ℕ) (u : Planned) (there : slice_get project.plan.planned index ≡ Some u) where
   abbrev pub wanted : List OfPlan
   wanted = needs project.workspace project.features u.unit
 
-  places : ArePlaces project.plan.planned (Contains wanted) u.needs
-  places = all_at (λ (p : Planned). ArePlaces project.plan.planned (Contains (needs project.workspace project.features p.unit)) p.needs) project.plan.planned place u planned.needs there
+  indices : AreIndices project.plan.planned (Contains wanted) u.needs
+  indices = all_at (λ (p : Planned). AreIndices project.plan.planned (Contains (needs project.workspace project.features p.unit)) p.needs) project.plan.planned index u planned.needs there
 
   -- what is needed is planned
   need_planned : (v : OfPlan) → Contains wanted v → IsPlanned project.workspace project.features selection v
-  need_planned v need = elim ((planned.units u.unit).0 (contains_map (λ (p : Planned). p.unit) project.plan.planned u (contains_from_at project.plan.planned place u there))) [
+  need_planned v need = elim ((planned.units u.unit).0 (contains_map (λ (p : Planned). p.unit) project.plan.planned u (contains_from_at project.plan.planned index u there))) [
     | inl root ↦ inr (u.unit, root, direct u.unit v need)
     | inr reached ↦ inr (reached.0, reached.1, longer project.workspace project.features reached.0 u.unit v reached.2 need)
   ]
@@ -224,8 +224,8 @@ module _ (project : Project) (selection : Selection) (planned : IsPlan project.w
   -- what is found among its needs is one of them
   pub found_is : (test : What → Bool) (owner k : ℕ) → needed test project u owner ≡ Some k → (v : Planned) × (unit_at project k ≡ Some v) × (test v.unit.what ≡ true) × (v.unit.owner ≡ owner) × Contains wanted v.unit
   found_is test owner k is =
-      let (among, passes) = find_from (λ place. is_one_of test owner (unit_at project place)) u.needs k is in
-      let (v, at, need) = (places.same k).0 among in
+      let (among, passes) = find_from (λ index. is_one_of test owner (unit_at project index)) u.needs k is in
+      let (v, at, need) = (indices.same k).0 among in
       let on : (test v.unit.what && (v.unit.owner == owner)) ≡ true = ap (is_one_of test owner) (sym at) ∙ passes in
       (v, at, first_on (test v.unit.what) (v.unit.owner == owner) on, (Decides-eqb v.unit.owner owner).0 (second_on (test v.unit.what) (v.unit.owner == owner) on), need)
 
@@ -236,7 +236,7 @@ module _ (project : Project) (selection : Selection) (planned : IsPlan project.w
       let (k, at) = at_from_contains project.plan.planned w among in
       let itself : (v.owner == v.owner) ≡ true = (Decides-eqb v.owner v.owner).1 refl in
       let one : (test w.unit.what && (w.unit.owner == v.owner)) ≡ true = ap (λ (x : OfPlan). test x.what && (x.owner == v.owner)) same ∙ (λ i. passes i && itself i) in
-      find_to (λ place. is_one_of test v.owner (unit_at project place)) u.needs k ((places.same k).1 (w, at, subst (Contains wanted) (sym same) need)) (ap (is_one_of test v.owner) at ∙ one)
+      find_to (λ index. is_one_of test v.owner (unit_at project index)) u.needs k ((indices.same k).1 (w, at, subst (Contains wanted) (sym same) need)) (ap (is_one_of test v.owner) at ∙ one)
 
   -- what is not needed is not found
   pub none_found : (test : What → Bool) (owner : ℕ) → ((v : OfPlan) → Contains wanted v → test v.what ≡ true → ⊥) → needed test project u owner ≡ None

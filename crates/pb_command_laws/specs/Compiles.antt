@@ -112,7 +112,7 @@ features_there_are features = codes "cfg(feature, values(" ++ join_by (λ (f : F
 
 -- the units at these indices that are libraries
 abbrev pub libraries_at : Project → List ℕ → List Planned
-libraries_at project places = filter (λ (u : Planned). is_library u.unit.what) (filter_map (unit_at project) places)
+libraries_at project indices = filter (λ (u : Planned). is_library u.unit.what) (filter_map (unit_at project) indices)
 
 -- What the arguments of a compile say. `lines` are the directives that the unit hears. `Is` is true
 -- of the libraries that the unit gets.

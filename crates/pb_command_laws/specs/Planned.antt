@@ -23,9 +23,9 @@ use Rattle.pb_command_laws.specs.Libraries.{IsLibrary}
 -- the unit is in the plan of its project, and belongs to the package
 pub record StandsInPlan (project : Project) (u : Planned) (p : Package) : Type 0 where
   pub selection : Selection
-  pub place : ℕ
+  pub index : ℕ
   pub planned : IsPlan project.workspace project.features selection project.profile project.plan
-  pub there : slice_get project.plan.planned place ≡ Some u
+  pub there : slice_get project.plan.planned index ≡ Some u
   pub owner : package_of project u ≡ Some p
 
 -- the output folder of a unit, which is `TARGET/PROFILE/KEY`

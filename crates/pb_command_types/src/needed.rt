@@ -11,10 +11,10 @@ use pb_unit::{Planned, What};
 use std::alloc::{AllocError, Global};
 
 /// Returns the unit at an index of the plan.
-pub fn unit_at(project: &Project, place: usize) -> Option<&Planned>
-    ensures { option_map (λ unit. unit.now) result ≡ unit_at project.now place }
+pub fn unit_at(project: &Project, index: usize) -> Option<&Planned>
+    ensures { option_map (λ unit. unit.now) result ≡ unit_at project.now index }
 {
-    project.plan.planned.as_slice().get(place)
+    project.plan.planned.as_slice().get(index)
 }
 
 /// Returns whether a unit is a library.
@@ -39,30 +39,30 @@ pub fn is_run(what: &What) -> bool
 }
 
 /// Returns whether the unit at an index is the library of a package.
-fn is_library_of(project: &Project, place: usize, owner: usize) -> bool
-    ensures { result ≡ is_one_of is_library owner (unit_at project.now place) }
+fn is_library_of(project: &Project, index: usize, owner: usize) -> bool
+    ensures { result ≡ is_one_of is_library owner (unit_at project.now index) }
 {
-    match unit_at(project, place) {
+    match unit_at(project, index) {
         Some(unit) => is_library(&unit.unit.what) && unit.unit.owner == owner,
         None => false,
     }
 }
 
 /// Returns whether the unit at an index is a script of a package.
-fn is_script_of(project: &Project, place: usize, owner: usize) -> bool
-    ensures { result ≡ is_one_of is_script owner (unit_at project.now place) }
+fn is_script_of(project: &Project, index: usize, owner: usize) -> bool
+    ensures { result ≡ is_one_of is_script owner (unit_at project.now index) }
 {
-    match unit_at(project, place) {
+    match unit_at(project, index) {
         Some(unit) => is_script(&unit.unit.what) && unit.unit.owner == owner,
         None => false,
     }
 }
 
 /// Returns whether the unit at an index is a run of a package's script.
-fn is_run_of(project: &Project, place: usize, owner: usize) -> bool
-    ensures { result ≡ is_one_of is_run owner (unit_at project.now place) }
+fn is_run_of(project: &Project, index: usize, owner: usize) -> bool
+    ensures { result ≡ is_one_of is_run owner (unit_at project.now index) }
 {
-    match unit_at(project, place) {
+    match unit_at(project, index) {
         Some(unit) => is_run(&unit.unit.what) && unit.unit.owner == owner,
         None => false,
     }
@@ -76,7 +76,7 @@ fn needed_library(project: &Project, unit: &Planned, owner: usize) -> Option<usi
         .as_slice()
         .iter()
         .copied()
-        .find(|place| is_library_of(project, *place, owner))
+        .find(|index| is_library_of(project, *index, owner))
 }
 
 /// Returns the index of the script of a package, if a unit needs this script.
@@ -87,7 +87,7 @@ fn needed_script(project: &Project, unit: &Planned, owner: usize) -> Option<usiz
         .as_slice()
         .iter()
         .copied()
-        .find(|place| is_script_of(project, *place, owner))
+        .find(|index| is_script_of(project, *index, owner))
 }
 
 /// Returns the index of the run of a unit's own package, if the unit needs this run.
@@ -99,19 +99,19 @@ pub fn own_run(project: &Project, unit: &Planned) -> Option<usize>
         .as_slice()
         .iter()
         .copied()
-        .find(|place| is_run_of(project, *place, owner))
+        .find(|index| is_run_of(project, *index, owner))
 }
 
 /// Returns the file that the unit at an index of the plan produces.
 fn file_at(
     alloc: Global,
     project: &Project,
-    place: Option<usize>,
+    index: Option<usize>,
 ) -> Result<Option<PathText>, AllocError>
-    ensures { IfOk result (λ file. file ≡ file_at project.now place) }
+    ensures { IfOk result (λ file. file ≡ file_at project.now index) }
 {
-    match place {
-        Some(place) => match unit_at(project, place) {
+    match index {
+        Some(index) => match unit_at(project, index) {
             Some(unit) => made_file(alloc, project, unit),
             None => Ok(None),
         },
@@ -143,15 +143,15 @@ pub fn script_file(
 ) -> Result<Option<PathText>, AllocError>
     ensures { IfOk result (λ file. file ≡ script_file project.now unit.now) }
 {
-    let place = needed_script(project, unit, unit.unit.owner);
-    file_at(alloc, project, place)
+    let index = needed_script(project, unit, unit.unit.owner);
+    file_at(alloc, project, index)
 }
 
 /// Returns the directives of the run at an index of the plan.
-pub fn said_at(done: &[Option<Directives>], place: usize) -> &[Directive]
-    ensures { result.now ≡ said_at done.now place }
+pub fn said_at(done: &[Option<Directives>], index: usize) -> &[Directive]
+    ensures { result.now ≡ said_at done.now index }
 {
-    match done.get(place) {
+    match done.get(index) {
         Some(Some(directives)) => directives.as_slice(),
         _ => &[],
     }
@@ -166,7 +166,7 @@ pub fn own_said<'a>(
     ensures { result.now ≡ own_said project.now unit.now done.now }
 {
     match own_run(project, unit) {
-        Some(place) => said_at(done, place),
+        Some(index) => said_at(done, index),
         None => &[],
     }
 }

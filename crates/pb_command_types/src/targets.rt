@@ -30,11 +30,11 @@ pub fn folder_of<'a>(project: &'a Project, unit: &Planned) -> &'a PathText
 
 /// Returns the crate name of the library of the package at an index, or an empty name if the
 /// package has no library.
-pub fn library_name(project: &Project, place: usize) -> &str
+pub fn library_name(project: &Project, index: usize) -> &str
     ensures { result.now ≡ library_name
-        (library_in (slice_get project.now.workspace.packages place)) }
+        (library_in (slice_get project.now.workspace.packages index)) }
 {
-    match project.workspace.packages.as_slice().get(place) {
+    match project.workspace.packages.as_slice().get(index) {
         Some(owner) => match &owner.library {
             Some(library) => library.name.as_str(),
             None => "",

@@ -11,8 +11,8 @@ use Rattle.pb_feature.specs.Checked.{IsFirstBelow, IsSofar}
 use Rattle.pb_feature.proofs.Refusing.{refused_item, refused_asked, refused_missing, none_refused}
 
 module _ (ws : Workspace) (selection asked : Selection) (qs rs : List Package) (same : qs ≡ ws.packages) (same_rs : rs ≡ ws.packages) (same_asked : asked ≡ selection) where
-  pub item_error : (e : FeatureFault) → ((place : ℕ) × IsFirstBelow qs (length qs) place e) → (e ≡ OutOfMemory) ⊎ Refuses ws selection e
-  item_error e (place, first) = inr (refused_item ws selection place e (subst (λ q. IsFirstBelow q (length q) place e) same first))
+  pub item_error : (e : FeatureFault) → ((pkg : ℕ) × IsFirstBelow qs (length qs) pkg e) → (e ≡ OutOfMemory) ⊎ Refuses ws selection e
+  item_error e (pkg, first) = inr (refused_item ws selection pkg e (subst (λ q. IsFirstBelow q (length q) pkg e) same first))
 
   abbrev Right : Type 0
   Right = IsSofar qs (length qs) None

@@ -13,10 +13,10 @@ pub data Cell : Type 0 where
   HasSlot : (p : ℕ) (s : Side) (k : ℕ) → Cell
   IsEnabled : (p : ℕ) (s : Side) (n : ℕ) → Cell
 
-abbrev pub place_of : Cell → ℕ
-place_of (IsOn p s) = p
-place_of (HasSlot p s k) = p
-place_of (IsEnabled p s n) = p
+abbrev pub index_of : Cell → ℕ
+index_of (IsOn p s) = p
+index_of (HasSlot p s k) = p
+index_of (IsEnabled p s n) = p
 
 abbrev pub side_at : Cell → Side
 side_at (IsOn p s) = s
@@ -36,16 +36,16 @@ IsIn o (IsEnabled p s n) = n < length o.entries
 -- a number of a cell
 pub record Numbered (ps : List Package) (c : Cell) (i : ℕ) : Type 0 where
   pub owner : Package
-  pub at : slice_get ps (place_of c) ≡ Some owner
+  pub at : slice_get ps (index_of c) ≡ Some owner
   pub is_in : IsIn owner c
-  pub is : number_at (bases_from 0 ps) (place_of c) (side_at c) (local_of owner c) ≡ i
+  pub is : number_at (bases_from 0 ps) (index_of c) (side_at c) (local_of owner c) ≡ i
 
 local_below : (o : Package) (c : Cell) → IsIn o c → local_of o c < width_of o
 local_below o (IsOn p s) is = let e : 0 < length o.features + length o.entries + 2 = omega arith in e
 local_below o (HasSlot p s k) is = let e : k + 1 < length o.features + length o.entries + 2 = omega arith in e
 local_below o (IsEnabled p s n) is = let e : length o.features + (n + 2) < length o.features + length o.entries + 2 = omega arith in e
 
-same_cell : (o : Package) (c d : Cell) → IsIn o c → IsIn o d → place_of c ≡ place_of d → side_at c ≡ side_at d → local_of o c ≡ local_of o d → c ≡ d
+same_cell : (o : Package) (c d : Cell) → IsIn o c → IsIn o d → index_of c ≡ index_of d → side_at c ≡ side_at d → local_of o c ≡ local_of o d → c ≡ d
 same_cell o (IsOn p s) (IsOn q t) ic id ep es el = cc
 same_cell o (IsOn p s) (HasSlot q t l) ic id ep es el = absurd (omega arith)
 same_cell o (IsOn p s) (IsEnabled q t m) ic id ep es el = absurd (omega arith)
@@ -101,9 +101,9 @@ module _ (ps : List Package) where
   abbrev base : ℕ → ℕ
   base p = get_or (bases_from 0 ps) p 0
 
-  -- two rows share no place
-  same_place : (p q l m : ℕ) (o r : Package) → slice_get ps p ≡ Some o → slice_get ps q ≡ Some r → l < width_of o → m < width_of r → base p + l ≡ base q + m → p ≡ q
-  same_place p q l m o r at_p at_q lt_l lt_m e = elim (cases_order p q) [
+  -- two rows share no index
+  same_index : (p q l m : ℕ) (o r : Package) → slice_get ps p ≡ Some o → slice_get ps q ≡ Some r → l < width_of o → m < width_of r → base p + l ≡ base q + m → p ≡ q
+  same_index p q l m o r at_p at_q lt_l lt_m e = elim (cases_order p q) [
     | inl is ↦ is
     | inr (inl less) ↦ (let h : base p + width_of o ≤ base q = apart 0 ps p q o r at_p at_q less in absurd (omega (arith, h)))
     | inr (inr more) ↦ (let h : base q + width_of r ≤ base p = apart 0 ps q p r o at_q at_p more in absurd (omega (arith, h)))
@@ -116,22 +116,22 @@ module _ (ps : List Package) where
   exact c d i nc nd =
       let lc : local_of nc.owner c < width_of nc.owner = local_below nc.owner c nc.is_in in
       let ld : local_of nd.owner d < width_of nd.owner = local_below nd.owner d nd.is_in in
-      let both : base (place_of c) + local_of nc.owner c ≡ base (place_of d) + local_of nd.owner d =
+      let both : base (index_of c) + local_of nc.owner c ≡ base (index_of d) + local_of nd.owner d =
       high _ _ (side_number (side_at c)) (side_number (side_at d)) (nc.is ∙ sym nd.is) (side_below (side_at c)) (side_below (side_at d)) in
       let sides : side_at c ≡ side_at d = side_back _ _ (low _ _ _ _ (nc.is ∙ sym nd.is) both) in
-      let places : place_of c ≡ place_of d = same_place _ _ _ _ nc.owner nd.owner nc.at nd.at lc ld both in
-      let owners : nc.owner ≡ nd.owner = same_owner _ _ nc.owner nd.owner places nc.at nd.at in
+      let pkgs : index_of c ≡ index_of d = same_index _ _ _ _ nc.owner nd.owner nc.at nd.at lc ld both in
+      let owners : nc.owner ≡ nd.owner = same_owner _ _ nc.owner nd.owner pkgs nc.at nd.at in
       let in_d : IsIn nc.owner d = subst (λ o. IsIn o d) (sym owners) nd.is_in in
       let local_d : local_of nc.owner d ≡ local_of nd.owner d = ap (λ o. local_of o d) owners in
-      let bases : base (place_of c) ≡ base (place_of d) = ap base places in
+      let bases : base (index_of c) ≡ base (index_of d) = ap base pkgs in
       let locals : local_of nc.owner c ≡ local_of nc.owner d = omega arith in
-      same_cell nc.owner c d nc.is_in in_d places sides locals
+      same_cell nc.owner c d nc.is_in in_d pkgs sides locals
 
   -- each number is below the end
   pub below : (c : Cell) (i : ℕ) → Numbered ps c i → i < end_from 0 ps * 2
   below c i nc =
       let lc : local_of nc.owner c < width_of nc.owner = local_below nc.owner c nc.is_in in
-      let h : base (place_of c) + width_of nc.owner ≤ end_from 0 ps = before_end 0 ps (place_of c) nc.owner nc.at in
+      let h : base (index_of c) + width_of nc.owner ≤ end_from 0 ps = before_end 0 ps (index_of c) nc.owner nc.at in
       let s : side_number (side_at c) < 2 = side_below (side_at c) in
-      let e : (base (place_of c) + local_of nc.owner c) * 2 + side_number (side_at c) < end_from 0 ps * 2 = omega (arith, lc, h, s) in
+      let e : (base (index_of c) + local_of nc.owner c) * 2 + side_number (side_at c) < end_from 0 ps * 2 = omega (arith, lc, h, s) in
       subst (λ j. j < end_from 0 ps * 2) nc.is e

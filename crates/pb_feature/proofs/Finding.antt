@@ -281,13 +281,13 @@ module _ (name : List ℕ) where
   entry_second es one two r s at_one is not_there at_two also =
       also ∙ ap is_some at_two ∙ sym (ap (λ b. b || is_some (position (at Build name) es)) (sym (is ∙ ap is_some at_one) ∙ not_there)) ∙ entry_found es
 
-  -- of the places that were found in both tables
-  pub entry_places : (es : List Entry) (one two : Option ℕ) → one ≡ position (at Normal name) es → two ≡ position (at Build name) es → list_any (λ (e : Entry). bytes_eq name e.key) es ≡ (is_some one || is_some two)
-  entry_places es one two at_one at_two = sym (ap (λ o. is_some o || is_some two) at_one ∙ ap (λ o. is_some (position (at Normal name) es) || is_some o) at_two ∙ entry_found es)
+  -- of the indices that were found in both tables
+  pub entry_indices : (es : List Entry) (one two : Option ℕ) → one ≡ position (at Normal name) es → two ≡ position (at Build name) es → list_any (λ (e : Entry). bytes_eq name e.key) es ≡ (is_some one || is_some two)
+  entry_indices es one two at_one at_two = sym (ap (λ o. is_some o || is_some two) at_one ∙ ap (λ o. is_some (position (at Normal name) es) || is_some o) at_two ∙ entry_found es)
 
-  pub optional_places : (es : List Entry) → Ascend es → (one two : Option ℕ) → one ≡ position (at Normal name) es → two ≡ position (at Build name) es
+  pub optional_indices : (es : List Entry) → Ascend es → (one two : Option ℕ) → one ≡ position (at Normal name) es → two ≡ position (at Build name) es
       → list_any (λ (e : Entry). bytes_eq name e.key && e.optional) es ≡ (found is_optional false es one || found is_optional false es two)
-  optional_places es up one two at_one at_two =
+  optional_indices es up one two at_one at_two =
       sym (ap (λ o. found is_optional false es o || found is_optional false es two) at_one ∙ ap (λ o. found is_optional false es (position (at Normal name) es) || found is_optional false es o) at_two ∙ optional_found es up)
 
 -- the rules of an item

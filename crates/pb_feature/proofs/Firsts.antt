@@ -37,8 +37,8 @@ module _ (ps : List Package) (n : ℕ) (o : Package) (at : slice_get ps n ≡ So
     | inr less ↦ sofar q other less other_at
   ]
 
-  pub still_first : (place : ℕ) (fault : FeatureFault) → IsFirstBelow ps n place fault → ((owner : Package) → slice_get ps place ≡ Some owner → is_lesser o owner ≡ true → package_fault o ≡ None) → IsFirstBelow ps (n + 1) place fault
-  still_first place fault sofar right = record {
+  pub still_first : (pkg : ℕ) (fault : FeatureFault) → IsFirstBelow ps n pkg fault → ((owner : Package) → slice_get ps pkg ≡ Some owner → is_lesser o owner ≡ true → package_fault o ≡ None) → IsFirstBelow ps (n + 1) pkg fault
+  still_first pkg fault sofar right = record {
     owner = sofar.owner;
     package_at = sofar.package_at;
     told = sofar.told;
@@ -59,30 +59,30 @@ module _ (ps : List Package) (n : ℕ) (o : Package) (at : slice_get ps n ≡ So
     ];
   }
 
-  pub lesser_first : (place : ℕ) (old fault : FeatureFault) (owner : Package) → IsFirstBelow ps n place old → slice_get ps place ≡ Some owner → is_lesser o owner ≡ true → package_fault o ≡ Some fault → IsFirstBelow ps (n + 1) n fault
-  lesser_first place old fault owner sofar owner_at lesser told =
-      let is : owner ≡ sofar.owner = same (slice_get ps place) owner sofar.owner owner_at sofar.package_at in
+  pub lesser_first : (pkg : ℕ) (old fault : FeatureFault) (owner : Package) → IsFirstBelow ps n pkg old → slice_get ps pkg ≡ Some owner → is_lesser o owner ≡ true → package_fault o ≡ Some fault → IsFirstBelow ps (n + 1) n fault
+  lesser_first pkg old fault owner sofar owner_at lesser told =
+      let is : owner ≡ sofar.owner = same (slice_get ps pkg) owner sofar.owner owner_at sofar.package_at in
       new_first fault told (λ q other lt other_at less. sofar.first q other lt other_at (subst (λ (w : Package). is_lesser other w ≡ true) is (lesser_trans other o owner less lesser)))
 
   picked_none : (w : Option FeatureFault) → package_fault o ≡ w → IsSofar ps n None → IsSofar ps (n + 1) (picked w None true n)
   picked_none None e sofar = still_none sofar e
   picked_none (Some fault) e sofar = new_first fault e (λ q other lt other_at _. sofar q other lt other_at)
 
-  picked_other : (f : First) (fault : FeatureFault) (sofar : IsFirstBelow ps n f.place f.fault) → package_fault o ≡ Some fault → (b : Bool) → is_lesser o sofar.owner ≡ b → IsSofar ps (n + 1) (picked (Some fault) (Some f) b n)
-  picked_other f fault sofar e true l = lesser_first f.place f.fault fault sofar.owner sofar sofar.package_at l e
+  picked_other : (f : First) (fault : FeatureFault) (sofar : IsFirstBelow ps n f.pkg f.fault) → package_fault o ≡ Some fault → (b : Bool) → is_lesser o sofar.owner ≡ b → IsSofar ps (n + 1) (picked (Some fault) (Some f) b n)
+  picked_other f fault sofar e true l = lesser_first f.pkg f.fault fault sofar.owner sofar sofar.package_at l e
   picked_other f fault sofar e false l =
-      still_first f.place f.fault sofar (λ owner owner_at lesser.
-      let is : owner ≡ sofar.owner = same (slice_get ps f.place) owner sofar.owner owner_at sofar.package_at in
+      still_first f.pkg f.fault sofar (λ owner owner_at lesser.
+      let is : owner ≡ sofar.owner = same (slice_get ps f.pkg) owner sofar.owner owner_at sofar.package_at in
       absurd (false≢true (sym l ∙ subst (λ (w : Package). is_lesser o w ≡ true) is lesser)))
 
-  picked_some : (f : First) (w : Option FeatureFault) (sofar : IsFirstBelow ps n f.place f.fault) → package_fault o ≡ w → IsSofar ps (n + 1) (picked w (Some f) (is_lesser o sofar.owner) n)
-  picked_some f None sofar e = still_first f.place f.fault sofar (λ owner owner_at lesser. e)
+  picked_some : (f : First) (w : Option FeatureFault) (sofar : IsFirstBelow ps n f.pkg f.fault) → package_fault o ≡ w → IsSofar ps (n + 1) (picked w (Some f) (is_lesser o sofar.owner) n)
+  picked_some f None sofar e = still_first f.pkg f.fault sofar (λ owner owner_at lesser. e)
   picked_some f (Some fault) sofar e = picked_other f fault sofar e (is_lesser o sofar.owner) refl
 
   picks : (w : Option First) → IsSofar ps n w → IsSofar ps (n + 1) (picked (package_fault o) w (is_lesser_at ps n w) n)
   picks None sofar = picked_none (package_fault o) refl sofar
   picks (Some f) sofar =
-      let e : is_lesser_at ps n (Some f) ≡ is_lesser o sofar.owner = ap (λ w. lesser_of w (slice_get ps f.place)) at ∙ ap (lesser_of (Some o)) sofar.package_at in
+      let e : is_lesser_at ps n (Some f) ≡ is_lesser o sofar.owner = ap (λ w. lesser_of w (slice_get ps f.pkg)) at ∙ ap (lesser_of (Some o)) sofar.package_at in
       subst (λ b. IsSofar ps (n + 1) (picked (package_fault o) (Some f) b n)) (sym e) (picked_some f (package_fault o) sofar refl)
 
 -- one turn of the loop

@@ -57,16 +57,16 @@ module _ (ws : Workspace) (selection : Selection) (settled : IsSettled ws) (with
   missing_of qs bases marks same_qs same_bases least missing =
       let its : Marked (bases_from 0 ws.packages) marks = subst (λ b. Marked b marks) same_bases least in
       let m : IsMarkedMissing marks (bases_from 0 ws.packages) (length ws.packages) = subst (λ b. IsMarkedMissing marks b (length ws.packages)) same_bases (subst (λ q. IsMarkedMissing marks bases (length q)) same_qs missing) in
-      let o = one_at ws.packages m.place m.below in
-      let h = missing_from ws selection settled within marks its m.place m.side o.0 o.1 m.marked in
+      let o = one_at ws.packages m.pkg m.below in
+      let h = missing_from ws selection settled within marks its m.pkg m.side o.0 o.1 m.marked in
       record {
-        place = m.place;
+        pkg = m.pkg;
         side = m.side;
         feature = h.0;
         holds = h.1;
         missing = λ there. there_some o.0.features h.0
-            (subst (λ (w : Package). has_feature_named w.features h.0 ≡ true) (same_owner (slice_get ws.packages m.place) there.owner o.0 there.package_at o.1) there.is_there)
-            (sym (slot_of ws selection settled m.place h.0 o.0 o.1) ∙ h.2);
+            (subst (λ (w : Package). has_feature_named w.features h.0 ≡ true) (same_owner (slice_get ws.packages m.pkg) there.owner o.0 there.package_at o.1) there.is_there)
+            (sym (slot_of ws selection settled m.pkg h.0 o.0 o.1) ∙ h.2);
       }
 
   abbrev Complete : List Package → List ℕ → List Bool → Type 0
@@ -87,10 +87,10 @@ module _ (ws : Workspace) (selection : Selection) (settled : IsSettled ws) (with
   pub complete_of : (qs : List Package) (bases : List ℕ) (marks : List Bool) (features : Features) → qs ≡ ws.packages → bases ≡ bases_from 0 ws.packages → Marked bases marks
       → Complete qs bases marks → features.packages ≡ placed (marked_sides marks bases) 0 qs → LacksFeature ws selection → ⊥
   complete_of qs bases marks features same_qs same_bases least complete made m =
-      let o = whole ws selection settled within (Has m.place m.side m.feature) m.holds in
+      let o = whole ws selection settled within (Has m.pkg m.side m.feature) m.holds in
       let some : slot o.0.features m.feature ≢ 0 =
-      present ws selection settled within marks (subst (λ b. Marked b marks) same_bases least) features (made_is qs bases marks features same_qs same_bases made) (complete_is qs bases marks same_qs same_bases complete) m.place m.side m.feature o.0 o.1 m.holds in
-      m.missing (feature_there ws selection settled m.place m.feature o.0 o.1 some)
+      present ws selection settled within marks (subst (λ b. Marked b marks) same_bases least) features (made_is qs bases marks features same_qs same_bases made) (complete_is qs bases marks same_qs same_bases complete) m.pkg m.side m.feature o.0 o.1 m.holds in
+      m.missing (feature_there ws selection settled m.pkg m.feature o.0 o.1 some)
 
   -- the same, of marks that are passed on, and of the error that is answered
   pub missing_error : (qs : List Package) (bases : List ℕ) (marks passed : List Bool) (e : FeatureFault) → qs ≡ ws.packages → bases ≡ bases_from 0 ws.packages → Marked bases marks → passed ≡ marks

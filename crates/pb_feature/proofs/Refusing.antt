@@ -23,7 +23,7 @@ use Rattle.pb_feature.proofs.Slots.{same_name, its_name}
 use Rattle.pb_feature.proofs.Whole.{or_left, or_right}
 use Rattle.pb_feature.proofs.Resolving.{or_two}
 
--- one of a list passes, by its place
+-- one of a list passes, by its index
 any_at : {X : Type 0} (p : X → Bool) (xs : List X) → list_any p xs ≡ true → (x : X) × Contains xs x × (p x ≡ true)
 any_at p xs e = let h = Any-from_list_any p xs e in (h.1, (h.0, h.2, h.3), h.4)
 
@@ -37,9 +37,9 @@ module _ (ws : Workspace) (selection : Selection) where
   pub right_is : IsSofar ws.packages (length ws.packages) None → ItemsAreRight ws
   right_is sofar p o at = sofar p o (slice_get_within ws.packages p o at) at
 
-  pub refused_item : (place : ℕ) (fault : FeatureFault) → IsFirstBelow ws.packages (length ws.packages) place fault → Refuses ws selection fault
-  refused_item place fault f = by_item fault (record {
-    place = place;
+  pub refused_item : (pkg : ℕ) (fault : FeatureFault) → IsFirstBelow ws.packages (length ws.packages) pkg fault → Refuses ws selection fault
+  refused_item pkg fault f = by_item fault (record {
+    pkg = pkg;
     owner = f.owner;
     package_at = f.package_at;
     told = f.told;
@@ -96,6 +96,6 @@ module _ (ws : Workspace) (selection : Selection) where
 
   -- nothing is refused where each check passes
   pub none_refused : IsSofar ws.packages (length ws.packages) None → EachAnswered → (LacksFeature ws selection → ⊥) → (fault : FeatureFault) → Refuses ws selection fault → ⊥
-  none_refused sofar each complete fault (by_item _ first) = some_none (package_fault first.owner) fault first.told (right_is sofar first.place first.owner first.package_at)
+  none_refused sofar each complete fault (by_item _ first) = some_none (package_fault first.owner) fault first.told (right_is sofar first.pkg first.owner first.package_at)
   none_refused sofar each complete _ (by_asked right text is none) = none (each_is each text is)
   none_refused sofar each complete _ (by_missing right answered missing) = complete missing

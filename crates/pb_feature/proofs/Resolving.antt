@@ -35,7 +35,7 @@ use Rattle.pb_feature.specs.Rules.{pair, rules_of, is_text_of, is_chosen, chosen
 use Rattle.pb_feature.specs.Resolved.{IsResolved}
 use Rattle.pb_feature_types.specs.Features.{part_of, active_of, names_of, enabled_of, is_active, features_at, is_enabled}
 use Rattle.pb_feature.specs.Marked.{marked_name, marked_entry, marked_part, marked_sides, NoneMarkedMissing}
-use Rattle.pb_feature.proofs.Slots.{IsSlot, slot_named, slot_at_place, same_name}
+use Rattle.pb_feature.proofs.Slots.{IsSlot, slot_named, slot_at_index, same_name}
 use Rattle.pb_feature.proofs.Cells.{Cell, IsOn, HasSlot, IsEnabled, Numbered, exact, below}
 use Rattle.pb_feature.proofs.Sound.{Means, IsSound, from_rules, same_owner, one_at, contains_at, num_on, num_has, num_enabled, slot_of, feature_there, holds_named}
 use Rattle.pb_feature.proofs.Whole.{Follows, whole}
@@ -127,7 +127,7 @@ module _ (ws : Workspace) (selection : Selection) (settled : IsSettled ws) (with
     | inr there ↦
         (let h = placed_from (chosen_seeds bs selection p o.name) o.features i there in
         let w = where_true (is_chosen selection o.name h.1.name) (has bs p Target (h.0 + 1) ∷ []) i h.3 in
-        let number : slot o.features h.1.name ≡ h.0 + 1 = slot_at_place o.features h.0 h.1 (its_package p o at).features h.2 in
+        let number : slot o.features h.1.name ≡ h.0 + 1 = slot_at_index o.features h.0 h.1 (its_package p o at).features h.2 in
         let lt : h.0 < length o.features = slice_get_within o.features h.0 h.1 h.2 in
         let present : HasFeature ws p h.1.name = feature_there ws selection settled p h.1.name o at (λ z. absurd (omega arith)) in (
           HasSlot p Target (h.0 + 1),
@@ -282,10 +282,10 @@ module _ (ws : Workspace) (selection : Selection) (settled : IsSettled ws) (with
           from : Holds ws selection (Has p s f) → Contains (features_at features p s) f
           from holds =
               let h : IsSlot o.features f (slot o.features f) = slot_named o.features f (present p s f o at holds) in
-              let i : ℕ = has bs p s (h.place + 1) in
+              let i : ℕ = has bs p s (h.index + 1) in
               let follows : Follows ws selection settled within i = subst (λ k. Follows ws selection settled within (has bs p s k)) (slot_of ws selection settled p f o at ∙ h.is) (whole ws selection settled within (Has p s f) holds).2 in
               subst (λ xs. Contains xs f) (sym (names_are p s o at))
-              (placed_to (marked_name marks bs p s) o.features h.place h.feature f h.at
+              (placed_to (marked_name marks bs p s) o.features h.index h.feature f h.at
               (at_true (is_on marks i) (h.feature.name ∷ []) f ((least i).1 follows) (subst (Contains (h.feature.name ∷ [])) h.named (head h.feature.name []))))
 
       pub has_exact : (p : ℕ) (s : Side) (f : List ℕ) → Contains (features_at features p s) f ↔ Holds ws selection (Has p s f)

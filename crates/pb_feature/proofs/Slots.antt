@@ -1,4 +1,4 @@
--- Features by their places.
+-- Features by their indices.
 use Rattle.std.proofs.Common.{◌≡◌, ◌≢◌, Less, ℕ, zero, suc, ◌+◌, ◌≤◌, Bool, ◌||◌, true, false, List, [], ◌∷◌, Some, length, map, refl, sym, ◌∙◌, ap, subst, arith, if◌then◌else◌}
 use Rattle.std.specs.Prelude.{slice_get}
 use Rattle.std.specs.List.{AllByRecursion}
@@ -19,19 +19,19 @@ same_name a b e = (bytes_eq-Decides a b).0 e
 pub its_name : (a : List ℕ) → bytes_eq a a ≡ true
 its_name a = (bytes_eq-Decides a a).1 refl
 
--- a feature at a place that has a name and a slot
+-- a feature at an index that has a name and a slot
 pub record IsSlot (fs : List Feature) (name : List ℕ) (k : ℕ) : Type 0 where
-  pub place : ℕ
+  pub index : ℕ
   pub feature : Feature
-  pub at : slice_get fs place ≡ Some feature
+  pub at : slice_get fs index ≡ Some feature
   pub named : feature.name ≡ name
-  pub is : k ≡ place + 1
+  pub is : k ≡ index + 1
 
 after_slot : (g : Feature) (fs : List Feature) (name : List ℕ) (k : ℕ) → ((k ≢ 0) → IsSlot fs name k) → after k ≢ 0 → IsSlot (g ∷ fs) name (after k)
 after_slot g fs name zero rest some = absurd (some refl)
 after_slot g fs name (suc k) rest some =
     let h : IsSlot fs name (suc k) = rest (λ e. absurd (omega arith)) in
-    record { place = suc h.place; feature = h.feature; at = h.at; named = h.named; is = (let e : suc k ≡ h.place + 1 = h.is in let r : suc (suc k) ≡ suc h.place + 1 = omega arith in r) }
+    record { index = suc h.index; feature = h.feature; at = h.at; named = h.named; is = (let e : suc k ≡ h.index + 1 = h.is in let r : suc (suc k) ≡ suc h.index + 1 = omega arith in r) }
 
 -- a slot that is not 0 is that of a feature of the name
 pub slot_named : (fs : List Feature) (name : List ℕ) → slot fs name ≢ 0 → IsSlot fs name (slot fs name)
@@ -39,7 +39,7 @@ slot_named [] name some = absurd (some refl)
 slot_named (g ∷ fs) name some = by (bytes_eq name g.name) refl (slot_named fs name) some
   where
     by : (b : Bool) → bytes_eq name g.name ≡ b → (slot fs name ≢ 0 → IsSlot fs name (slot fs name)) → (if b then 1 else after (slot fs name)) ≢ 0 → IsSlot (g ∷ fs) name (if b then 1 else after (slot fs name))
-    by true e rest some = record { place = 0; feature = g; at = refl; named = sym (same_name name g.name e); is = refl }
+    by true e rest some = record { index = 0; feature = g; at = refl; named = sym (same_name name g.name e); is = refl }
     by false e rest some = after_slot g fs name (slot fs name) rest some
 
 after_below : (k n : ℕ) → k ≤ n → after k ≤ suc n
@@ -88,15 +88,15 @@ less_other a b less same =
     let f : is_eq (slice_cmp nat_cmp a b) ≡ false = ap is_eq less in
     false≢true (sym f ∙ is_eq-slice_cmp a b ∙ t)
 
--- the slot of a feature that stands there is its place, where the names ascend
-pub slot_at_place : (fs : List Feature) (i : ℕ) (f : Feature) → IsStrictlySortedBy (slice_cmp nat_cmp) (map (λ (g : Feature). g.name) fs) → slice_get fs i ≡ Some f → slot fs f.name ≡ i + 1
+-- the slot of a feature that stands there is its index, where the names ascend
+pub slot_at_index : (fs : List Feature) (i : ℕ) (f : Feature) → IsStrictlySortedBy (slice_cmp nat_cmp) (map (λ (g : Feature). g.name) fs) → slice_get fs i ≡ Some f → slot fs f.name ≡ i + 1
 unfolding IsStrictlySortedBy
-slot_at_place [] i f sorted at = cc
-slot_at_place (g ∷ fs) zero f sorted at =
+slot_at_index [] i f sorted at = cc
+slot_at_index (g ∷ fs) zero f sorted at =
     let same : g ≡ f = cc in
     let e : bytes_eq f.name g.name ≡ true = subst (λ (h : Feature). bytes_eq f.name h.name ≡ true) (sym same) (its_name f.name) in
     ap (λ b. if b then 1 else after (slot fs f.name)) e
-slot_at_place (g ∷ fs) (suc i) f sorted at = by (bytes_eq f.name g.name) refl (not_head g.name fs i f sorted.0 at) (slot_at_place fs i f sorted.1 at)
+slot_at_index (g ∷ fs) (suc i) f sorted at = by (bytes_eq f.name g.name) refl (not_head g.name fs i f sorted.0 at) (slot_at_index fs i f sorted.1 at)
   where
     by : (b : Bool) → bytes_eq f.name g.name ≡ b → slice_cmp nat_cmp g.name f.name ≡ Less → slot fs f.name ≡ i + 1 → (if b then 1 else after (slot fs f.name)) ≡ suc i + 1
     by true e less rest = absurd (less_other g.name f.name less e)

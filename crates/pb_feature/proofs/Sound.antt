@@ -35,7 +35,7 @@ same_entry o a b x y = cc
 pub same_feature : (o : Option Feature) (a b : Feature) → o ≡ Some a → o ≡ Some b → a ≡ b
 same_feature o a b x y = cc
 
--- there is one at each place below the length
+-- there is one at each index below the length
 pub one_at : {X : Type 0} (xs : List X) (k : ℕ) → k < length xs → (x : X) × (slice_get xs k ≡ Some x)
 one_at xs k lt = elim (slice_get_cases xs k).1 [
   | inl h ↦ (h.0, h.2)
@@ -138,13 +138,13 @@ module _ (ws : Workspace) (selection : Selection) (settled : IsSettled ws) where
         | inr b ↦ from_enabled p s n o e r at e_at b
       ]
 
-  -- a feature at a place, that holds
+  -- a feature at an index, that holds
   pub holds_named : (p : ℕ) (s : Side) (o : Package) (i : ℕ) (f : Feature) → slice_get ps p ≡ Some o → slice_get o.features i ≡ Some f → Means (HasSlot p s (i + 1)) → Holds ws selection (Has p s f.name)
   holds_named p s o i f at f_at (name, is, holds) =
       let e : slot o.features name ≡ i + 1 = sym (slot_of p name o at) ∙ is in
       let h : IsSlot o.features name (slot o.features name) = slot_named o.features name (λ z. absurd (omega arith)) in
-      let place : h.place ≡ i = (let g : slot o.features name ≡ h.place + 1 = h.is in omega arith) in
-      let same : h.feature ≡ f = same_feature (slice_get o.features i) h.feature f (subst (λ j. slice_get o.features j ≡ Some h.feature) place h.at) f_at in
+      let index : h.index ≡ i = (let g : slot o.features name ≡ h.index + 1 = h.is in omega arith) in
+      let same : h.feature ≡ f = same_feature (slice_get o.features i) h.feature f (subst (λ j. slice_get o.features j ≡ Some h.feature) index h.at) f_at in
       subst (λ x. Holds ws selection (Has p s x)) (sym h.named ∙ ap (λ (g : Feature). g.name) same) holds
 
   from_of : (s : Side) (p : ℕ) (o : Package) (i : ℕ) (f : Feature) (g : List ℕ) (n : ℕ) (e : Entry) (r : Rule) → slice_get ps p ≡ Some o → slice_get o.features i ≡ Some f → Contains f.items (Of e.key g) → slice_get o.entries n ≡ Some e

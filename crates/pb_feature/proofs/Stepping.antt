@@ -1,4 +1,4 @@
--- A step of a loop over what each of a list gives by its place alone.
+-- A step of a loop over what each of a list gives by its index alone.
 use Rattle.std.proofs.Common.{◌≡◌, ℕ, ◌+◌, ◌<◌, List, ◌++◌, length, get_or, drop, sym, ◌∙◌, ap}
 use Rattle.std.proofs.lemmas.List.{drop_more, append_assoc}
 use Rattle.pb_graph.specs.Placed.{placed}

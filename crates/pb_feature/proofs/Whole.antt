@@ -27,10 +27,10 @@ use Rattle.pb_graph.proofs.Placed.{placed_to, at_true, at_false}
 use Rattle.pb_feature.specs.Facts.{Fact, On, Has, Enabled, Asked, of_package, IsChosen, all, asked, asked_of, default, Holds, selected, chosen, required, listed, named, of_enables, of_asks, of_gives, of_enabled, leads, with_listed, with_asked, with_default}
 use Rattle.pb_feature.specs.Numbers.{bases_from, slot, slot_at, on, has, enabled}
 use Rattle.pb_feature.specs.Rules.{pair, alone, there_rules, given_rules, enabled_rules, entry_rules, of_rules, item_rules, own_rules, both_item_rules, both_own_rules, one_item_rules, feature_rules, both_entry_rules, package_rules, rules_of, is_text_of, is_chosen, chosen_seeds, owner_seeds, selected_seeds, seeds_of}
-use Rattle.pb_feature.proofs.Slots.{IsSlot, slot_named, there_some, slot_at_place, its_name}
+use Rattle.pb_feature.proofs.Slots.{IsSlot, slot_named, there_some, slot_at_index, its_name}
 use Rattle.pb_feature.proofs.Sound.{same_owner, same_entry, one_at, to_there, slot_of}
 
--- a place of what is in a list
+-- an index of what is in a list
 pub at_contains : {X : Type 0} (xs : List X) (x : X) → Contains xs x → (k : ℕ) × (slice_get xs k ≡ Some x)
 at_contains xs x is = (is.0, slice_get-get_or xs is.0 x is.1 ∙ ap (λ y. Some y) is.2)
 
@@ -110,12 +110,12 @@ module _ (ws : Workspace) (selection : Selection) (settled : IsSettled ws) (with
   record ListedAt (p : ℕ) (name : List ℕ) (item : FeatureItem) : Type 0 where
     owner : Package
     at : slice_get ws.packages p ≡ Some owner
-    place : ℕ
+    index : ℕ
     feature : Feature
-    f_at : slice_get owner.features place ≡ Some feature
-    item_place : ℕ
-    i_at : slice_get feature.items item_place ≡ Some item
-    is : slot_at ws.packages p name ≡ place + 1
+    f_at : slice_get owner.features index ≡ Some feature
+    item_index : ℕ
+    i_at : slice_get feature.items item_index ≡ Some item
+    is : slot_at ws.packages p name ≡ index + 1
 
   listed_at : (p : ℕ) (name : List ℕ) (item : FeatureItem) → ListsItem ws p name item → ListedAt p name item
   listed_at p name item lists =
@@ -125,28 +125,28 @@ module _ (ws : Workspace) (selection : Selection) (settled : IsSettled ws) (with
       record {
         owner = lists.owner;
         at = lists.package_at;
-        place = f.0;
+        index = f.0;
         feature = lists.feature;
         f_at = f.1;
-        item_place = i.0;
+        item_index = i.0;
         i_at = i.1;
-        is = slot_of ws selection settled p name lists.owner lists.package_at ∙ ap (slot lists.owner.features) (sym lists.named) ∙ slot_at_place lists.owner.features f.0 lists.feature its.features f.1;
+        is = slot_of ws selection settled p name lists.owner lists.package_at ∙ ap (slot lists.owner.features) (sym lists.named) ∙ slot_at_index lists.owner.features f.0 lists.feature its.features f.1;
       }
 
-  to_item : (p : ℕ) (name : List ℕ) (item : FeatureItem) (r : Rule) (l : ListedAt p name item) → Contains (one_item_rules ps bs p l.owner (l.place + 1) l.item_place item) r → Contains (rules_of ps bs) r
+  to_item : (p : ℕ) (name : List ℕ) (item : FeatureItem) (r : Rule) (l : ListedAt p name item) → Contains (one_item_rules ps bs p l.owner (l.index + 1) l.item_index item) r → Contains (rules_of ps bs) r
   to_item p name item r l is =
       to_package p l.owner r l.at (Contains-append_right (both_entry_rules ps bs p l.owner) (placed (feature_rules ps bs p l.owner) 0 l.owner.features) r
-      (placed_to (feature_rules ps bs p l.owner) l.owner.features l.place l.feature r l.f_at
-      (placed_to (one_item_rules ps bs p l.owner (l.place + 1)) l.feature.items l.item_place item r l.i_at is)))
+      (placed_to (feature_rules ps bs p l.owner) l.owner.features l.index l.feature r l.f_at
+      (placed_to (one_item_rules ps bs p l.owner (l.index + 1)) l.feature.items l.item_index item r l.i_at is)))
 
-  to_own : (s : Side) (p : ℕ) (name : List ℕ) (item : FeatureItem) (r : Rule) (l : ListedAt p name item) → Contains (own_rules bs s p l.owner.features (l.place + 1) item) r → Contains (rules_of ps bs) r
+  to_own : (s : Side) (p : ℕ) (name : List ℕ) (item : FeatureItem) (r : Rule) (l : ListedAt p name item) → Contains (own_rules bs s p l.owner.features (l.index + 1) item) r → Contains (rules_of ps bs) r
   to_own s p name item r l is =
-      to_item p name item r l (Contains-append_left (both_own_rules bs p l.owner.features (l.place + 1) item) (placed (both_item_rules ps bs p l.owner.features (l.place + 1) item) 0 l.owner.entries) r (by s is))
+      to_item p name item r l (Contains-append_left (both_own_rules bs p l.owner.features (l.index + 1) item) (placed (both_item_rules ps bs p l.owner.features (l.index + 1) item) 0 l.owner.entries) r (by s is))
     where
       of_side : Side → List Rule
-      of_side t = own_rules bs t p l.owner.features (l.place + 1) item
+      of_side t = own_rules bs t p l.owner.features (l.index + 1) item
 
-      by : (t : Side) → Contains (own_rules bs t p l.owner.features (l.place + 1) item) r → Contains (both_own_rules bs p l.owner.features (l.place + 1) item) r
+      by : (t : Side) → Contains (own_rules bs t p l.owner.features (l.index + 1) item) r → Contains (both_own_rules bs p l.owner.features (l.index + 1) item) r
       by Target its = Contains-append_left (of_side Target) (of_side Host) r its
       by Host its = Contains-append_right (of_side Target) (of_side Host) r its
 
@@ -154,16 +154,16 @@ module _ (ws : Workspace) (selection : Selection) (settled : IsSettled ws) (with
   entry_in p n o e at here = subst (λ (w : Package). slice_get w.entries n ≡ Some e) (same_owner (slice_get ps p) here.owner o here.package_at at) here.entry_at
 
   to_named : (s : Side) (p n : ℕ) (name : List ℕ) (item : FeatureItem) (e : Entry) (xs : List Rule) (r : Rule) (l : ListedAt p name item) → HasEntry ws p n e
-      → item_rules ps bs s p l.owner.features (l.place + 1) item n e ≡ (if bytes_eq e.key e.key then xs else []) → Contains xs r → Contains (rules_of ps bs) r
+      → item_rules ps bs s p l.owner.features (l.index + 1) item n e ≡ (if bytes_eq e.key e.key then xs else []) → Contains xs r → Contains (rules_of ps bs) r
   to_named s p n name item e xs r l here same is =
-      to_item p name item r l (Contains-append_right (both_own_rules bs p l.owner.features (l.place + 1) item) (placed (both_item_rules ps bs p l.owner.features (l.place + 1) item) 0 l.owner.entries) r
-      (placed_to (both_item_rules ps bs p l.owner.features (l.place + 1) item) l.owner.entries n e r (entry_in p n l.owner e l.at here)
+      to_item p name item r l (Contains-append_right (both_own_rules bs p l.owner.features (l.index + 1) item) (placed (both_item_rules ps bs p l.owner.features (l.index + 1) item) 0 l.owner.entries) r
+      (placed_to (both_item_rules ps bs p l.owner.features (l.index + 1) item) l.owner.entries n e r (entry_in p n l.owner e l.at here)
       (by s (subst (λ ys. Contains ys r) (sym (same ∙ ap (λ b. if b then xs else []) (its_name e.key))) is))))
     where
       of_side : Side → List Rule
-      of_side t = item_rules ps bs t p l.owner.features (l.place + 1) item n e
+      of_side t = item_rules ps bs t p l.owner.features (l.index + 1) item n e
 
-      by : (t : Side) → Contains (item_rules ps bs t p l.owner.features (l.place + 1) item n e) r → Contains (both_item_rules ps bs p l.owner.features (l.place + 1) item n e) r
+      by : (t : Side) → Contains (item_rules ps bs t p l.owner.features (l.index + 1) item n e) r → Contains (both_item_rules ps bs p l.owner.features (l.index + 1) item n e) r
       by Target its = Contains-append_left (of_side Target) (of_side Host) r its
       by Host its = Contains-append_right (of_side Target) (of_side Host) r its
 
@@ -178,7 +178,7 @@ module _ (ws : Workspace) (selection : Selection) (settled : IsSettled ws) (with
   en_in : (p n : ℕ) (s : Side) (o : Package) → slice_get ps p ≡ Some o → Meant (Enabled p s n) → Follows (enabled bs p s (length o.features) n)
   en_in p n s o at m = subst (λ (w : Package). Follows (enabled bs p s (length w.features) n)) (same_owner (slice_get ps p) m.0 o m.1 at) m.3
 
-  has_in : (p : ℕ) (s : Side) (name : List ℕ) (item : FeatureItem) (l : ListedAt p name item) → Meant (Has p s name) → Follows (has bs p s (l.place + 1))
+  has_in : (p : ℕ) (s : Side) (name : List ℕ) (item : FeatureItem) (l : ListedAt p name item) → Meant (Has p s name) → Follows (has bs p s (l.index + 1))
   has_in p s name item l m = subst (λ k. Follows (has bs p s k)) l.is m.2
 
   chosen_is : (p : ℕ) (f : List ℕ) (o : Package) → slice_get ps p ≡ Some o → IsChosen ws selection p f → is_chosen selection o.name f ≡ true
@@ -207,12 +207,12 @@ module _ (ws : Workspace) (selection : Selection) (settled : IsSettled ws) (with
   chosen_follows : (p : ℕ) (f : List ℕ) (o : Package) → slice_get ps p ≡ Some o → Contains selection.packages p → IsChosen ws selection p f → Follows (has bs p Target (slot_at ps p f))
   chosen_follows p f o at is choice =
       let h : IsSlot o.features f (slot o.features f) = slot_named o.features f (some_slot p f o at (chosen_there p f choice)) in
-      let number : slot_at ps p f ≡ h.place + 1 = slot_of ws selection settled p f o at ∙ h.is in
+      let number : slot_at ps p f ≡ h.index + 1 = slot_of ws selection settled p f o at ∙ h.is in
       let test : is_chosen selection o.name h.feature.name ≡ true = ap (is_chosen selection o.name) h.named ∙ chosen_is p f o at choice in
-      let i : ℕ = has bs p Target (h.place + 1) in
+      let i : ℕ = has bs p Target (h.index + 1) in
       subst (λ k. Follows (has bs p Target k)) (sym number)
       (to_seed p i o at is (tail (on bs p Target) (placed (chosen_seeds bs selection p o.name) 0 o.features) i
-      (placed_to (chosen_seeds bs selection p o.name) o.features h.place h.feature i h.at (at_true (is_chosen selection o.name h.feature.name) (i ∷ []) i test (head i [])))))
+      (placed_to (chosen_seeds bs selection p o.name) o.features h.index h.feature i h.at (at_true (is_chosen selection o.name h.feature.name) (i ∷ []) i test (head i [])))))
 
   to_there_rule : (from q : ℕ) (t : Side) (test : Bool) (k : ℕ) → test ≡ true → k ≢ 0 → Contains (there_rules bs from q t test k) (alone from (has bs q t k))
   to_there_rule from q t test k on_test some =
@@ -237,7 +237,7 @@ module _ (ws : Workspace) (selection : Selection) (settled : IsSettled ws) (with
       )
   whole _ (listed p s f g before lists) =
       let l : ListedAt p f (Own g) = listed_at p f (Own g) lists in
-      let r : Rule = alone (has bs p s (l.place + 1)) (has bs p s (slot l.owner.features g)) in (
+      let r : Rule = alone (has bs p s (l.index + 1)) (has bs p s (slot l.owner.features g)) in (
         l.owner,
         l.at,
         subst (λ k. Follows (has bs p s k)) (sym (slot_of ws selection settled p g l.owner l.at))
@@ -245,7 +245,7 @@ module _ (ws : Workspace) (selection : Selection) (settled : IsSettled ws) (with
       )
   whole _ (named p s f n e before lists here) =
       let l : ListedAt p f (Dependency e.key) = listed_at p f (Dependency e.key) lists in
-      let r : Rule = alone (has bs p s (l.place + 1)) (enabled bs p s (length l.owner.features) n) in (
+      let r : Rule = alone (has bs p s (l.index + 1)) (enabled bs p s (length l.owner.features) n) in (
         l.owner,
         l.at,
         slice_get_within l.owner.entries n e (entry_in p n l.owner e l.at here),
@@ -253,7 +253,7 @@ module _ (ws : Workspace) (selection : Selection) (settled : IsSettled ws) (with
       )
   whole _ (of_enables p s f g n e before lists here) =
       let l : ListedAt p f (Of e.key g) = listed_at p f (Of e.key g) lists in
-      let fr : ℕ = has bs p s (l.place + 1) in
+      let fr : ℕ = has bs p s (l.index + 1) in
       let en : ℕ = enabled bs p s (length l.owner.features) n in
       let gives : ℕ = has bs e.to (side_of e.kind s) (slot_at ps e.to g) in
       let r : Rule = alone fr en in (
@@ -265,7 +265,7 @@ module _ (ws : Workspace) (selection : Selection) (settled : IsSettled ws) (with
       )
   whole _ (of_asks p s f g n e before lists here) =
       let l : ListedAt p f (Of e.key g) = listed_at p f (Of e.key g) lists in
-      let fr : ℕ = has bs p s (l.place + 1) in
+      let fr : ℕ = has bs p s (l.index + 1) in
       let en : ℕ = enabled bs p s (length l.owner.features) n in
       let gives : ℕ = has bs e.to (side_of e.kind s) (slot_at ps e.to g) in
       let r : Rule = alone fr gives in
@@ -274,7 +274,7 @@ module _ (ws : Workspace) (selection : Selection) (settled : IsSettled ws) (with
       λ o d at d_at _. subst (λ (x : Entry). Follows (has bs x.to (side_of x.kind s) (slot_at ps x.to g))) (same_entry (slice_get o.entries n) e d (entry_in p n o e at here) d_at) it
   whole _ (of_gives p s f g n e before lists here is_optional there) =
       let l : ListedAt p f (Of e.key g) = listed_at p f (Of e.key g) lists in
-      let fr : ℕ = has bs p s (l.place + 1) in
+      let fr : ℕ = has bs p s (l.index + 1) in
       let en : ℕ = enabled bs p s (length l.owner.features) n in
       let k : ℕ = slot l.owner.features e.key in
       let r : Rule = alone fr (has bs p s k) in (
@@ -287,7 +287,7 @@ module _ (ws : Workspace) (selection : Selection) (settled : IsSettled ws) (with
       )
   whole _ (of_enabled p s f g n e before lists here enables) =
       let l : ListedAt p f (OfEnabled e.key g) = listed_at p f (OfEnabled e.key g) lists in
-      let fr : ℕ = has bs p s (l.place + 1) in
+      let fr : ℕ = has bs p s (l.index + 1) in
       let en : ℕ = enabled bs p s (length l.owner.features) n in
       let gives : ℕ = has bs e.to (side_of e.kind s) (slot_at ps e.to g) in
       let r : Rule = pair fr en gives in

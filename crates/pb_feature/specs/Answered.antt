@@ -18,7 +18,7 @@ abbrev pub is_owner_at : List Package → List ℕ → ℕ → Bool
 is_owner_at ps text p = owner_is (slice_get ps p) text
 
 abbrev pub is_answered : List Package → List ℕ → List ℕ → Bool
-is_answered ps places text = list_any (is_owner_at ps text) places
+is_answered ps pkgs text = list_any (is_owner_at ps text) pkgs
 
 -- a requested text is not a feature of any selected package
 pub record IsUnanswered (ps : List Package) (selection : Selection) : Type 0 where

@@ -22,7 +22,7 @@ pub record IsFirstBelow (ps : List Package) (n index : ℕ) (fault : FeatureFaul
 
 abbrev pub IsSofar : List Package → ℕ → Option First → Type 0
 IsSofar ps n None = (q : ℕ) (other : Package) → q < n → slice_get ps q ≡ Some other → package_fault other ≡ None
-IsSofar ps n (Some first) = IsFirstBelow ps n first.place first.fault
+IsSofar ps n (Some first) = IsFirstBelow ps n first.pkg first.fault
 
 -- The package at an index has a lesser name than the package with the first fault so far. This is
 -- also true if there is no fault so far.
@@ -33,10 +33,10 @@ lesser_of (Some p) (Some q) = is_lesser p q
 
 abbrev pub is_lesser_at : List Package → ℕ → Option First → Bool
 is_lesser_at ps n None = true
-is_lesser_at ps n (Some first) = lesser_of (slice_get ps n) (slice_get ps first.place)
+is_lesser_at ps n (Some first) = lesser_of (slice_get ps n) (slice_get ps first.pkg)
 
 -- the first fault, updated for the fault of one more package
 abbrev pub picked : Option FeatureFault → Option First → Bool → ℕ → Option First
 picked None first lesser n = first
-picked (Some fault) None lesser n = Some (record { place = n; fault = fault })
-picked (Some fault) (Some old) lesser n = if lesser then Some (record { place = n; fault = fault }) else Some old
+picked (Some fault) None lesser n = Some (record { pkg = n; fault = fault })
+picked (Some fault) (Some old) lesser n = if lesser then Some (record { pkg = n; fault = fault }) else Some old

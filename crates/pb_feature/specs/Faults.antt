@@ -61,9 +61,9 @@ package_fault p = features_fault p p.features
 
 -- a package has an item with this fault, and no package with a lesser name has an item with a fault
 pub record IsFirstFault (ws : Workspace) (fault : FeatureFault) : Type 0 where
-  pub place : ℕ
+  pub pkg : ℕ
   pub owner : Package
-  pub package_at : slice_get ws.packages place ≡ Some owner
+  pub package_at : slice_get ws.packages pkg ≡ Some owner
   pub told : package_fault owner ≡ Some fault
   pub first : (q : ℕ) (other : Package) → slice_get ws.packages q ≡ Some other → is_lt (slice_cmp nat_cmp other.name owner.name) ≡ true → package_fault other ≡ None
 
@@ -78,11 +78,11 @@ pub data HasRequested (ws : Workspace) (selection : Selection) (text : List ℕ)
 
 -- a package does not have this feature, although the feature is on for it
 pub record LacksFeature (ws : Workspace) (selection : Selection) : Type 0 where
-  pub place : ℕ
+  pub pkg : ℕ
   pub side : Side
   pub feature : List ℕ
-  pub holds : Holds ws selection (Has place side feature)
-  pub missing : HasFeature ws place feature → ⊥
+  pub holds : Holds ws selection (Has pkg side feature)
+  pub missing : HasFeature ws pkg feature → ⊥
 
 -- Why no features are resolved. The first reason is an item with a fault. The second is a requested
 -- feature that no selected package has. The third is a feature that is on for a package without

@@ -32,10 +32,10 @@ marked_sides marks bs p owner = (record { target = marked_part marks bs p Target
 
 -- for one of the first `count` packages, on some side, the number of a missing feature is marked
 pub record IsMarkedMissing (marks : List Bool) (bs : List ℕ) (count : ℕ) : Type 0 where
-  pub place : ℕ
+  pub pkg : ℕ
   pub side : Side
-  pub below : place < count
-  pub marked : is_on marks (has bs place side 0) ≡ true
+  pub below : pkg < count
+  pub marked : is_on marks (has bs pkg side 0) ≡ true
 
 -- the number of a missing feature is not marked for any of the first `count` packages, on either
 -- side

@@ -37,11 +37,11 @@ fn is_owner_at(
     alloc: Global,
     packages: &[Package],
     text: &str,
-    place: usize,
+    pkg: usize,
 ) -> Result<bool, AllocError>
-    ensures { IfOk result (λ is. is ≡ is_owner_at packages.now text.now place) }
+    ensures { IfOk result (λ is. is ≡ is_owner_at packages.now text.now pkg) }
 {
-    match packages.get(place) {
+    match packages.get(pkg) {
         Some(owner) => is_owner_of(alloc, owner, text),
         None => Ok(false),
     }
@@ -51,13 +51,13 @@ fn is_owner_at(
 fn is_answered(
     alloc: Global,
     packages: &[Package],
-    places: &[usize],
+    pkgs: &[usize],
     text: &str,
 ) -> Result<bool, AllocError>
-    ensures { IfOk result (λ is. is ≡ is_answered packages.now places.now text.now) }
+    ensures { IfOk result (λ is. is ≡ is_answered packages.now pkgs.now text.now) }
 {
-    for place in places {
-        if is_owner_at(alloc, packages, text, *place)? {
+    for pkg in pkgs {
+        if is_owner_at(alloc, packages, text, *pkg)? {
             return Ok(true);
         }
     }
@@ -75,9 +75,9 @@ pub(crate) fn check_asked(
     ensures err { IfErr result (λ e. (e ≡ OutOfMemory)
         ⊎ ((e ≡ NoSuchFeature) × IsUnanswered packages.now selection.now)) }
 {
-    let places = selection.packages.as_slice();
+    let pkgs = selection.packages.as_slice();
     for text in selection.features.as_slice() {
-        if !is_answered(alloc, packages, places, text.as_str())? {
+        if !is_answered(alloc, packages, pkgs, text.as_str())? {
             return Err(FeatureFault::NoSuchFeature);
         }
     }

@@ -12,7 +12,7 @@ use pb_workspace_types::Package;
 #[derive(Clone, Copy)]
 pub(crate) struct First {
     /// The index of the package.
-    pub place: usize,
+    pub pkg: usize,
     /// The fault of the item.
     pub fault: FeatureFault,
 }
@@ -26,13 +26,13 @@ fn is_lesser(one: &Package, other: &Package) -> bool
 
 /// Returns whether the name of the package at an index is before the name of the found package.
 /// Returns true if no package was found.
-fn is_lesser_at(packages: &[Package], place: usize, first: Option<First>) -> bool
-    ensures { result ≡ is_lesser_at packages.now place first }
+fn is_lesser_at(packages: &[Package], pkg: usize, first: Option<First>) -> bool
+    ensures { result ≡ is_lesser_at packages.now pkg first }
 {
     let Some(first) = first else {
         return true;
     };
-    match (packages.get(place), packages.get(first.place)) {
+    match (packages.get(pkg), packages.get(first.pkg)) {
         (Some(one), Some(other)) => is_lesser(one, other),
         _ => false,
     }
@@ -43,18 +43,18 @@ fn first_of(
     fault: Option<FeatureFault>,
     first: Option<First>,
     lesser: bool,
-    place: usize,
+    pkg: usize,
 ) -> Option<First>
-    ensures { result ≡ picked fault first lesser place }
+    ensures { result ≡ picked fault first lesser pkg }
 {
     let Some(fault) = fault else {
         return first;
     };
     let Some(old) = first else {
-        return Some(First { place, fault });
+        return Some(First { pkg, fault });
     };
     if lesser {
-        Some(First { place, fault })
+        Some(First { pkg, fault })
     } else {
         Some(old)
     }
@@ -65,10 +65,10 @@ fn first_fault(packages: &[Package]) -> Option<First>
     ensures { IsSofar packages.now (length packages.now) result }
 {
     let mut first = None;
-    for place in 0..packages.len() {
-        let fault = package_fault(&packages[place]);
-        let lesser = is_lesser_at(packages, place, first);
-        first = first_of(fault, first, lesser, place);
+    for pkg in 0..packages.len() {
+        let fault = package_fault(&packages[pkg]);
+        let lesser = is_lesser_at(packages, pkg, first);
+        first = first_of(fault, first, lesser, pkg);
     }
     first
 }
@@ -76,8 +76,8 @@ fn first_fault(packages: &[Package]) -> Option<First>
 /// Checks the items of all packages.
 pub(crate) fn check_items(packages: &[Package]) -> Result<(), FeatureFault>
     ensures ok { OnOk result (IsSofar packages.now (length packages.now) None) }
-    ensures err { IfErr result (λ e. (place : ℕ)
-        × IsFirstBelow packages.now (length packages.now) place e) }
+    ensures err { IfErr result (λ e. (pkg : ℕ)
+        × IsFirstBelow packages.now (length packages.now) pkg e) }
 {
     match first_fault(packages) {
         Some(first) => Err(first.fault),

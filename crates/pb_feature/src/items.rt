@@ -32,18 +32,18 @@ fn has_text(texts: &[Text], name: &[u8]) -> bool
 fn is_entry(entries: &EntriesByKey, name: &[u8]) -> bool
     ensures { result ≡ list_any (λ e. bytes_eq name.now e.key) entries.now }
 {
-    entries.place_of(DependencyKind::Normal, name).is_some()
-        || entries.place_of(DependencyKind::Build, name).is_some()
+    entries.index_of(DependencyKind::Normal, name).is_some()
+        || entries.index_of(DependencyKind::Build, name).is_some()
 }
 
 /// Returns whether the entry at an index is optional.
-fn is_optional_at(entries: &EntriesByKey, place: Option<usize>) -> bool
-    ensures { result ≡ found is_optional false entries.now place }
+fn is_optional_at(entries: &EntriesByKey, index: Option<usize>) -> bool
+    ensures { result ≡ found is_optional false entries.now index }
 {
-    let Some(place) = place else {
+    let Some(index) = index else {
         return false;
     };
-    match entries.as_slice().get(place) {
+    match entries.as_slice().get(index) {
         Some(entry) => entry.optional,
         None => false,
     }
@@ -91,8 +91,8 @@ fn optional_fault(owner: &Package, name: &[u8]) -> Option<FeatureFault>
     ensures { result ≡ optional_fault owner.now name.now }
 {
     let entries = &owner.entries;
-    let normal = entries.place_of(DependencyKind::Normal, name);
-    let build = entries.place_of(DependencyKind::Build, name);
+    let normal = entries.index_of(DependencyKind::Normal, name);
+    let build = entries.index_of(DependencyKind::Build, name);
     if !is_either(normal, build) {
         return absent_fault(owner, name);
     }

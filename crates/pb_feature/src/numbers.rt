@@ -92,11 +92,11 @@ fn number_from(base: usize, side: Side, local: usize) -> Option<usize>
 pub(crate) fn slot(features: &FeaturesByName, name: &[u8]) -> usize
     ensures { result ≡ slot features.now name.now }
 {
-    let Some(place) = features.place_of(name) else {
+    let Some(index) = features.index_of(name) else {
         return 0;
     };
-    if place < features.as_slice().len() {
-        place + 1
+    if index < features.as_slice().len() {
+        index + 1
     } else {
         0
     }
@@ -105,10 +105,10 @@ pub(crate) fn slot(features: &FeaturesByName, name: &[u8]) -> usize
 impl Ground<'_> {
     /// Returns the number at an offset in a package's row, on a side. If the number exceeds
     /// `usize`, the call fails as if memory had run out.
-    pub(crate) fn number(&self, place: usize, side: Side, local: usize) -> Result<usize, AllocError>
-        ensures { IfOk result (λ i. i ≡ number_at self.now.bases.now place side local) }
+    pub(crate) fn number(&self, pkg: usize, side: Side, local: usize) -> Result<usize, AllocError>
+        ensures { IfOk result (λ i. i ≡ number_at self.now.bases.now pkg side local) }
     {
-        let base = match self.bases.get(place) {
+        let base = match self.bases.get(pkg) {
             Some(base) => *base,
             None => 0,
         };
@@ -120,32 +120,32 @@ impl Ground<'_> {
 
     /// Returns the slot of the package's feature with a name. Returns 0 if there is no such
     /// feature.
-    pub(crate) fn slot_at(&self, place: usize, name: &[u8]) -> usize
-        ensures { result ≡ slot_at self.now.packages.now place name.now }
+    pub(crate) fn slot_at(&self, pkg: usize, name: &[u8]) -> usize
+        ensures { result ≡ slot_at self.now.packages.now pkg name.now }
     {
-        match self.packages.get(place) {
+        match self.packages.get(pkg) {
             Some(owner) => slot(&owner.features, name),
             None => 0,
         }
     }
 
     /// Returns the number of the fact that the package is on.
-    pub(crate) fn on(&self, place: usize, side: Side) -> Result<usize, AllocError>
-        ensures { IfOk result (λ i. i ≡ on self.now.bases.now place side) }
+    pub(crate) fn on(&self, pkg: usize, side: Side) -> Result<usize, AllocError>
+        ensures { IfOk result (λ i. i ≡ on self.now.bases.now pkg side) }
     {
-        let i = self.number(place, side, 0)?;
+        let i = self.number(pkg, side, 0)?;
         Ok(i)
     }
 
     /// Returns the number of the fact that the package has the feature of this slot. Slots are
     /// counted from 1. Slot 0 is for a feature that the package does not have.
-    pub(crate) fn has(&self, place: usize, side: Side, feature: usize) -> Result<usize, AllocError>
-        ensures { IfOk result (λ i. i ≡ has self.now.bases.now place side feature) }
+    pub(crate) fn has(&self, pkg: usize, side: Side, feature: usize) -> Result<usize, AllocError>
+        ensures { IfOk result (λ i. i ≡ has self.now.bases.now pkg side feature) }
     {
         let Some(local) = feature.checked_add(1) else {
             return Err(AllocError);
         };
-        let i = self.number(place, side, local)?;
+        let i = self.number(pkg, side, local)?;
         Ok(i)
     }
 
@@ -153,12 +153,12 @@ impl Ground<'_> {
     /// the numbers of features.
     pub(crate) fn number_of_entry(
         &self,
-        place: usize,
+        pkg: usize,
         side: Side,
         features: usize,
         entry: usize,
     ) -> Result<usize, AllocError>
-        ensures { IfOk result (λ i. i ≡ enabled self.now.bases.now place side features entry) }
+        ensures { IfOk result (λ i. i ≡ enabled self.now.bases.now pkg side features entry) }
     {
         let Some(behind) = entry.checked_add(2) else {
             return Err(AllocError);
@@ -166,21 +166,21 @@ impl Ground<'_> {
         let Some(local) = features.checked_add(behind) else {
             return Err(AllocError);
         };
-        let i = self.number(place, side, local)?;
+        let i = self.number(pkg, side, local)?;
         Ok(i)
     }
 
     /// Returns the number of the fact that the package has the feature with this name.
     pub(crate) fn number_of_feature(
         &self,
-        place: usize,
+        pkg: usize,
         side: Side,
         name: &[u8],
     ) -> Result<usize, AllocError>
         ensures { IfOk result (λ i. i
-            ≡ has self.now.bases.now place side (slot_at self.now.packages.now place name.now)) }
+            ≡ has self.now.bases.now pkg side (slot_at self.now.packages.now pkg name.now)) }
     {
-        let i = self.has(place, side, self.slot_at(place, name))?;
+        let i = self.has(pkg, side, self.slot_at(pkg, name))?;
         Ok(i)
     }
 }

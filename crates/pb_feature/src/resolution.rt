@@ -64,13 +64,13 @@ fn marks_of(
 }
 
 /// Returns whether the package at an index does not have a feature that is requested of it.
-fn is_missing_at(ground: &Ground<'_>, marks: &[bool], place: usize) -> Result<bool, AllocError>
+fn is_missing_at(ground: &Ground<'_>, marks: &[bool], pkg: usize) -> Result<bool, AllocError>
     ensures { IfOk result (λ is. is
-        ≡ (is_on marks.now (has ground.now.bases.now place Target 0)
-        || is_on marks.now (has ground.now.bases.now place Host 0))) }
+        ≡ (is_on marks.now (has ground.now.bases.now pkg Target 0)
+        || is_on marks.now (has ground.now.bases.now pkg Host 0))) }
 {
-    let target = ground.has(place, Side::Target, 0)?;
-    let host = ground.has(place, Side::Host, 0)?;
+    let target = ground.has(pkg, Side::Target, 0)?;
+    let host = ground.has(pkg, Side::Host, 0)?;
     Ok(is_marked(marks, target) || is_marked(marks, host))
 }
 
@@ -82,8 +82,8 @@ fn check_missing(ground: &Ground<'_>, marks: &[bool]) -> Result<(), FeatureFault
         ⊎ ((e ≡ NoSuchFeature) × IsMarkedMissing marks.now ground.now.bases.now
         (length ground.now.packages.now))) }
 {
-    for place in 0..ground.packages.len() {
-        if is_missing_at(ground, marks, place)? {
+    for pkg in 0..ground.packages.len() {
+        if is_missing_at(ground, marks, pkg)? {
             return Err(FeatureFault::NoSuchFeature);
         }
     }

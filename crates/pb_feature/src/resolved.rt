@@ -19,18 +19,18 @@ fn add_name(
     names: &mut Items<Text>,
     ground: &Ground<'_>,
     marks: &[bool],
-    place: usize,
+    pkg: usize,
     side: Side,
     index: usize,
     feature: &Feature,
 ) -> Result<(), AllocError>
     ensures { OnOk result (names.new ≡ names.old
-        ++ marked_name marks.now ground.now.bases.now place side index feature.now) }
+        ++ marked_name marks.now ground.now.bases.now pkg side index feature.now) }
 {
     let Some(slot) = index.checked_add(1) else {
         return Err(AllocError);
     };
-    if is_marked(marks, ground.has(place, side, slot)?) {
+    if is_marked(marks, ground.has(pkg, side, slot)?) {
         names.push(feature.name.copy(alloc)?)?;
     }
     Ok(())
@@ -41,12 +41,12 @@ fn names_of(
     alloc: Global,
     ground: &Ground<'_>,
     marks: &[bool],
-    place: usize,
+    pkg: usize,
     side: Side,
     features: &[Feature],
 ) -> Result<Items<Text>, AllocError>
     ensures { IfOk result (λ names. names
-        ≡ placed (marked_name marks.now ground.now.bases.now place side) 0 features.now) }
+        ≡ placed (marked_name marks.now ground.now.bases.now pkg side) 0 features.now) }
 {
     let mut names = Items::new(alloc);
     for index in 0..features.len() {
@@ -55,7 +55,7 @@ fn names_of(
             &mut names,
             ground,
             marks,
-            place,
+            pkg,
             side,
             index,
             &features[index],
@@ -69,15 +69,15 @@ fn add_mark(
     enabled: &mut Items<bool>,
     ground: &Ground<'_>,
     marks: &[bool],
-    place: usize,
+    pkg: usize,
     side: Side,
     features: usize,
     index: usize,
 ) -> Result<(), AllocError>
     ensures { OnOk result (enabled.new ≡ enabled.old
-        ++ is_on marks.now (enabled_at ground.now.bases.now place side features index) ∷ []) }
+        ++ is_on marks.now (enabled_at ground.now.bases.now pkg side features index) ∷ []) }
 {
-    let number = ground.number_of_entry(place, side, features, index)?;
+    let number = ground.number_of_entry(pkg, side, features, index)?;
     enabled.push(is_marked(marks, number))?;
     Ok(())
 }
@@ -87,17 +87,17 @@ fn entries_of(
     alloc: Global,
     ground: &Ground<'_>,
     marks: &[bool],
-    place: usize,
+    pkg: usize,
     side: Side,
     features: usize,
     entries: &[Entry],
 ) -> Result<Items<bool>, AllocError>
     ensures { IfOk result (λ enabled. enabled
-        ≡ placed (marked_entry marks.now ground.now.bases.now place side features) 0 entries.now) }
+        ≡ placed (marked_entry marks.now ground.now.bases.now pkg side features) 0 entries.now) }
 {
     let mut enabled = Items::new(alloc);
     for index in 0..entries.len() {
-        add_mark(&mut enabled, ground, marks, place, side, features, index)?;
+        add_mark(&mut enabled, ground, marks, pkg, side, features, index)?;
     }
     Ok(enabled)
 }
@@ -107,18 +107,18 @@ fn part_of(
     alloc: Global,
     ground: &Ground<'_>,
     marks: &[bool],
-    place: usize,
+    pkg: usize,
     side: Side,
     owner: &Package,
 ) -> Result<Part, AllocError>
     ensures { IfOk result (λ part. part
-        ≡ marked_part marks.now ground.now.bases.now place side owner.now) }
+        ≡ marked_part marks.now ground.now.bases.now pkg side owner.now) }
 {
     let listed = owner.features.as_slice();
-    let active = is_marked(marks, ground.on(place, side)?);
-    let features = names_of(alloc, ground, marks, place, side, listed)?;
+    let active = is_marked(marks, ground.on(pkg, side)?);
+    let features = names_of(alloc, ground, marks, pkg, side, listed)?;
     let entries = owner.entries.as_slice();
-    let enabled = entries_of(alloc, ground, marks, place, side, listed.len(), entries)?;
+    let enabled = entries_of(alloc, ground, marks, pkg, side, listed.len(), entries)?;
     Ok(Part {
         active,
         features,
@@ -131,14 +131,14 @@ fn sides_of(
     alloc: Global,
     ground: &Ground<'_>,
     marks: &[bool],
-    place: usize,
+    pkg: usize,
     owner: &Package,
 ) -> Result<Sides, AllocError>
     ensures { IfOk result (λ sides. sides ∷ []
-        ≡ marked_sides marks.now ground.now.bases.now place owner.now) }
+        ≡ marked_sides marks.now ground.now.bases.now pkg owner.now) }
 {
-    let target = part_of(alloc, ground, marks, place, Side::Target, owner)?;
-    let host = part_of(alloc, ground, marks, place, Side::Host, owner)?;
+    let target = part_of(alloc, ground, marks, pkg, Side::Target, owner)?;
+    let host = part_of(alloc, ground, marks, pkg, Side::Host, owner)?;
     Ok(Sides { target, host })
 }
 
@@ -152,8 +152,8 @@ pub(crate) fn features_marked(
         ≡ placed (marked_sides marks.now ground.now.bases.now) 0 ground.now.packages.now) }
 {
     let mut packages = Items::new(alloc);
-    for place in 0..ground.packages.len() {
-        packages.push(sides_of(alloc, ground, marks, place, &ground.packages[place])?)?;
+    for pkg in 0..ground.packages.len() {
+        packages.push(sides_of(alloc, ground, marks, pkg, &ground.packages[pkg])?)?;
     }
     Ok(Features { packages })
 }

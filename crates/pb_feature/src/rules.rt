@@ -14,17 +14,17 @@ use std::alloc::{AllocError, Global};
 fn add_package(
     rules: &mut Vec<Rule>,
     ground: &Ground<'_>,
-    place: usize,
+    pkg: usize,
     owner: &Package,
 ) -> Result<(), AllocError>
     ensures { OnOk result (rules.new.items ≡ rules.old.items
-        ++ package_rules ground.now.packages.now ground.now.bases.now place owner.now) }
+        ++ package_rules ground.now.packages.now ground.now.bases.now pkg owner.now) }
 {
-    add_both_entries(rules, ground, place, owner)?;
+    add_both_entries(rules, ground, pkg, owner)?;
     let features = owner.features.as_slice();
     for index in 0..features.len() {
         let items = features[index].items.as_slice();
-        add_feature(rules, ground, place, owner, index, items)?;
+        add_feature(rules, ground, pkg, owner, index, items)?;
     }
     Ok(())
 }
@@ -35,8 +35,8 @@ pub(crate) fn rules_of(alloc: Global, ground: &Ground<'_>) -> Result<Vec<Rule>, 
         ≡ rules_of ground.now.packages.now ground.now.bases.now) }
 {
     let mut rules = Vec::new(alloc);
-    for place in 0..ground.packages.len() {
-        add_package(&mut rules, ground, place, &ground.packages[place])?;
+    for pkg in 0..ground.packages.len() {
+        add_package(&mut rules, ground, pkg, &ground.packages[pkg])?;
     }
     Ok(rules)
 }

@@ -38,13 +38,13 @@ pub(crate) fn add_there(
     rules: &mut Vec<Rule>,
     ground: &Ground<'_>,
     from: usize,
-    place: usize,
+    pkg: usize,
     side: Side,
     test: bool,
     feature: usize,
 ) -> Result<(), AllocError>
     ensures { OnOk result (rules.new.items ≡ rules.old.items
-        ++ there_rules ground.now.bases.now from place side test feature) }
+        ++ there_rules ground.now.bases.now from pkg side test feature) }
 {
     if !test {
         return Ok(());
@@ -52,7 +52,7 @@ pub(crate) fn add_there(
     if feature == 0 {
         return Ok(());
     }
-    let gives = ground.has(place, side, feature)?;
+    let gives = ground.has(pkg, side, feature)?;
     add_alone(rules, from, gives)
 }
 
@@ -61,16 +61,16 @@ fn add_given(
     rules: &mut Vec<Rule>,
     ground: &Ground<'_>,
     from: usize,
-    place: usize,
+    pkg: usize,
     side: Side,
     features: &[Text],
 ) -> Result<(), AllocError>
     ensures { OnOk result (rules.new.items ≡ rules.old.items
-        ++ placed (given_rules ground.now.packages.now ground.now.bases.now from place side) 0
+        ++ placed (given_rules ground.now.packages.now ground.now.bases.now from pkg side) 0
         features.now) }
 {
     for feature in features {
-        let gives = ground.number_of_feature(place, side, feature.as_bytes())?;
+        let gives = ground.number_of_feature(pkg, side, feature.as_bytes())?;
         add_alone(rules, from, gives)?;
     }
     Ok(())
@@ -114,18 +114,18 @@ fn add_entry(
     rules: &mut Vec<Rule>,
     ground: &Ground<'_>,
     side: Side,
-    place: usize,
+    pkg: usize,
     features: usize,
     index: usize,
     entry: &Entry,
 ) -> Result<(), AllocError>
     ensures { OnOk result (rules.new.items ≡ rules.old.items
-        ++ entry_rules ground.now.packages.now ground.now.bases.now side place features index
+        ++ entry_rules ground.now.packages.now ground.now.bases.now side pkg features index
         entry.now) }
 {
-    let enabled = ground.number_of_entry(place, side, features, index)?;
+    let enabled = ground.number_of_entry(pkg, side, features, index)?;
     if !entry.optional {
-        let on = ground.on(place, side)?;
+        let on = ground.on(pkg, side)?;
         add_alone(rules, on, enabled)?;
     }
     add_enabled(rules, ground, enabled, side_made(entry.kind, side), entry)
@@ -136,16 +136,16 @@ fn add_entries(
     rules: &mut Vec<Rule>,
     ground: &Ground<'_>,
     side: Side,
-    place: usize,
+    pkg: usize,
     features: usize,
     entries: &[Entry],
 ) -> Result<(), AllocError>
     ensures { OnOk result (rules.new.items ≡ rules.old.items
-        ++ placed (entry_rules ground.now.packages.now ground.now.bases.now side place features) 0
+        ++ placed (entry_rules ground.now.packages.now ground.now.bases.now side pkg features) 0
         entries.now) }
 {
     for index in 0..entries.len() {
-        add_entry(rules, ground, side, place, features, index, &entries[index])?;
+        add_entry(rules, ground, side, pkg, features, index, &entries[index])?;
     }
     Ok(())
 }
@@ -154,14 +154,14 @@ fn add_entries(
 pub(crate) fn add_both_entries(
     rules: &mut Vec<Rule>,
     ground: &Ground<'_>,
-    place: usize,
+    pkg: usize,
     owner: &Package,
 ) -> Result<(), AllocError>
     ensures { OnOk result (rules.new.items ≡ rules.old.items
-        ++ both_entry_rules ground.now.packages.now ground.now.bases.now place owner.now) }
+        ++ both_entry_rules ground.now.packages.now ground.now.bases.now pkg owner.now) }
 {
     let features = owner.features.as_slice().len();
     let entries = owner.entries.as_slice();
-    add_entries(rules, ground, Side::Target, place, features, entries)?;
-    add_entries(rules, ground, Side::Host, place, features, entries)
+    add_entries(rules, ground, Side::Target, pkg, features, entries)?;
+    add_entries(rules, ground, Side::Host, pkg, features, entries)
 }

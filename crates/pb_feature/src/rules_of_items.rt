@@ -23,16 +23,16 @@ fn add_listed(
     rules: &mut Vec<Rule>,
     ground: &Ground<'_>,
     side: Side,
-    place: usize,
+    pkg: usize,
     feature: usize,
     own: usize,
 ) -> Result<(), AllocError>
     ensures { OnOk result (rules.new.items ≡ rules.old.items
-        ++ alone (has ground.now.bases.now place side feature)
-        (has ground.now.bases.now place side own) ∷ []) }
+        ++ alone (has ground.now.bases.now pkg side feature)
+        (has ground.now.bases.now pkg side own) ∷ []) }
 {
-    let has = ground.has(place, side, feature)?;
-    let gives = ground.has(place, side, own)?;
+    let has = ground.has(pkg, side, feature)?;
+    let gives = ground.has(pkg, side, own)?;
     add_alone(rules, has, gives)
 }
 
@@ -40,19 +40,19 @@ fn add_listed(
 fn add_own(
     rules: &mut Vec<Rule>,
     ground: &Ground<'_>,
-    place: usize,
+    pkg: usize,
     features: &FeaturesByName,
     feature: usize,
     item: &FeatureItem,
 ) -> Result<(), AllocError>
     ensures { OnOk result (rules.new.items ≡ rules.old.items
-        ++ both_own_rules ground.now.bases.now place features.now feature item.now) }
+        ++ both_own_rules ground.now.bases.now pkg features.now feature item.now) }
 {
     match item {
         FeatureItem::Own(name) => {
             let own = slot(features, name.as_bytes());
-            add_listed(rules, ground, Side::Target, place, feature, own)?;
-            add_listed(rules, ground, Side::Host, place, feature, own)
+            add_listed(rules, ground, Side::Target, pkg, feature, own)?;
+            add_listed(rules, ground, Side::Host, pkg, feature, own)
         }
         _ => Ok(()),
     }
@@ -62,7 +62,7 @@ fn add_own(
 #[derive(Clone, Copy)]
 struct AtEntry<'a> {
     /// The index of the package.
-    place: usize,
+    pkg: usize,
     /// The features of the package.
     features: &'a FeaturesByName,
     /// The number of the feature that lists the item, counted from 1.
@@ -76,18 +76,18 @@ struct AtEntry<'a> {
 /// Returns the number of the feature that lists an item, on a side.
 fn number_of_listing(ground: &Ground<'_>, side: Side, at: &AtEntry<'_>) -> Result<usize, AllocError>
     ensures { IfOk result (λ number. number
-        ≡ has ground.now.bases.now at.now.place side at.now.feature) }
+        ≡ has ground.now.bases.now at.now.pkg side at.now.feature) }
 {
-    ground.has(at.place, side, at.feature)
+    ground.has(at.pkg, side, at.feature)
 }
 
 /// Returns the number of the entry that an item names, on a side.
 fn number_of_named(ground: &Ground<'_>, side: Side, at: &AtEntry<'_>) -> Result<usize, AllocError>
     ensures { IfOk result (λ number. number
-        ≡ enabled ground.now.bases.now at.now.place side
+        ≡ enabled ground.now.bases.now at.now.pkg side
         (length at.now.features.now) at.now.index) }
 {
-    ground.number_of_entry(at.place, side, at.features.as_slice().len(), at.index)
+    ground.number_of_entry(at.pkg, side, at.features.as_slice().len(), at.index)
 }
 
 /// Adds the rule of an item `dep:N` for an entry N.
@@ -98,8 +98,8 @@ fn add_dependency(
     at: &AtEntry<'_>,
 ) -> Result<(), AllocError>
     ensures { OnOk result (rules.new.items ≡ rules.old.items
-        ++ alone (has ground.now.bases.now at.now.place side at.now.feature)
-        (enabled ground.now.bases.now at.now.place side (length at.now.features.now) at.now.index)
+        ++ alone (has ground.now.bases.now at.now.pkg side at.now.feature)
+        (enabled ground.now.bases.now at.now.pkg side (length at.now.features.now) at.now.index)
         ∷ []) }
 {
     let has = number_of_listing(ground, side, at)?;
@@ -118,8 +118,8 @@ fn add_of(
 ) -> Result<(), AllocError>
     ensures { OnOk result (rules.new.items ≡ rules.old.items
         ++ of_rules ground.now.bases.now
-        (has ground.now.bases.now at.now.place side at.now.feature) at.now.place side own asked
-        (enabled ground.now.bases.now at.now.place side (length at.now.features.now) at.now.index)
+        (has ground.now.bases.now at.now.pkg side at.now.feature) at.now.pkg side own asked
+        (enabled ground.now.bases.now at.now.pkg side (length at.now.features.now) at.now.index)
         at.now.entry.now) }
 {
     let entry = at.entry;
@@ -128,7 +128,7 @@ fn add_of(
     add_alone(rules, has, enabled)?;
     let gives = ground.has(entry.to, side_made(entry.kind, side), asked)?;
     add_alone(rules, has, gives)?;
-    add_there(rules, ground, has, at.place, side, entry.optional, own)
+    add_there(rules, ground, has, at.pkg, side, entry.optional, own)
 }
 
 /// Adds the rule of an item `N?/F` for an entry N, by the slot of the feature F.
@@ -140,8 +140,8 @@ fn add_of_enabled(
     asked: usize,
 ) -> Result<(), AllocError>
     ensures { OnOk result (rules.new.items ≡ rules.old.items
-        ++ pair (has ground.now.bases.now at.now.place side at.now.feature)
-        (enabled ground.now.bases.now at.now.place side (length at.now.features.now) at.now.index)
+        ++ pair (has ground.now.bases.now at.now.pkg side at.now.feature)
+        (enabled ground.now.bases.now at.now.pkg side (length at.now.features.now) at.now.index)
         (has ground.now.bases.now at.now.entry.now.to (side_of at.now.entry.now.kind side) asked)
         ∷ []) }
 {
@@ -174,7 +174,7 @@ fn add_item(
     item: &FeatureItem,
 ) -> Result<(), AllocError>
     ensures { OnOk result (rules.new.items ≡ rules.old.items
-        ++ both_item_rules ground.now.packages.now ground.now.bases.now at.now.place
+        ++ both_item_rules ground.now.packages.now ground.now.bases.now at.now.pkg
         at.now.features.now at.now.feature item.now at.now.index at.now.entry.now) }
 {
     let entry = at.entry;
@@ -235,14 +235,14 @@ fn entry_named(item: &FeatureItem) -> Option<&Text>
 fn add_found(
     rules: &mut Vec<Rule>,
     ground: &Ground<'_>,
-    place: usize,
+    pkg: usize,
     owner: &Package,
     feature: usize,
     item: &FeatureItem,
     index: Option<usize>,
 ) -> Result<(), AllocError>
     ensures { OnOk result (rules.new.items ≡ rules.old.items
-        ++ found (both_item_rules ground.now.packages.now ground.now.bases.now place
+        ++ found (both_item_rules ground.now.packages.now ground.now.bases.now pkg
         owner.now.features feature item.now) [] owner.now.entries index) }
 {
     let Some(index) = index else {
@@ -251,7 +251,7 @@ fn add_found(
     match owner.entries.as_slice().get(index) {
         Some(entry) => {
             let at = AtEntry {
-                place,
+                pkg,
                 features: &owner.features,
                 feature,
                 index,
@@ -268,7 +268,7 @@ fn add_found(
 fn add_named(
     rules: &mut Vec<Rule>,
     ground: &Ground<'_>,
-    place: usize,
+    pkg: usize,
     owner: &Package,
     feature: usize,
     item: &FeatureItem,
@@ -276,14 +276,14 @@ fn add_named(
 ) -> Result<(), AllocError>
     requires { entry_named item.now ≡ Some name.now }
     ensures { OnOk result (rules.new.items ≡ rules.old.items
-        ++ placed (both_item_rules ground.now.packages.now ground.now.bases.now place
+        ++ placed (both_item_rules ground.now.packages.now ground.now.bases.now pkg
         owner.now.features feature item.now) 0 owner.now.entries) }
 {
     let name = name.as_bytes();
-    let normal = owner.entries.place_of(DependencyKind::Normal, name);
-    add_found(rules, ground, place, owner, feature, item, normal)?;
-    let build = owner.entries.place_of(DependencyKind::Build, name);
-    add_found(rules, ground, place, owner, feature, item, build)?;
+    let normal = owner.entries.index_of(DependencyKind::Normal, name);
+    add_found(rules, ground, pkg, owner, feature, item, normal)?;
+    let build = owner.entries.index_of(DependencyKind::Build, name);
+    add_found(rules, ground, pkg, owner, feature, item, build)?;
     Ok(())
 }
 
@@ -291,19 +291,19 @@ fn add_named(
 fn add_one_item(
     rules: &mut Vec<Rule>,
     ground: &Ground<'_>,
-    place: usize,
+    pkg: usize,
     owner: &Package,
     feature: usize,
     item: &FeatureItem,
 ) -> Result<(), AllocError>
     ensures { OnOk result (rules.new.items ≡ rules.old.items
-        ++ one_item_rules ground.now.packages.now ground.now.bases.now place owner.now feature 0
+        ++ one_item_rules ground.now.packages.now ground.now.bases.now pkg owner.now feature 0
         item.now) }
 {
-    add_own(rules, ground, place, &owner.features, feature, item)?;
+    add_own(rules, ground, pkg, &owner.features, feature, item)?;
     match entry_named(item) {
         Some(name) => {
-            add_named(rules, ground, place, owner, feature, item, name)?;
+            add_named(rules, ground, pkg, owner, feature, item, name)?;
             Ok(())
         }
         None => Ok(()),
@@ -314,20 +314,20 @@ fn add_one_item(
 pub(crate) fn add_feature(
     rules: &mut Vec<Rule>,
     ground: &Ground<'_>,
-    place: usize,
+    pkg: usize,
     owner: &Package,
     index: usize,
     items: &[FeatureItem],
 ) -> Result<(), AllocError>
     ensures { OnOk result (rules.new.items ≡ rules.old.items
-        ++ placed (one_item_rules ground.now.packages.now ground.now.bases.now place owner.now
+        ++ placed (one_item_rules ground.now.packages.now ground.now.bases.now pkg owner.now
         (index + 1)) 0 items.now) }
 {
     let Some(feature) = index.checked_add(1) else {
         return Err(AllocError);
     };
     for item in items {
-        add_one_item(rules, ground, place, owner, feature, item)?;
+        add_one_item(rules, ground, pkg, owner, feature, item)?;
     }
     Ok(())
 }

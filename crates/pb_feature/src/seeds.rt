@@ -66,13 +66,13 @@ fn add_chosen(
     seeds: &mut Vec<usize>,
     ground: &Ground<'_>,
     selection: &Selection,
-    place: usize,
+    pkg: usize,
     name: &str,
     index: usize,
     feature: &Feature,
 ) -> Result<(), AllocError>
     ensures { OnOk result (seeds.new.items ≡ seeds.old.items
-        ++ chosen_seeds ground.now.bases.now selection.now place name.now index feature.now) }
+        ++ chosen_seeds ground.now.bases.now selection.now pkg name.now index feature.now) }
 {
     if !is_chosen(alloc, selection, name, feature.name.as_str())? {
         return Ok(());
@@ -80,7 +80,7 @@ fn add_chosen(
     let Some(slot) = index.checked_add(1) else {
         return Err(AllocError);
     };
-    let has = ground.has(place, Side::Target, slot)?;
+    let has = ground.has(pkg, Side::Target, slot)?;
     seeds.push(has)?;
     Ok(())
 }
@@ -91,13 +91,13 @@ fn add_owner(
     seeds: &mut Vec<usize>,
     ground: &Ground<'_>,
     selection: &Selection,
-    place: usize,
+    pkg: usize,
     owner: &Package,
 ) -> Result<(), AllocError>
     ensures { OnOk result (seeds.new.items ≡ seeds.old.items
-        ++ owner_seeds ground.now.bases.now selection.now place (Some owner.now)) }
+        ++ owner_seeds ground.now.bases.now selection.now pkg (Some owner.now)) }
 {
-    let on = ground.on(place, Side::Target)?;
+    let on = ground.on(pkg, Side::Target)?;
     seeds.push(on)?;
     let name = owner.name.as_str();
     let features = owner.features.as_slice();
@@ -107,7 +107,7 @@ fn add_owner(
             seeds,
             ground,
             selection,
-            place,
+            pkg,
             name,
             index,
             &features[index],
@@ -122,13 +122,13 @@ fn add_selected(
     seeds: &mut Vec<usize>,
     ground: &Ground<'_>,
     selection: &Selection,
-    place: usize,
+    pkg: usize,
 ) -> Result<(), AllocError>
     ensures { OnOk result (seeds.new.items ≡ seeds.old.items
-        ++ selected_seeds ground.now.packages.now ground.now.bases.now selection.now 0 place) }
+        ++ selected_seeds ground.now.packages.now ground.now.bases.now selection.now 0 pkg) }
 {
-    match ground.packages.get(place) {
-        Some(owner) => add_owner(alloc, seeds, ground, selection, place, owner),
+    match ground.packages.get(pkg) {
+        Some(owner) => add_owner(alloc, seeds, ground, selection, pkg, owner),
         None => Ok(()),
     }
 }
@@ -143,8 +143,8 @@ pub(crate) fn seeds_of(
         ≡ seeds_of ground.now.packages.now ground.now.bases.now selection.now) }
 {
     let mut seeds = Vec::new(alloc);
-    for place in selection.packages.as_slice() {
-        add_selected(alloc, &mut seeds, ground, selection, *place)?;
+    for pkg in selection.packages.as_slice() {
+        add_selected(alloc, &mut seeds, ground, selection, *pkg)?;
     }
     Ok(seeds)
 }

@@ -48,10 +48,10 @@ impl Sides {
 
 impl Features {
     /// Returns whether the package at this index is active on this side. The call takes no memory.
-    pub fn active(&self, place: usize, side: Side) -> bool
-        ensures { result ≡ is_active self.now place side }
+    pub fn active(&self, pkg: usize, side: Side) -> bool
+        ensures { result ≡ is_active self.now pkg side }
     {
-        match self.packages.as_slice().get(place) {
+        match self.packages.as_slice().get(pkg) {
             Some(sides) => sides.part(side).active,
             None => false,
         }
@@ -59,10 +59,10 @@ impl Features {
 
     /// Returns the names of the features that are on in a package on this side, in byte order. The
     /// package is given by its index. The call takes no memory.
-    pub fn features_of(&self, place: usize, side: Side) -> &[Text]
-        ensures { result.now ≡ features_at self.now place side }
+    pub fn features_of(&self, pkg: usize, side: Side) -> &[Text]
+        ensures { result.now ≡ features_at self.now pkg side }
     {
-        match self.packages.as_slice().get(place) {
+        match self.packages.as_slice().get(pkg) {
             Some(sides) => sides.part(side).features.as_slice(),
             None => &[],
         }
@@ -70,10 +70,10 @@ impl Features {
 
     /// Returns whether an entry of a package is enabled on this side. The package and the entry are
     /// given by their indices. The call takes no memory.
-    pub fn enabled(&self, place: usize, side: Side, entry: usize) -> bool
-        ensures { result ≡ is_enabled self.now place side entry }
+    pub fn enabled(&self, pkg: usize, side: Side, entry: usize) -> bool
+        ensures { result ≡ is_enabled self.now pkg side entry }
     {
-        match self.packages.as_slice().get(place) {
+        match self.packages.as_slice().get(pkg) {
             Some(sides) => is_marked(sides.part(side).enabled.as_slice(), entry),
             None => false,
         }

@@ -48,14 +48,14 @@ turning_are nodes roots extents list h is v = (
   λ has.
       let (e, found, at) = map_contains node_of (filter (λ x. x.turns) extents) v (subst (λ (l : List ℕ). Contains l v) is has) in
       let (in', turns) = filter_contains (λ x. x.turns) extents e found in
-      let (k, place) = at_from_contains extents e in' in
-      let x = all_at (IsExtent nodes) extents h.each k e place in
+      let (k, index) = at_from_contains extents e in' in
+      let x = all_at (IsExtent nodes) extents h.each k e index in
       let reached : IsReached nodes roots e.node = (h.same e.node).0 (contains_map node_of extents e in') in
       (subst (IsReached nodes roots) at reached, subst (λ w. Reaches nodes w w) at (x.turns.0 turns)),
   λ both.
       let (e, in', at) = map_contains node_of extents v ((h.same v).1 both.0) in
-      let (k, place) = at_from_contains extents e in' in
-      let x = all_at (IsExtent nodes) extents h.each k e place in
+      let (k, index) = at_from_contains extents e in' in
+      let x = all_at (IsExtent nodes) extents h.each k e index in
       let turns : e.turns ≡ true = x.turns.1 (subst (λ w. Reaches nodes w w) (sym at) both.1) in
       subst (λ (l : List ℕ). Contains l v) (sym is) (subst (Contains (map node_of (filter (λ y. y.turns) extents))) at (contains_map node_of _ e (contains_filter (λ y. y.turns) extents e in' turns))),
 )
@@ -114,13 +114,13 @@ circle_is nodes roots list found are some h = record {
 pub nodes_within : (n : ℕ) (extents : List Extent) (items list : List ℕ) → All (λ e. e.node < n) extents → items ≡ map node_of extents → list ≡ items → All (λ v. v < n) list
 nodes_within n extents items list h is same = all_within n list (λ v has.
     let (e, in', at) = map_contains node_of extents v (subst (λ (l : List ℕ). Contains l v) (same ∙ is) has) in
-    let (k, place) = at_from_contains extents e in' in
-    subst (λ w. w < n) at (all_at (λ x. x.node < n) extents h k e place))
+    let (k, index) = at_from_contains extents e in' in
+    subst (λ w. w < n) at (all_at (λ x. x.node < n) extents h k e index))
 
 pub ranks_within : (nodes : List Node) (n : ℕ) (list levels : List ℕ) (ranks lent : List Rank) → AreRanked nodes list levels ranks → All (λ v. v < n) list → lent ≡ ranks → All (λ r. r.node < n) lent
 ranks_within nodes n list levels ranks lent h within same = subst (λ (x : List Rank). All (λ r. r.node < n) x) (sym same) (λ k d lt.
-    let (j, place) = at_from_contains list (get_or ranks k d).node ((h.same (get_or ranks k d).node).0 (contains_map rank_node ranks (get_or ranks k d) (Contains-get_or ranks k d lt))) in
-    all_at (λ v. v < n) list within j (get_or ranks k d).node place)
+    let (j, index) = at_from_contains list (get_or ranks k d).node ((h.same (get_or ranks k d).node).0 (contains_map rank_node ranks (get_or ranks k d) (Contains-get_or ranks k d lt))) in
+    all_at (λ v. v < n) list within j (get_or ranks k d).node index)
 
 pub all_apart : (nodes : List Node) (list levels : List ℕ) (ranks lent : List Rank) → AreRanked nodes list levels ranks → lent ≡ ranks → AllPairs (λ a b. a.node ≢ b.node) lent
 all_apart nodes list levels ranks lent h same = subst (AllPairs (λ (a : Rank) (b : Rank). a.node ≢ b.node)) (sym same) (λ i j d lt in'.

@@ -29,7 +29,7 @@ by_key_same nodes list items lent found shown is same h shows v = (
 -- no more steps than nodes
 pub steps_few : (nodes : List Node) (found shown levels : List ℕ) (ranks lent : List Rank) (steps : List Step) (most : ℕ) → length found ≤ most → shown ≡ found → AreRanked nodes shown levels ranks → lent ≡ ranks → AreSteps nodes lent steps → length steps ≤ most
 steps_few nodes found shown levels ranks lent steps most few shows ranked same are =
-    let long : length steps ≡ length lent = AllZip-long (IsPlaced nodes are.places) lent steps are.each in
+    let long : length steps ≡ length lent = AllZip-long (IsPlaced nodes are.indices) lent steps are.each in
     let a : length lent ≡ length ranks = ap length same in
     let b : length shown ≡ length found = ap length shows in
     omega (arith, long, a, b, few, ranked.few)

@@ -19,10 +19,10 @@ level_below needs (suc n) u = above (map (level_below needs n) (needs u))
 
 -- what is needed comes earlier
 pub record Earlier (extents : List Extent) (k v : ℕ) : Type 0 where
-  pub place : ℕ
+  pub index : ℕ
   pub extent : Extent
-  pub before : place < k
-  pub at : slice_get extents place ≡ Some extent
+  pub before : index < k
+  pub at : slice_get extents index ≡ Some extent
   pub node : extent.node ≡ v
 
 pub earlier : (nodes : List Node) (extents : List Extent) → AreRising nodes extents → (k : ℕ) (e : Extent) → slice_get extents k ≡ Some e → (v : ℕ) → Contains (needs_at nodes e.node) v → Earlier extents k v
@@ -31,17 +31,17 @@ earlier nodes extents h k e at v need =
     let listed = contains_map node_of extents e here in
     let there = h.closed e.node v listed need in
     let (b, has, is) = map_contains node_of extents v there in
-    let (j, place) = at_from_contains extents b has in
+    let (j, index) = at_from_contains extents b has in
     let ue = All-contains (IsExtent nodes) extents e h.each here in
     let ub = All-contains (IsExtent nodes) extents b h.each has in
     let straight : Reaches nodes b.node b.node → ⊥ = h.straight b.node (contains_map node_of extents b has) in
     let less : length ub.reached < length ue.reached = less_below nodes e.node b.node ue.reached ub.reached ue.are ub.are (subst (Contains (needs_at nodes e.node)) (sym is) need) straight in
     elim (cases_lt j k) [
-      | inl lt ↦ record { place = j; extent = b; before = lt; at = place; node = is }
+      | inl lt ↦ record { index = j; extent = b; before = lt; at = index; node = is }
       | inr le ↦ absurd (
-          let rises = h.rising k j b le (slice_get_within extents j b place) in
+          let rises = h.rising k j b le (slice_get_within extents j b index) in
           let x : get_or extents k b ≡ e = get_or_from_slice_get extents k e b at in
-          let y : get_or extents j b ≡ b = get_or_from_slice_get extents j b b place in
+          let y : get_or extents j b ≡ b = get_or_from_slice_get extents j b b index in
           let rises' : e.count ≤ b.count = subst (λ (z : Extent). e.count ≤ z.count) y (subst (λ (z : Extent). z.count ≤ (get_or extents j b).count) x rises) in
           omega (arith, rises', less, ue.count, ub.count))
     ]
@@ -51,7 +51,7 @@ pub stable : (nodes : List Node) (extents : List Extent) → AreRising nodes ext
 stable nodes extents h zero k e at lt = absurd (omega arith)
 stable nodes extents h (suc n) k e at lt = ap above (map_same _ _ (needs_at nodes e.node) (λ v need.
     let p = earlier nodes extents h k e at v need in
-    subst (λ w. level_below (needs_at nodes) n w ≡ level_below (needs_at nodes) (suc n) w) p.node (stable nodes extents h n p.place p.extent p.at (let b = p.before in omega arith))))
+    subst (λ w. level_below (needs_at nodes) n w ≡ level_below (needs_at nodes) (suc n) w) p.node (stable nodes extents h n p.index p.extent p.at (let b = p.before in omega arith))))
 
 -- the levels of the first so many are told
 pub record Leveled (nodes : List Node) (extents : List Extent) (count : ℕ) (levels : List ℕ) : Type 0 where
@@ -65,7 +65,7 @@ next_level nodes extents h count k levels so upto e at =
     let same : map (slice_index levels) (needs_at nodes e.node) ≡ map (level_below (needs_at nodes) (length extents)) (needs_at nodes e.node) =
     map_same _ _ _ (λ v need.
     let p = earlier nodes extents h k e at v need in
-    subst (λ w. slice_index levels w ≡ level_below (needs_at nodes) (length extents) w) p.node (so.told p.place p.extent (let b = p.before in omega arith) p.at)) in
+    subst (λ w. slice_index levels w ≡ level_below (needs_at nodes) (length extents) w) p.node (so.told p.index p.extent (let b = p.before in omega arith) p.at)) in
     ap above same ∙ sym (stable nodes extents h (length extents) k e at (slice_get_within extents k e at))
 
 some_same : {A : Type 0} (x y : A) → Some x ≡ Some y → x ≡ y
@@ -81,11 +81,11 @@ leveled_more nodes extents h i levels so e at inside level is =
         | inl same ↦ let g = get_or-set_same levels e.node level 0 inside in let g' : slice_index (set levels e.node level) v ≡ level = ap (slice_index (set levels e.node level)) same ∙ g in omega (arith, g', small)
         | inr other ↦ let g = get_or-set_other levels e.node v level 0 other in let low = so.low v in omega (arith, g, low)
       ];
-      told = λ k f lt place. elim (cases_eq f.node e.node) [
+      told = λ k f lt index. elim (cases_eq f.node e.node) [
         | inl same ↦ ap (slice_index (set levels e.node level)) same ∙ get_or-set_same levels e.node level 0 inside ∙ is ∙ target ∙ ap (level_below (needs_at nodes) (length extents)) (sym same)
         | inr other ↦ get_or-set_other levels e.node f.node level 0 other ∙ elim (cases_eq k i) [
-          | inl last ↦ absurd (other (ap node_of (some_same f e (sym place ∙ ap (slice_get extents) last ∙ at))))
-          | inr before ↦ so.told k f (omega arith) place
+          | inl last ↦ absurd (other (ap node_of (some_same f e (sym index ∙ ap (slice_get extents) last ∙ at))))
+          | inr before ↦ so.told k f (omega arith) index
         ]
       ];
     }

@@ -1,26 +1,26 @@
--- What things give by their places.
+-- What things give by their indices.
 use Rattle.std.proofs.Common.{◌≡◌, inl, inr, ℕ, zero, suc, ◌+◌, Bool, true, false, List, [], ◌∷◌, Contains, Some, refl, sym, subst, arith, if◌then◌else◌}
 use Rattle.std.specs.Prelude.{slice_get}
 use Rattle.std.proofs.lemmas.List.Elements.{Contains-append_left, Contains-append_right, Contains-append_cases}
 use Rattle.pb_graph.specs.Placed.{placed}
 use Rattle.pb_graph.proofs.Membership.{none}
 
--- one of the things, at its place, gives it
+-- one of the things, at its index, gives it
 pub record GivenAt {A B : Type 0} (f : ℕ → A → List B) (n : ℕ) (xs : List A) (y : B) : Type 0 where
-  pub place : ℕ
+  pub index : ℕ
   pub thing : A
-  pub at : slice_get xs place ≡ Some thing
-  pub gives : Contains (f (n + place) thing) y
+  pub at : slice_get xs index ≡ Some thing
+  pub gives : Contains (f (n + index) thing) y
 
 module _ {A B : Type 0} (f : ℕ → A → List B) where
   placed_after : (n : ℕ) (xs : List A) (y : B) → Contains (placed f n xs) y → GivenAt f n xs y
   placed_after n [] y is = absurd (none y is)
   placed_after n (x ∷ xs) y is = elim (Contains-append_cases (f n x) (placed f (n + 1) xs) y is) [
-    | inl here ↦ (let e : n ≡ n + 0 = omega arith in record { place = 0; thing = x; at = refl; gives = subst (λ m. Contains (f m x) y) e here })
+    | inl here ↦ (let e : n ≡ n + 0 = omega arith in record { index = 0; thing = x; at = refl; gives = subst (λ m. Contains (f m x) y) e here })
     | inr there ↦
         (let h = placed_after (n + 1) xs y there in
-        let e : (n + 1) + h.place ≡ n + suc h.place = omega arith in
-        record { place = suc h.place; thing = h.thing; at = h.at; gives = subst (λ m. Contains (f m h.thing) y) e h.gives })
+        let e : (n + 1) + h.index ≡ n + suc h.index = omega arith in
+        record { index = suc h.index; thing = h.thing; at = h.at; gives = subst (λ m. Contains (f m h.thing) y) e h.gives })
   ]
 
   placed_before : (n : ℕ) (xs : List A) (k : ℕ) (x : A) (m : ℕ) (y : B) → slice_get xs k ≡ Some x → m ≡ n + k → Contains (f m x) y → Contains (placed f n xs) y
@@ -35,8 +35,8 @@ module _ {A B : Type 0} (f : ℕ → A → List B) where
   pub placed_from : (xs : List A) (y : B) → Contains (placed f 0 xs) y → (k : ℕ) × (x : A) × (slice_get xs k ≡ Some x) × Contains (f k x) y
   placed_from xs y is =
       let h = placed_after 0 xs y is in
-      let e : 0 + h.place ≡ h.place = omega arith in
-      (h.place, h.thing, h.at, subst (λ m. Contains (f m h.thing) y) e h.gives)
+      let e : 0 + h.index ≡ h.index = omega arith in
+      (h.index, h.thing, h.at, subst (λ m. Contains (f m h.thing) y) e h.gives)
 
   pub placed_to : (xs : List A) (k : ℕ) (x : A) (y : B) → slice_get xs k ≡ Some x → Contains (f k x) y → Contains (placed f 0 xs) y
   placed_to xs k x y at gives = placed_before 0 xs k x k y at (omega arith) gives

@@ -10,35 +10,35 @@ use Rattle.std.proofs.lemmas.Option.{get_or_from_slice_get, slice_get_within}
 use Rattle.std.proofs.lemmas.Map.Keys.{IsStrictlyIncreasing-from_sorted}
 use Rattle.pb_graph.specs.declared.graph.Node.{Node}
 use Rattle.pb_graph.specs.declared.ranks.Rank.{Rank}
-use Rattle.pb_graph.specs.Working.{AreReached, rank_node, PlacesTell, ArePlacesBy}
+use Rattle.pb_graph.specs.Working.{AreReached, rank_node, IndicesTell, AreIndicesBy}
 use Rattle.pb_graph.proofs.Reaching.{found_within}
 
 some_same : {A : Type 0} (x y : A) → Some x ≡ Some y → x ≡ y
 some_same x y e = cc
 
-pub places_more : (nodes : List Node) (ranks : List Rank) (i : ℕ) (places : List ℕ) → PlacesTell nodes ranks i places → AllPairs (λ a b. a.node ≢ b.node) ranks → (r : Rank) → slice_get ranks i ≡ Some r → r.node < length places → PlacesTell nodes ranks (i + 1) (set places r.node i)
-places_more nodes ranks i places h apart r at inside = record {
-  long = length-set places r.node i ∙ h.long;
-  tell = λ k q lt place. elim (cases_eq k i) [
+pub indices_more : (nodes : List Node) (ranks : List Rank) (i : ℕ) (indices : List ℕ) → IndicesTell nodes ranks i indices → AllPairs (λ a b. a.node ≢ b.node) ranks → (r : Rank) → slice_get ranks i ≡ Some r → r.node < length indices → IndicesTell nodes ranks (i + 1) (set indices r.node i)
+indices_more nodes ranks i indices h apart r at inside = record {
+  long = length-set indices r.node i ∙ h.long;
+  tell = λ k q lt index. elim (cases_eq k i) [
     | inl last ↦
-        let same : q ≡ r = some_same q r (sym place ∙ ap (slice_get ranks) last ∙ at) in
-        ap (λ s. slice_index (set places r.node i) s.node) same ∙ get_or-set_same places r.node i 0 inside ∙ sym last
+        let same : q ≡ r = some_same q r (sym index ∙ ap (slice_get ranks) last ∙ at) in
+        ap (λ s. slice_index (set indices r.node i) s.node) same ∙ get_or-set_same indices r.node i 0 inside ∙ sym last
     | inr other ↦
         let before : k < i = omega arith in
-        let x : get_or ranks k r ≡ q = get_or_from_slice_get ranks k q r place in
+        let x : get_or ranks k r ≡ q = get_or_from_slice_get ranks k q r index in
         let y : get_or ranks i r ≡ r = get_or_from_slice_get ranks i r r at in
         let ne : q.node ≢ r.node = λ e. apart k i r before (slice_get_within ranks i r at) (ap rank_node x ∙ e ∙ sym (ap rank_node y)) in
-        get_or-set_other places r.node q.node i 0 ne ∙ h.tell k q before place
+        get_or-set_other indices r.node q.node i 0 ne ∙ h.tell k q before index
   ];
 }
 
-pub placed_all : (places list old new found : List ℕ) → old ≡ map (slice_index places) list → IsStrictlySortedBy nat_cmp new → ((x : ℕ) → Contains old x → Any (λ y. eqb x y ≡ true) new) → ((x : ℕ) → Contains new x → Contains old x) → found ≡ new → ArePlacesBy places list found
-placed_all places list old new found is rises keeps adds_none same = record {
+pub placed_all : (indices list old new found : List ℕ) → old ≡ map (slice_index indices) list → IsStrictlySortedBy nat_cmp new → ((x : ℕ) → Contains old x → Any (λ y. eqb x y ≡ true) new) → ((x : ℕ) → Contains new x → Contains old x) → found ≡ new → AreIndicesBy indices list found
+placed_all indices list old new found is rises keeps adds_none same = record {
   rises = subst IsStrictlyIncreasing (sym same) (IsStrictlyIncreasing-from_sorted new rises);
-  same = λ place. (
-    λ has. subst (λ (l : List ℕ). Contains l place) is (adds_none place (subst (λ (l : List ℕ). Contains l place) same has)),
-    λ has. let (k, y, lt, at, e) = keeps place (subst (λ (l : List ℕ). Contains l place) (sym is) has) in
-        subst (Contains found) (sym ((Decides-eqb place y).0 e)) (subst (λ (l : List ℕ). Contains l y) (sym same) (k, lt, at)),
+  same = λ index. (
+    λ has. subst (λ (l : List ℕ). Contains l index) is (adds_none index (subst (λ (l : List ℕ). Contains l index) same has)),
+    λ has. let (k, y, lt, at, e) = keeps index (subst (λ (l : List ℕ). Contains l index) (sym is) has) in
+        subst (Contains found) (sym ((Decides-eqb index y).0 e)) (subst (λ (l : List ℕ). Contains l y) (sym same) (k, lt, at)),
   );
 }
 

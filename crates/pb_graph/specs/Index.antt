@@ -9,7 +9,7 @@ use Rattle.pb_graph.specs.Table.{joined_by}
 -- the link with a number: 0 means no link, and any other number is one more than the link's index
 abbrev pub link_at : List Link → ℕ → Option Link
 link_at links zero = None
-link_at links (suc place) = slice_get links place
+link_at links (suc index) = slice_get links index
 
 -- A link is read if it has the given number. A link is also read if the chain of `next` numbers
 -- from the link with this number leads to it.

@@ -18,12 +18,12 @@ level_of (Some p) = p.level
 
 -- the level of the step at an index
 abbrev pub level_at : List Step → ℕ → ℕ
-level_at steps place = level_of (slice_get steps place)
+level_at steps index = level_of (slice_get steps index)
 
--- `places` lists, in ascending order, the indices of the steps whose nodes are wanted
-pub record ArePlaces (steps : List Step) (Wanted : ℕ → Type 0) (places : List ℕ) : Type 0 where
-  pub rises : IsStrictlyIncreasing places
-  pub same : (place : ℕ) → Contains places place ↔ ((p : Step) × (slice_get steps place ≡ Some p) × Wanted p.node)
+-- `indices` lists, in ascending order, the indices of the steps whose nodes are wanted
+pub record AreIndices (steps : List Step) (Wanted : ℕ → Type 0) (indices : List ℕ) : Type 0 where
+  pub rises : IsStrictlyIncreasing indices
+  pub same : (index : ℕ) → Contains indices index ↔ ((p : Step) × (slice_get steps index ≡ Some p) × Wanted p.node)
 
 -- The steps are the roots and all nodes that they reach, in order. Each step lists the steps that
 -- it needs and those that it reaches.
@@ -32,8 +32,8 @@ pub record IsOrder (nodes : List Node) (roots : List ℕ) (steps : List Step) : 
   pub keys : All (λ p. p.key ≡ key_at nodes p.node) steps
   pub levels : All (λ p. p.level ≡ above (map (level_at steps) p.needs)) steps
   pub order : AllPairs ComesBefore steps
-  pub needs : All (λ p. ArePlaces steps (Contains (needs_at nodes p.node)) p.needs) steps
-  pub reaches : All (λ p. ArePlaces steps (Reaches nodes p.node) p.reaches) steps
+  pub needs : All (λ p. AreIndices steps (Contains (needs_at nodes p.node)) p.needs) steps
+  pub reaches : All (λ p. AreIndices steps (Reaches nodes p.node) p.reaches) steps
   pub no_circle : (u : ℕ) → IsReached nodes roots u → Reaches nodes u u → ⊥
 
 -- The circle lists all reached nodes that reach themselves, in byte order of their keys. At least

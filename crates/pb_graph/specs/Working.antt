@@ -99,32 +99,32 @@ pub record AreRanked (nodes : List Node) (list levels : List ℕ) (ranks : List 
 
 -- The steps of the order.
 
--- for each of the first `count` ranks, the table `places` has the rank's index at the rank's node
-pub record PlacesTell (nodes : List Node) (ranks : List Rank) (count : ℕ) (places : List ℕ) : Type 0 where
-  pub long : length places ≡ length nodes
-  pub tell : (k : ℕ) (r : Rank) → k < count → slice_get ranks k ≡ Some r → slice_index places r.node ≡ k
+-- for each of the first `count` ranks, the table `indices` has the rank's index at the rank's node
+pub record IndicesTell (nodes : List Node) (ranks : List Rank) (count : ℕ) (indices : List ℕ) : Type 0 where
+  pub long : length indices ≡ length nodes
+  pub tell : (k : ℕ) (r : Rank) → k < count → slice_get ranks k ≡ Some r → slice_index indices r.node ≡ k
 
 -- `found` lists, in ascending order, what the table has for the nodes of the list
-pub record ArePlacesBy (places list found : List ℕ) : Type 0 where
+pub record AreIndicesBy (indices list found : List ℕ) : Type 0 where
   pub rises : IsStrictlyIncreasing found
-  pub same : (place : ℕ) → Contains found place ↔ Contains (map (slice_index places) list) place
+  pub same : (index : ℕ) → Contains found index ↔ Contains (map (slice_index indices) list) index
 
 -- a step has its rank's node, key and level, and the indices of the nodes that this node needs and
 -- reaches
-pub record IsPlaced (nodes : List Node) (places : List ℕ) (rank : Rank) (p : Step) : Type 0 where
+pub record IsPlaced (nodes : List Node) (indices : List ℕ) (rank : Rank) (p : Step) : Type 0 where
   pub node : p.node ≡ rank.node
   pub key : p.key ≡ rank.key
   pub level : p.level ≡ rank.level
-  pub needs : ArePlacesBy places (needs_at nodes rank.node) p.needs
+  pub needs : AreIndicesBy indices (needs_at nodes rank.node) p.needs
   pub reached : List ℕ
   pub are : AreReached nodes (needs_at nodes rank.node) reached
-  pub reaches : ArePlacesBy places reached p.reaches
+  pub reaches : AreIndicesBy indices reached p.reaches
 
 -- the plan has one step for each rank, in the order of the ranks
 pub record AreSteps (nodes : List Node) (ranks : List Rank) (plan : List Step) : Type 0 where
-  pub places : List ℕ
-  pub told : PlacesTell nodes ranks (length ranks) places
-  pub each : AllZip (IsPlaced nodes places) ranks plan
+  pub indices : List ℕ
+  pub told : IndicesTell nodes ranks (length ranks) indices
+  pub each : AllZip (IsPlaced nodes indices) ranks plan
 
 -- `found` lists the nodes of the list in byte order of their keys
 pub record AreByKey (nodes : List Node) (list found : List ℕ) : Type 0 where

@@ -35,8 +35,8 @@ pub(crate) struct Index {
 fn link_at(links: &[Link], number: usize) -> Option<Link>
     ensures { result ≡ link_at links.now number }
 {
-    let place = number.checked_sub(1)?;
-    links.get(place).copied()
+    let index = number.checked_sub(1)?;
+    links.get(index).copied()
 }
 
 /// Empties a buffer, and then follows a chain of links from the link with the number `head`. Each

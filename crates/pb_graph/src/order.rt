@@ -4,7 +4,7 @@ ghost use Rattle.std.specs.Prelude.{◌≡◌, ◌≢◌, ◌↔◌, ◌⊎◌, 
 ghost use Rattle.std.specs.List.Sorted.{IsStrictlyIncreasing};
 ghost use Rattle.pb_graph.specs.Graph.{IsGraph, IsReached, Reaches, needs_at};
 ghost use Rattle.pb_graph.specs.Order.{IsOrder, IsWhy};
-ghost use Rattle.pb_graph.specs.Working.{AreRising, node_of, AreClear, AreRanked, rank_node, AreByKey, IsCrowded, ArePlacesBy, AreSteps, AreSurveyed, IsOrdered, IsPlaced, PlacesTell};
+ghost use Rattle.pb_graph.specs.Working.{AreRising, node_of, AreClear, AreRanked, rank_node, AreByKey, IsCrowded, AreIndicesBy, AreSteps, AreSurveyed, IsOrdered, IsPlaced, IndicesTell};
 ghost use Rattle.pb_graph.specs.declared.graph.OrderFault.TheVariants.{OutOfMemory, TooMany};
 
 use crate::graph::{Node, OrderFault, Step};
@@ -15,27 +15,27 @@ use pb_data::{Items, TryCopy};
 use std::alloc::{AllocError, Global};
 
 /// Returns the index of each node in the order.
-fn places_of(alloc: Global, nodes: &[Node], ranks: &[Rank]) -> Result<Vec<usize>, AllocError>
+fn indices_by_node(alloc: Global, nodes: &[Node], ranks: &[Rank]) -> Result<Vec<usize>, AllocError>
     requires within { All (λ r. r.node < length nodes.now) ranks.now }
     requires apart { AllPairs (λ a b. a.node ≢ b.node) ranks.now }
     ensures { IfOk result
-        (λ places. PlacesTell nodes.now ranks.now (length ranks.now) places.items) }
+        (λ indices. IndicesTell nodes.now ranks.now (length ranks.now) indices.items) }
 {
-    let mut places = zeros(alloc, nodes.len())?;
-    for (place, rank) in ranks.iter().enumerate() {
-        places[rank.node] = place;
+    let mut indices = zeros(alloc, nodes.len())?;
+    for (index, rank) in ranks.iter().enumerate() {
+        indices[rank.node] = index;
     }
-    Ok(places)
+    Ok(indices)
 }
 
 /// Returns the indices of a list's nodes, ascending, without repeats.
-fn indices_of(alloc: Global, places: &[usize], list: &[usize]) -> Result<Items<usize>, AllocError>
-    requires { All (λ v. v < length places.now) list.now }
-    ensures { IfOk result (ArePlacesBy places.now list.now) }
+fn indices_of(alloc: Global, indices: &[usize], list: &[usize]) -> Result<Items<usize>, AllocError>
+    requires { All (λ v. v < length indices.now) list.now }
+    ensures { IfOk result (AreIndicesBy indices.now list.now) }
 {
     let mut found = Vec::new(alloc);
     for node in list {
-        found.push(places[*node])?;
+        found.push(indices[*node])?;
     }
     sort_once(&mut found);
     Ok(Items::from_vec(found))
@@ -46,21 +46,21 @@ fn step_of(
     alloc: Global,
     nodes: &[Node],
     marks: &mut Vec<bool>,
-    places: &[usize],
+    indices: &[usize],
     rank: &Rank,
 ) -> Result<Step, AllocError>
     requires graph { IsGraph nodes.now }
     requires node { rank.now.node < length nodes.now }
-    requires places { length places.now ≡ length nodes.now }
+    requires indices { length indices.now ≡ length nodes.now }
     requires long { length marks.old.items ≡ length nodes.now }
     requires clear { AreClear marks.old.items }
-    ensures step { IfOk result (IsPlaced nodes.now places.now rank.now) }
+    ensures step { IfOk result (IsPlaced nodes.now indices.now rank.now) }
     ensures long { OnOk result (length marks.new.items ≡ length nodes.now) }
     ensures clear { OnOk result (AreClear marks.new.items) }
 {
     let reached = reached_from(alloc, nodes, marks, needs_at(nodes, rank.node))?;
-    let needs = indices_of(alloc, places, needs_at(nodes, rank.node))?;
-    let reaches = indices_of(alloc, places, &reached)?;
+    let needs = indices_of(alloc, indices, needs_at(nodes, rank.node))?;
+    let reaches = indices_of(alloc, indices, &reached)?;
     let key = rank.key.copy(alloc)?;
     Ok(Step {
         node: rank.node,
@@ -85,10 +85,10 @@ fn steps_of(
     requires clear { AreClear marks.old.items }
     ensures { IfOk result (λ plan. AreSteps nodes.now ranks.now plan.items) }
 {
-    let places = places_of(alloc, nodes, ranks)?;
+    let indices = indices_by_node(alloc, nodes, ranks)?;
     let mut plan = Vec::new(alloc);
     for rank in ranks {
-        let item = step_of(alloc, nodes, marks, &places, rank)?;
+        let item = step_of(alloc, nodes, marks, &indices, rank)?;
         plan.push(item)?;
     }
     Ok(plan)

@@ -291,7 +291,7 @@ compile_judged setup project u done p is_of plain source keys v a where_it_is fo
     dep_there u.out (crate_name_of project u ++ codes ".d") text (small_compiler (compile_of setup project u done p) v) (ap is_relative (sym name) ∙ said.dep_info_relative)
     (ap (λ n. file_named n (small_compiler (compile_of setup project u done p) v).files) (sym name) ∙ file) in
     judged (compile_of setup project u done p) text a
-    (ap (compile_answered (compile_of setup project u done p)) (sym (ap (λ place. file_at place (replied_files u.out (small_compiler (compile_of setup project u done p) v))) where_it_is ∙ there)) ∙ found)
+    (ap (compile_answered (compile_of setup project u done p)) (sym (ap (λ index. file_at index (replied_files u.out (small_compiler (compile_of setup project u done p) v))) where_it_is ∙ there)) ∙ found)
 
 -- the small compiler is honest on every compile
 pub on_compiles : (setup : Setup) (project : Project) (u : Planned) (done : List (Option (List Directive))) (p : Package) → IsOfProject project u → is_mentioned setup.flags (codes "--extern") ≡ false

@@ -101,11 +101,11 @@ no_passed_by project (Some unit) said = by (is_run unit.unit.what)
     by true = no_linked (links_in (package_of project unit)) said
     by false = refl
 
-no_passed : (project : Project) (done : List (Option (List Directive))) (places : List ℕ) → last_value base (flat_map (passed_at project done) places) ≡ None
+no_passed : (project : Project) (done : List (Option (List Directive))) (indices : List ℕ) → last_value base (flat_map (passed_at project done) indices) ≡ None
 unfolding passed_at
 no_passed project done [] = refl
-no_passed project done (place ∷ places) =
-    before_none base (passed_at project done place) (flat_map (passed_at project done) places) (no_passed project done places) ∙ no_passed_by project (unit_at project place) (said_at done place)
+no_passed project done (index ∷ indices) =
+    before_none base (passed_at project done index) (flat_map (passed_at project done) indices) (no_passed project done indices) ∙ no_passed_by project (unit_at project index) (said_at done index)
 
 no_building : (setup : Setup) (project : Project) (u : Planned) → last_value base (building_pairs setup project u) ≡ None
 no_building setup project u = refl

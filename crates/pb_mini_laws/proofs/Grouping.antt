@@ -124,7 +124,7 @@ module _ (P : List ℕ → Type 0) where
 
   in_libraries : (project : Project) (unit : Planned) (p : Package) → HoldValues P (in_order (externs project unit p)) → B (library_words project unit p)
   in_libraries project unit p all =
-      brings_both P (dependency_words project unit) (extern_words project unit p) (brings_each P (folder_words_at project) unit.reaches (λ place. in_folder (unit_at project place))) (each_held (in_order (externs project unit p)) all)
+      brings_both P (dependency_words project unit) (extern_words project unit p) (brings_each P (folder_words_at project) unit.reaches (λ index. in_folder (unit_at project index))) (each_held (in_order (externs project unit p)) all)
 
   -- ---- what scripts ask for
 
@@ -186,7 +186,7 @@ module _ (P : List ℕ → Type 0) where
   in_said : (project : Project) (unit : Planned) (done : List (Option (List Directive))) (p : Package) → B (said_words project unit done p)
   in_said project unit done p =
       brings_both P (search_words unit done) (own_words unit.unit.what p.library (own_said project unit done))
-      (brings_each P (searched_words done) unit.reaches (λ place. brings_each P search_word (said_at done place) in_search)) (in_own unit.unit.what p.library (own_said project unit done))
+      (brings_each P (searched_words done) unit.reaches (λ index. brings_each P search_word (said_at done index) in_search)) (in_own unit.unit.what p.library (own_said project unit done))
 
   -- ---- all words of a compile but the user's flags
 

@@ -46,24 +46,24 @@ module _ (options : Options) (w : World) (small : IsSmallBuild options w) (proje
   planned : IsPlan project.workspace project.features is.selection project.profile project.plan
   planned = subst (λ profile. IsPlan project.workspace project.features is.selection profile project.plan) (sym is.profile) is.planned
 
-  of_project : (place : ℕ) (u : Planned) → unit_at project place ≡ Some u → IsOfProject project u
-  of_project place u at = record {
+  of_project : (index : ℕ) (u : Planned) → unit_at project index ≡ Some u → IsOfProject project u
+  of_project index u at = record {
     settled = laid.settled;
     paths = project_paths project is.selection laid target planned;
-    source = unit_source project is.selection planned laid.packages place u at;
+    source = unit_source project is.selection planned laid.packages index u at;
     selection = is.selection;
     planned = planned;
-    place = place;
+    index = index;
     there = at;
   }
 
 pub small_builds_are_honest : SmallBuildsAreHonest
-small_builds_are_honest options w small units place u v at alike seen =
+small_builds_are_honest options w small units index u v at alike seen =
     small_compiler_is_honest (setup_of options (environment_of options w.variables) units.toolchain) units.project u
-    (directives_of (take place (outcomes small_compiler (setup_of options (environment_of options w.variables) units.toolchain) units.project (from_nothing (environment_of options w.variables).target w)))) v
-    (small.setup units.toolchain) (of_project options w small units.project units.is place u at)
-    (subst (CanTell (command_in (build_context TrustedRecords small_compiler (setup_of options (environment_of options w.variables) units.toolchain) units.project (from_nothing (environment_of options w.variables).target w)) place u)) (sym seen)
-    (small.can_tell units.project units.toolchain units.is units.says place u at))
+    (directives_of (take index (outcomes small_compiler (setup_of options (environment_of options w.variables) units.toolchain) units.project (from_nothing (environment_of options w.variables).target w)))) v
+    (small.setup units.toolchain) (of_project options w small units.project units.is index u at)
+    (subst (CanTell (command_in (build_context TrustedRecords small_compiler (setup_of options (environment_of options w.variables) units.toolchain) units.project (from_nothing (environment_of options w.variables).target w)) index u)) (sym seen)
+    (small.can_tell units.project units.toolchain units.is units.says index u at))
 
 -- whatever the schedule
 pub small_gives : (Schedule : Project → List (Event BadUnit) → Type 0) (options : Options) (result : Result Summary BuildFault) (old new : BuildState) → Headline true small_compiler Schedule options result old new

@@ -109,14 +109,14 @@ module _ (project : Project) (u : Planned) (is_of : IsOfProject project u) where
   reads = reads_of project u
 
   -- what lies below the folder of a unit that is reached lies below one of the folders that are read
-  below_read : (places : List ℕ) (place : ℕ) (v : Planned) (path : List ℕ) → Contains places place → unit_at project place ≡ Some v → is_below v.out path ≡ true → is_below_some (flat_map (read_at project) places) path ≡ true
-  below_read [] place v path (k, lt, at) there below = absurd (omega (arith, lt))
-  below_read (other ∷ places) place v path among there below =
-      list_any-append (λ folder. is_below folder path) (read_at project other) (flat_map (read_at project) places)
-      ∙ elim (contains_cases other places place among) [
-        | inl same ↦ or_one (is_below_some (read_at project other) path) (is_below_some (flat_map (read_at project) places) path)
+  below_read : (indices : List ℕ) (index : ℕ) (v : Planned) (path : List ℕ) → Contains indices index → unit_at project index ≡ Some v → is_below v.out path ≡ true → is_below_some (flat_map (read_at project) indices) path ≡ true
+  below_read [] index v path (k, lt, at) there below = absurd (omega (arith, lt))
+  below_read (other ∷ indices) index v path among there below =
+      list_any-append (λ folder. is_below folder path) (read_at project other) (flat_map (read_at project) indices)
+      ∙ elim (contains_cases other indices index among) [
+        | inl same ↦ or_one (is_below_some (read_at project other) path) (is_below_some (flat_map (read_at project) indices) path)
             (ap (λ unit. is_below_some (folder_in unit) path) (ap (unit_at project) same ∙ there) ∙ or_one (is_below v.out path) false below)
-        | inr later ↦ or_other (is_below_some (read_at project other) path) (is_below_some (flat_map (read_at project) places) path) (below_read places place v path later there below)
+        | inr later ↦ or_other (is_below_some (read_at project other) path) (is_below_some (flat_map (read_at project) indices) path) (below_read indices index v path later there below)
       ]
 
   -- a file that a unit makes lies in its output folder
@@ -137,18 +137,18 @@ module _ (project : Project) (u : Planned) (is_of : IsOfProject project u) where
   made_in v Script name path out is = in_folder v name path out is
   made_in v Run name path out is = absurd (cc)
 
-  pub made_below : (place : Option ℕ) (path : List ℕ) → ((p : ℕ) → place ≡ Some p → Contains u.reaches p) → file_at project place ≡ Some path → (is_below_some reads path ≡ true) × (is_path path ≡ true)
+  pub made_below : (index : Option ℕ) (path : List ℕ) → ((p : ℕ) → index ≡ Some p → Contains u.reaches p) → file_at project index ≡ Some path → (is_below_some reads path ≡ true) × (is_path path ≡ true)
   made_below None path reached is = absurd (cc)
-  made_below (Some place) path reached is = by (unit_at project place) refl is
+  made_below (Some index) path reached is = by (unit_at project index) refl is
     where
-      by : (unit : Option Planned) → unit_at project place ≡ unit → file_there project unit ≡ Some path → (is_below_some reads path ≡ true) × (is_path path ≡ true)
+      by : (unit : Option Planned) → unit_at project index ≡ unit → file_there project unit ≡ Some path → (is_below_some reads path ≡ true) × (is_path path ≡ true)
       by None there is = absurd (cc)
       by (Some v) there is =
-          let lies = made_in v v.unit.what (crate_name_of project v) path (all_at (λ (unit : Planned). is_path unit.out ≡ true) project.plan.planned place v is_of.paths.units there) is in
-          (below_read u.reaches place v path (reached place refl) there lies.below, lies.absolute)
+          let lies = made_in v v.unit.what (crate_name_of project v) path (all_at (λ (unit : Planned). is_path unit.out ≡ true) project.plan.planned index v is_of.paths.units there) is in
+          (below_read u.reaches index v path (reached index refl) there lies.below, lies.absolute)
 
-  pub needed_reached : (test : What → Bool) (owner place : ℕ) → needed test project u owner ≡ Some place → Contains u.reaches place
-  needed_reached test owner place is = found_among (Contains u.reaches) (λ p. is_one_of test owner (unit_at project p)) u.needs place (reaches_needs project.workspace project.features is_of.selection project.profile project.plan is_of.place u is_of.planned is_of.there) is
+  pub needed_reached : (test : What → Bool) (owner index : ℕ) → needed test project u owner ≡ Some index → Contains u.reaches index
+  needed_reached test owner index is = found_among (Contains u.reaches) (λ p. is_one_of test owner (unit_at project p)) u.needs index (reaches_needs project.workspace project.features is_of.selection project.profile project.plan is_of.index u is_of.planned is_of.there) is
 
   library_below : (owner : ℕ) (path : List ℕ) → library_file project u owner ≡ Some path → (is_below_some reads path ≡ true) × (is_path path ≡ true)
   library_below owner path is = made_below (needed is_library project u owner) path (needed_reached is_library owner) is
@@ -175,13 +175,13 @@ module _ (project : Project) (u : Planned) (is_of : IsOfProject project u) where
   library_plain None is = refl
   library_plain (Some l) is = crate_plain l.name is
 
-  library_at_plain : (place : ℕ) → HasNoEquals (library_name_at project place)
-  library_at_plain place = by (slice_get project.workspace.packages place) refl
+  library_at_plain : (index : ℕ) → HasNoEquals (library_name_at project index)
+  library_at_plain index = by (slice_get project.workspace.packages index) refl
     where
-      by : (p : Option Package) → slice_get project.workspace.packages place ≡ p → HasNoEquals (library_name (library_in p))
+      by : (p : Option Package) → slice_get project.workspace.packages index ≡ p → HasNoEquals (library_name (library_in p))
       by None there = refl
       by (Some p) there =
-          let package_is : IsPackage (length project.workspace.packages) p = all_at (IsPackage (length project.workspace.packages)) project.workspace.packages place p is_of.settled.packages there in
+          let package_is : IsPackage (length project.workspace.packages) p = all_at (IsPackage (length project.workspace.packages)) project.workspace.packages index p is_of.settled.packages there in
           library_plain p.library package_is.crate_name
 
   entry_plain : (entry : Entry) → is_name entry.key ≡ true → HasNoEquals (entry_name project entry)

@@ -30,7 +30,7 @@ use Rattle.pb_store_soundness.specs.Sound.{Sound}
 use Rattle.pb_profile.specs.Line.{folder_of}
 use Rattle.pb_command.specs.Judge.{judge}
 use Rattle.std.proofs.lemmas.Bool.{false≢true}
-use Rattle.pb_store_soundness.specs.Records.{if_of_key, is_key, place_of, read_text, reading, record_at}
+use Rattle.pb_store_soundness.specs.Records.{if_of_key, is_key, record_path, read_text, reading, record_at}
 use Rattle.pb_workspace.proofs.FoldersPut.{opened}
 use Rattle.pb_build_turns.specs.Executor.{BuildState}
 use Rattle.pb_build.specs.Environment.{environment_of}
@@ -249,8 +249,8 @@ none_at : (folder key : List ℕ) → record_at reading folder finite.empty key 
 unfolding record_at
 none_at folder key = by (is_key key)
   where
-    by : (b : Bool) → (if b then if_of_key key (read_text reading (finite.get (finite.empty {K = List ℕ} {X = List ℕ} {R = slice_cmp nat_cmp}) (place_of folder key))) else None) ≡ None
-    by true = ap (λ o. if_of_key key (read_text reading o)) (get-empty (slice_cmp nat_cmp) (place_of folder key))
+    by : (b : Bool) → (if b then if_of_key key (read_text reading (finite.get (finite.empty {K = List ℕ} {X = List ℕ} {R = slice_cmp nat_cmp}) (record_path folder key))) else None) ≡ None
+    by true = ap (λ o. if_of_key key (read_text reading o)) (get-empty (slice_cmp nat_cmp) (record_path folder key))
     by false = refl
 
 no_files : (w : World) → w.files ≡ finite.empty → FilesHavePaths w

@@ -125,7 +125,7 @@ named_at (b ∷ bs) made all is = by (bytes_eq made.name b.name) refl (cases b b
   where
     by : (t : Bool) → bytes_eq made.name b.name ≡ t → (b ≡ made) ⊎ Contains bs made → (Contains bs made → At (binary_source (binary_named made.name bs)))
         → At (binary_source (cond t (Some b) (find (λ (binary : Binary). bytes_eq made.name binary.name) bs)))
-    by true at place later = all.0
+    by true at index later = all.0
     by false at (inl here) later = absurd (false≢true (sym at ∙ (bytes_eq-Decides made.name b.name).1 (ap (λ (x : Binary). x.name) (sym here))))
     by false at (inr there) later = later there
 
@@ -141,11 +141,11 @@ source_at p Script sourced has compiles = script_source_at p.script has sourced.
 source_at p Run sourced has compiles = cc
 
 module _ (project : Project) (selection : Selection) (is : IsPlan project.workspace project.features selection project.profile project.plan) (sourced : (p : Package) → Contains project.workspace.packages p → HasSources p) where
-  pub unit_source : (place : ℕ) (u : Planned) → slice_get project.plan.planned place ≡ Some u → is_run u.unit.what ≡ false → IfSome (package_of project u) (λ p. At (source_by p u.unit.what))
-  unit_source place u at compiles = by (package_of project u) refl (planned_has project.workspace project.features selection u.unit planned)
+  pub unit_source : (index : ℕ) (u : Planned) → slice_get project.plan.planned index ≡ Some u → is_run u.unit.what ≡ false → IfSome (package_of project u) (λ p. At (source_by p u.unit.what))
+  unit_source index u at compiles = by (package_of project u) refl (planned_has project.workspace project.features selection u.unit planned)
     where
       planned : IsPlanned project.workspace project.features selection u.unit
-      planned = (is.units u.unit).0 (contains_map (λ (q : Planned). q.unit) project.plan.planned u (contains_from_at project.plan.planned place u at))
+      planned = (is.units u.unit).0 (contains_map (λ (q : Planned). q.unit) project.plan.planned u (contains_from_at project.plan.planned index u at))
 
       by : (o : Option Package) → package_of project u ≡ o → HasWhat u.unit.what o → IfSome o (λ p. At (source_by p u.unit.what))
       by None there has = tt

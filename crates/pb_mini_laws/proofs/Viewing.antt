@@ -78,6 +78,6 @@ small_compiler_is_honest setup project u done v small is_of tell w names good sa
     let c = command_of setup project u done in
     let reply = reply_in small_compiler c v in
     let (a, answered, are) = found (answered_of project u c (ended_by reply) (file_at (dep_info_of project u) (replied_files u.out reply))) names
-    (sym (judges_as_answered setup project u done is_of.selection is_of.place reply is_of.settled is_of.planned is_of.there) ∙ good) in
+    (sym (judges_as_answered setup project u done is_of.selection is_of.index reply is_of.settled is_of.planned is_of.there) ∙ good) in
     by_owner setup project u done (seen_by c v) small is_of (package_of project u) refl tell (seen_by c w) a answered
     (subst (AllByRecursion (SameInput (seen_by c v) (seen_by c w))) are (same_inputs c v w below names same)) (around c v w below)

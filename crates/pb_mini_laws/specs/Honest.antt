@@ -73,8 +73,8 @@ pub record IsOfProject (project : Project) (u : Planned) : Type 0 where
   pub source : is_run u.unit.what ≡ false → IfSome (package_of project u) (λ p. is_path (source_by p u.unit.what) ≡ true)
   pub selection : Selection
   pub planned : IsPlan project.workspace project.features selection project.profile project.plan
-  pub place : ℕ
-  pub there : slice_get project.plan.planned place ≡ Some u
+  pub index : ℕ
+  pub there : slice_get project.plan.planned index ≡ Some u
 
 -- Law: the small compiler is honest on the command of every unit of a project, whatever earlier
 -- scripts have printed. The world may be any in which the small compiler can express what it reads.

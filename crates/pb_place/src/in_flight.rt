@@ -65,7 +65,7 @@ pub fn free_ticket<K>(flying: &[Flying<K>]) -> Option<u64>
 }
 
 /// Returns the index of the first child with this ticket.
-fn place_of_ticket<K>(flying: &[Flying<K>], ticket: u64) -> Option<usize>
+fn index_of_ticket<K>(flying: &[Flying<K>], ticket: u64) -> Option<usize>
     ensures some { IfSome result (λ i. (i < length flying.now)
         × (list_any (λ f. f.child.ticket == ticket) (take i flying.now) ≡ false)
         × (list_any (λ f. f.child.ticket == ticket) (take (i + 1) flying.now) ≡ true)) }
@@ -90,7 +90,7 @@ pub fn take_out<K: Drop>(flying: &mut Vec<Flying<K>>, ticket: u64) -> Option<Fly
     ensures none { IfNone result (is_flying ticket (children_in flying.old.items) ≡ false) }
     ensures kept { IfNone result (flying.new.items ≡ flying.old.items) }
 {
-    match place_of_ticket(flying.as_slice(), ticket) {
+    match index_of_ticket(flying.as_slice(), ticket) {
         Some(place) => Some(flying.remove(place)),
         None => None,
     }
@@ -107,7 +107,7 @@ fn is_for(out: &Option<PathText>, death: &Death) -> bool
 }
 
 /// Returns the index of the first death that waits for a child with this folder.
-fn place_of(deaths: &[Death], out: &Option<PathText>) -> Option<usize>
+fn index_of_death(deaths: &[Death], out: &Option<PathText>) -> Option<usize>
     ensures some { IfSome result (λ i. (i < length deaths.now)
         × (list_any (is_for out.now) (take i deaths.now) ≡ false)
         × (list_any (is_for out.now) (take (i + 1) deaths.now) ≡ true)) }
@@ -126,7 +126,7 @@ fn place_of(deaths: &[Death], out: &Option<PathText>) -> Option<usize>
 pub(crate) fn fate(deaths: &[Death], out: &Option<PathText>) -> Option<StartFault>
     ensures { result ≡ fate_of out.now deaths.now }
 {
-    match place_of(deaths, out) {
+    match index_of_death(deaths, out) {
         Some(place) => Some(deaths[place].kind),
         None => None,
     }
@@ -136,7 +136,7 @@ pub(crate) fn fate(deaths: &[Death], out: &Option<PathText>) -> Option<StartFaul
 pub(crate) fn drop_death(deaths: &mut Vec<Death>, out: &Option<PathText>)
     ensures { deaths.new.items ≡ other_deaths out.now deaths.old.items }
 {
-    match place_of(deaths.as_slice(), out) {
+    match index_of_death(deaths.as_slice(), out) {
         Some(place) => {
             deaths.remove(place);
         }

@@ -14,7 +14,7 @@ use Rattle.pb_workspace_types.specs.declared.package.Side.{Side}
 use Rattle.pb_workspace_types.specs.declared.package.Side.TheVariants.{Target, Host}
 use Rattle.pb_profile.specs.declared.fault.ProfileFault.{ProfileFault}
 use Rattle.pb_profile.specs.Line.{Seen, seen_at, parent_of, custom_parent, inherited, is_either, above}
-use Rattle.pb_profile.specs.Settings.{Place, in_build_override, of_hosts, own, built_in, in_package, of_others, of_role, places_of, along, looked_up}
+use Rattle.pb_profile.specs.Settings.{Lookup, in_build_override, of_hosts, own, built_in, in_package, of_others, of_role, lookups_of, along, looked_up}
 use Rattle.pb_profile.specs.Laws.{IsLine, last, further, FindsValues}
 
 -- a value stands where one of two has one
@@ -60,9 +60,9 @@ module _ (k : ProfileKey) where
   along_found ps s _ (last _ ends) = first (built_in s k) None (choice_found (bytes_eq s.name (codes "dev")) (bytes_eq s.name (codes "release")) (defaults k).dev (defaults k).release (at_bottom ps s ends))
   along_found ps s _ (further _ t line inherits rest) = second (built_in s k) (along k built_in line) (along_found ps t line rest)
 
-  found : (places : List Place) (line : List Seen) → IsSome (along k built_in line) → IsSome (looked_up k (places ++ built_in ∷ []) line)
+  found : (lookups : List Lookup) (line : List Seen) → IsSome (along k built_in line) → IsSome (looked_up k (lookups ++ built_in ∷ []) line)
   found [] line is = first (along k built_in line) None is
-  found (place ∷ places) line is = second (along k place line) (looked_up k (places ++ built_in ∷ []) line) (found places line is)
+  found (lookup ∷ lookups) line is = second (along k lookup line) (looked_up k (lookups ++ built_in ∷ []) line) (found lookups line is)
 
   role_found : (p : Package) (role : Side) (is_member : Bool) (line : List Seen) → IsSome (along k built_in line)
       → IsSome (looked_up k (in_package p.name ∷ of_others is_member ++ of_role role ++ own ∷ built_in ∷ []) line)

@@ -7,7 +7,7 @@ use Rattle.pb_workspace_types.specs.declared.package.Package.{Package}
 use Rattle.pb_workspace_types.specs.declared.package.Side.{Side}
 use Rattle.pb_profile.specs.declared.fault.ProfileFault.TheVariants.{NoSuchProfile, InheritsCycle}
 use Rattle.pb_profile.specs.Line.{Seen, seen_at, above, line_of}
-use Rattle.pb_profile.specs.Settings.{looked_up, places_of}
+use Rattle.pb_profile.specs.Settings.{looked_up, lookups_of}
 
 -- the profile `s` inherits from the profile `t`
 abbrev pub InheritsFrom : List Profile → Seen → Seen → Type 0
@@ -53,4 +53,4 @@ TellsCycles = (profiles : List Profile) (name : List ℕ) → line_of profiles n
 
 -- along each line, some location has a value for each key, whatever the profiles contain
 abbrev pub FindsValues : Type 0
-FindsValues = (profiles : List Profile) (s : Seen) (line : List Seen) → IsLine profiles s line → (p : Package) (role : Side) (k : ProfileKey) → IsSome (looked_up k (places_of p role) line)
+FindsValues = (profiles : List Profile) (s : Seen) (line : List Seen) → IsLine profiles s line → (p : Package) (role : Side) (k : ProfileKey) → IsSome (looked_up k (lookups_of p role) line)

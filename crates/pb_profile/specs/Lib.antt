@@ -2,4 +2,4 @@ pub mod Line
 pub mod Settings
 pub mod Walking
 pub mod Laws
-pub mod Places
+pub mod Locations

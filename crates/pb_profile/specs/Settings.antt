@@ -20,58 +20,58 @@ use Rattle.pb_profile.specs.Line.{Seen, checked_line}
 
 -- a location of values: for each profile of the line and each key, the value that is there, if
 -- there is one
-abbrev pub Place : Type 0
-Place = Seen → ProfileKey → Option Setting
+abbrev pub Lookup : Type 0
+Lookup = Seen → ProfileKey → Option Setting
 
 -- the value of a key in a list of values, if there is such a list
 abbrev pub said_by : Option Said → ProfileKey → Option Setting
 said_by values k = option_and_then (λ set. says set k) values
 
 -- the location of the keys that the profile itself sets
-abbrev pub own : Place
+abbrev pub own : Lookup
 own s k = said_by (option_map (λ (p : Profile). p.keys) s.table) k
 
 -- The keys that the override `package.NAME` of a profile sets. `in_package` is their location.
 abbrev pub override_named : List ℕ → Profile → Option Said
 override_named name p = option_map (λ (o : ProfileOverride). o.keys) (find (λ (o : ProfileOverride). bytes_eq o.name name) p.packages)
 
-abbrev pub in_package : List ℕ → Place
+abbrev pub in_package : List ℕ → Lookup
 in_package name s k = said_by (option_and_then (override_named name) s.table) k
 
 -- the location of the keys that the override `build-override` of a profile sets
-abbrev pub in_build_override : Place
+abbrev pub in_build_override : Lookup
 in_build_override s k = said_by (option_and_then (λ (p : Profile). p.build_override) s.table) k
 
 -- the location of the built-in values for host roles, which come after the overrides
-abbrev pub of_hosts : Place
+abbrev pub of_hosts : Lookup
 of_hosts s k = (defaults k).beside_override
 
 -- the location of the built-in values of `dev` and `release`
-abbrev pub built_in : Place
+abbrev pub built_in : Lookup
 built_in s k = if bytes_eq s.name (codes "dev") then Some (defaults k).dev else (if bytes_eq s.name (codes "release") then Some (defaults k).release else None)
 
 -- the location of `package."*"`, which counts only for packages that are not members
-abbrev pub of_others : Bool → List Place
+abbrev pub of_others : Bool → List Lookup
 of_others is_member = if is_member then [] else in_package (codes "*") ∷ []
 
 -- the locations of `build-override` and of its built-in values, which count only for host roles
-abbrev pub of_role : Side → List Place
+abbrev pub of_role : Side → List Lookup
 of_role Target = []
 of_role Host = in_build_override ∷ of_hosts ∷ []
 
 -- the locations that count for a package in a role, in order
-abbrev pub places_of : Package → Side → List Place
-places_of p role = in_package p.name ∷ of_others p.is_member ++ of_role role ++ own ∷ built_in ∷ []
+abbrev pub lookups_of : Package → Side → List Lookup
+lookups_of p role = in_package p.name ∷ of_others p.is_member ++ of_role role ++ own ∷ built_in ∷ []
 
 -- the value of a key at one location, in the first profile of the line that has a value there
-abbrev pub along : ProfileKey → Place → List Seen → Option Setting
-along k place [] = None
-along k place (s ∷ line) = option_or (place s k) (along k place line)
+abbrev pub along : ProfileKey → Lookup → List Seen → Option Setting
+along k lookup [] = None
+along k lookup (s ∷ line) = option_or (lookup s k) (along k lookup line)
 
 -- the value of a key at the first location that has a value for it
-abbrev pub looked_up : ProfileKey → List Place → List Seen → Option Setting
+abbrev pub looked_up : ProfileKey → List Lookup → List Seen → Option Setting
 looked_up k [] line = None
-looked_up k (place ∷ places) line = option_or (along k place line) (looked_up k places line)
+looked_up k (lookup ∷ lookups) line = option_or (along k lookup line) (looked_up k lookups line)
 
 -- the fixed value of a key in host roles, if there is one, and the given value otherwise; no
 -- profile can change a fixed value
@@ -82,7 +82,7 @@ fixed Host k value = unwrap_or (defaults k).in_hosts value
 -- The setting of a key for a package in a role. Each line ends with a profile that has all built-in
 -- values, so the default is never used.
 abbrev pub setting_of : Package → Side → List Seen → ProfileKey → Setting
-setting_of p role line k = fixed role k (unwrap_or (looked_up k (places_of p role) line) (defaults k).dev)
+setting_of p role line k = fixed role k (unwrap_or (looked_up k (lookups_of p role) line) (defaults k).dev)
 
 -- the settings of a package in a role, in the order of the keys
 abbrev pub settings_along : Package → Side → List Seen → List Setting

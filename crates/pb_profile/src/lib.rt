@@ -5,7 +5,7 @@
 pub mod fault;
 mod laws;
 pub mod line;
-mod places;
+mod locations;
 pub mod settings;
 
 pub use fault::ProfileFault;

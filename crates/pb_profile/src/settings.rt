@@ -10,7 +10,7 @@ ghost use Rattle.pb_profile.specs.declared.fault.ProfileFault.TheVariants as pro
 
 use crate::fault::ProfileFault;
 use crate::line::{Ancestor, line_of};
-use crate::places::looked_up;
+use crate::locations::looked_up;
 use pb_manifest_types::{ProfileKey, Setting, Word};
 use pb_profile_keys::COUNT;
 use pb_workspace_types::{Package, Side, Workspace};

@@ -4,7 +4,7 @@ use Rattle.std.proofs.lemmas.Bool.Decides.{Decides-eqb}
 use Rattle.std.specs.Str.{IsUtf8}
 use Rattle.std.specs.List.{AllByRecursion}
 use Rattle.pb_record.specs.Grammar.{line, block, listed, both, files, perhaps, input_bytes}
-use Rattle.pb_record.specs.Parts.{IsAny, IsPlace, AreFiles, AreBoth, IsPerhaps, ArePairs, IsInput}
+use Rattle.pb_record.specs.Parts.{IsAny, IsUtf8Path, AreFiles, AreBoth, IsPerhaps, ArePairs, IsInput}
 use Rattle.pb_record.specs.Sorted.{are_sorted}
 use Rattle.pb_record.specs.Reading.{BeginsWith, StandsNone, IsSpelling}
 use Rattle.pb_record.specs.declared.record.Input.{Input}
@@ -109,29 +109,29 @@ input_apart (Value name text) (Value other others) rest more e =
 pub input_spelling : IsSpelling input_bytes
 input_spelling = record { some = input_some; apart = input_apart }
 
-pub file_stands : {text rest : List ℕ} {p : List ℕ × List ℕ} → BeginsWith (AreBoth IsPlace IsAny) (both block block) text p rest → BeginsWith IsInput input_bytes (line (codes "f") ++ text) (File p.0 p.1) rest
+pub file_stands : {text rest : List ℕ} {p : List ℕ × List ℕ} → BeginsWith (AreBoth IsUtf8Path IsAny) (both block block) text p rest → BeginsWith IsInput input_bytes (line (codes "f") ++ text) (File p.0 p.1) rest
 file_stands {p = p} there = stands_by IsInput input_bytes (line (codes "f")) (File p.0 p.1) there there.is.0 refl
 
-pub tree_stands : {text rest : List ℕ} {p : List ℕ × List (List ℕ × List ℕ)} → BeginsWith (AreBoth IsPlace AreFiles) (both block files) text p rest → BeginsWith IsInput input_bytes (line (codes "t") ++ text) (Tree p.0 p.1) rest
+pub tree_stands : {text rest : List ℕ} {p : List ℕ × List (List ℕ × List ℕ)} → BeginsWith (AreBoth IsUtf8Path AreFiles) (both block files) text p rest → BeginsWith IsInput input_bytes (line (codes "t") ++ text) (Tree p.0 p.1) rest
 tree_stands {p = p} there = stands_by IsInput input_bytes (line (codes "t")) (Tree p.0 p.1) there there.is refl
 
 pub value_stands : {text rest : List ℕ} {p : List ℕ × Option (List ℕ)} → BeginsWith (AreBoth IsUtf8 IsPerhaps) (both block perhaps) text p rest → BeginsWith IsInput input_bytes (line (codes "v") ++ text) (Value p.0 p.1) rest
 value_stands {p = p} there = stands_by IsInput input_bytes (line (codes "v")) (Value p.0 p.1) there there.is refl
 
-no_file_at : (x : Input) (text rest : List ℕ) → StandsNone (AreBoth IsPlace IsAny) (both block block) text → IsInput x → line (codes "f") ++ text ≡ input_bytes x ++ rest → ⊥
+no_file_at : (x : Input) (text rest : List ℕ) → StandsNone (AreBoth IsUtf8Path IsAny) (both block block) text → IsInput x → line (codes "f") ++ text ≡ input_bytes x ++ rest → ⊥
 no_file_at (File path bytes) text rest none is e = let tails : text ≡ both block block (path, bytes) ++ rest = cc in none.never (path, bytes) rest (record { is = (is, tt); here = tails })
 no_file_at (Tree path below) text rest none is e = clash 102 116 _ _ refl e
 no_file_at (Value name value) text rest none is e = clash 102 118 _ _ refl e
 
-pub no_file : {text : List ℕ} → StandsNone (AreBoth IsPlace IsAny) (both block block) text → StandsNone IsInput input_bytes (line (codes "f") ++ text)
+pub no_file : {text : List ℕ} → StandsNone (AreBoth IsUtf8Path IsAny) (both block block) text → StandsNone IsInput input_bytes (line (codes "f") ++ text)
 no_file {text = text} none = record { never = λ x rest stands. no_file_at x text rest none stands.is stands.here }
 
-no_tree_at : (x : Input) (text rest : List ℕ) → StandsNone (AreBoth IsPlace AreFiles) (both block files) text → IsInput x → line (codes "t") ++ text ≡ input_bytes x ++ rest → ⊥
+no_tree_at : (x : Input) (text rest : List ℕ) → StandsNone (AreBoth IsUtf8Path AreFiles) (both block files) text → IsInput x → line (codes "t") ++ text ≡ input_bytes x ++ rest → ⊥
 no_tree_at (File path bytes) text rest none is e = clash 116 102 _ _ refl e
 no_tree_at (Tree path below) text rest none is e = let tails : text ≡ both block files (path, below) ++ rest = cc in none.never (path, below) rest (record { is = is; here = tails })
 no_tree_at (Value name value) text rest none is e = clash 116 118 _ _ refl e
 
-pub no_tree : {text : List ℕ} → StandsNone (AreBoth IsPlace AreFiles) (both block files) text → StandsNone IsInput input_bytes (line (codes "t") ++ text)
+pub no_tree : {text : List ℕ} → StandsNone (AreBoth IsUtf8Path AreFiles) (both block files) text → StandsNone IsInput input_bytes (line (codes "t") ++ text)
 no_tree {text = text} none = record { never = λ x rest stands. no_tree_at x text rest none stands.is stands.here }
 
 no_value_at : (x : Input) (text rest : List ℕ) → StandsNone (AreBoth IsUtf8 IsPerhaps) (both block perhaps) text → IsInput x → line (codes "v") ++ text ≡ input_bytes x ++ rest → ⊥

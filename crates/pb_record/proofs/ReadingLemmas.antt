@@ -9,7 +9,7 @@ use Rattle.std.proofs.lemmas.Slice.Eq.{bytes_eq-Decides}
 use Rattle.std.proofs.lemmas.Str.{IsUtf8-from_is_utf8, is_utf8-from_IsUtf8}
 use Rattle.pb_place_types.specs.Paths.{is_path, is_relative}
 use Rattle.pb_record.specs.Grammar.{line, decimals, number, block, listed, both, files, perhaps, input_bytes, asked_bytes}
-use Rattle.pb_record.specs.Parts.{IsAny, IsNumber, IsPlace, IsInside, AreBoth, IsPerhaps, AreFiles, ArePairs, IsInput, IsAsked, Says, ReadsAs, FindsAsReading}
+use Rattle.pb_record.specs.Parts.{IsAny, IsNumber, IsUtf8Path, IsInside, AreBoth, IsPerhaps, AreFiles, ArePairs, IsInput, IsAsked, Says, ReadsAs, FindsAsReading}
 use Rattle.pb_record.specs.Reading.{BeginsWith, StandsNone, IsSpelling, HasCount, HasNoFeed}
 use Rattle.pb_record.specs.Sorted.{are_sorted}
 use Rattle.pb_record.specs.Whole.{asked_of, numbered_of, copied_of}
@@ -51,8 +51,8 @@ is_true b = by_bool b (λ e. e) (λ e. e)
 test_text : Tests IsUtf8
 test_text text = by_bool (is_utf8 text) (IsUtf8-from_is_utf8 text) (is_utf8-from_IsUtf8 text)
 
-test_place : Tests IsPlace
-test_place path = two (is_true (is_path path)) (test_text path)
+test_path : Tests IsUtf8Path
+test_path path = two (is_true (is_path path)) (test_text path)
 
 test_inside : Tests IsInside
 test_inside path = two (is_true (is_relative path)) (test_text path)
@@ -169,8 +169,8 @@ find_block text = by (find_number text)
 find_text : Finds IsUtf8 block
 find_text = of_any IsUtf8 block_spelling test_text find_block
 
-find_place : Finds IsPlace block
-find_place = of_any IsPlace block_spelling test_place find_block
+find_path : Finds IsUtf8Path block
+find_path = of_any IsUtf8Path block_spelling test_path find_block
 
 find_inside : Finds IsInside block
 find_inside = of_any IsInside block_spelling test_inside find_block
@@ -273,11 +273,11 @@ find_pairs = narrow ArePairs pairs_spelling (λ pairs are. are.0) (λ pairs are.
 find_input : Finds IsInput input_bytes
 find_input text = by (find_front (line (codes "f")) text) (find_front (line (codes "t")) text) (find_front (line (codes "v")) text)
   where
-    file : (behind : List ℕ) → Found (AreBoth IsPlace IsAny) (both block block) behind → Found IsInput input_bytes (line (codes "f") ++ behind)
+    file : (behind : List ℕ) → Found (AreBoth IsUtf8Path IsAny) (both block block) behind → Found IsInput input_bytes (line (codes "f") ++ behind)
     file behind (inl (p, rest, there)) = inl (_, rest, file_stands there)
     file behind (inr none) = inr (no_file none)
 
-    tree : (behind : List ℕ) → Found (AreBoth IsPlace AreFiles) (both block files) behind → Found IsInput input_bytes (line (codes "t") ++ behind)
+    tree : (behind : List ℕ) → Found (AreBoth IsUtf8Path AreFiles) (both block files) behind → Found IsInput input_bytes (line (codes "t") ++ behind)
     tree behind (inl (p, rest, there)) = inl (_, rest, tree_stands there)
     tree behind (inr none) = inr (no_tree none)
 
@@ -286,8 +286,8 @@ find_input text = by (find_front (line (codes "f")) text) (find_front (line (cod
     value behind (inr none) = inr (no_value none)
 
     by : Fronted (line (codes "f")) text → Fronted (line (codes "t")) text → Fronted (line (codes "v")) text → Found IsInput input_bytes text
-    by (inl (behind, front)) two' three = subst (Found IsInput input_bytes) (sym front) (file behind (find_both block_spelling find_place find_block behind))
-    by (inr f) (inl (behind, front)) three = subst (Found IsInput input_bytes) (sym front) (tree behind (find_both block_spelling find_place find_files behind))
+    by (inl (behind, front)) two' three = subst (Found IsInput input_bytes) (sym front) (file behind (find_both block_spelling find_path find_block behind))
+    by (inr f) (inl (behind, front)) three = subst (Found IsInput input_bytes) (sym front) (tree behind (find_both block_spelling find_path find_files behind))
     by (inr f) (inr t) (inl (behind, front)) = subst (Found IsInput input_bytes) (sym front) (value behind (find_both block_spelling find_text find_perhaps behind))
     by (inr f) (inr t) (inr v) = inr (no_letter text f t v)
 
@@ -296,13 +296,13 @@ find_input text = by (find_front (line (codes "f")) text) (find_front (line (cod
 find_texts : Finds (AllByRecursion IsUtf8) (listed block)
 find_texts = find_list block_spelling find_text
 
-find_places : Finds (AllByRecursion IsPlace) (listed block)
-find_places = find_list block_spelling find_place
+find_paths : Finds (AllByRecursion IsUtf8Path) (listed block)
+find_paths = find_list block_spelling find_path
 
 find_asked_parts : Finds AreAsked asked_spelled
 find_asked_parts =
-    find_both block_spelling find_text (find_both (list_spelling block block_spelling) find_texts (find_both block_spelling find_place (find_both pairs_spelling find_pairs
-    (find_both block_spelling find_place (find_both block_spelling find_place (find_both block_spelling find_block find_places))))))
+    find_both block_spelling find_text (find_both (list_spelling block block_spelling) find_texts (find_both block_spelling find_path (find_both pairs_spelling find_pairs
+    (find_both block_spelling find_path (find_both block_spelling find_path (find_both block_spelling find_block find_paths))))))
 
 find_asked : Finds IsAsked asked_bytes
 find_asked text = by (find_asked_parts text)

@@ -5,7 +5,7 @@ use Rattle.std.specs.Str.{IsUtf8}
 use Rattle.std.specs.List.{AllByRecursion, concat}
 use Rattle.std.proofs.lemmas.List.{append_assoc, append_cancel_left}
 use Rattle.pb_record.specs.Grammar.{line, number, block, listed, both, files, input_bytes, asked_bytes, bytes_by, record_bytes}
-use Rattle.pb_record.specs.Parts.{IsAny, IsNumber, IsPlace, AreFiles, AreBoth, ArePairs, IsInput, IsAsked, AreNeeded, Says}
+use Rattle.pb_record.specs.Parts.{IsAny, IsNumber, IsUtf8Path, AreFiles, AreBoth, ArePairs, IsInput, IsAsked, AreNeeded, Says}
 use Rattle.pb_record.specs.Reading.{BeginsWith, StandsNone, IsSpelling}
 use Rattle.pb_record.specs.Whole.{AskedParts, asked_of, NumberedParts, numbered_of, CopiedParts, copied_of, Files}
 use Rattle.pb_record.specs.declared.recorded_command.RecordedCommand.{RecordedCommand}
@@ -23,7 +23,7 @@ abbrev pub asked_spelled : AskedParts → List ℕ
 asked_spelled = both block (both (listed block) (both block (both (listed (both block block)) (both block (both block (both block (listed block)))))))
 
 abbrev pub AreAsked : AskedParts → Type 0
-AreAsked = AreBoth IsUtf8 (AreBoth (AllByRecursion IsUtf8) (AreBoth IsPlace (AreBoth ArePairs (AreBoth IsPlace (AreBoth IsPlace (AreBoth IsAny (AllByRecursion IsPlace)))))))
+AreAsked = AreBoth IsUtf8 (AreBoth (AllByRecursion IsUtf8) (AreBoth IsUtf8Path (AreBoth ArePairs (AreBoth IsUtf8Path (AreBoth IsUtf8Path (AreBoth IsAny (AllByRecursion IsUtf8Path)))))))
 
 abbrev asked_parts : RecordedCommand → AskedParts
 asked_parts a = (a.program, (a.words, (a.folder, (a.pairs, (a.out, (a.target, (a.toolchain, a.reads)))))))

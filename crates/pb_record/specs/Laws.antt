@@ -3,7 +3,7 @@ use Rattle.std.specs.Prelude.{◌≡◌, ◌≢◌, ◌<◌, ◌^◌, ℕ, false
 use Rattle.pb_data.specs.Ascii.{line_feed}
 use Rattle.pb_place_types.specs.Paths.{has_byte_0}
 use Rattle.pb_record.specs.Grammar.{line, number, record_bytes}
-use Rattle.pb_record.specs.Parts.{IsPlace, IsRecord, Says, ReadsAs, FindsAsReading}
+use Rattle.pb_record.specs.Parts.{IsUtf8Path, IsRecord, Says, ReadsAs, FindsAsReading}
 use Rattle.pb_record.specs.declared.record.Record.{Record}
 
 -- Two records with the same bytes are equal.
@@ -32,7 +32,7 @@ OnlyRecordsAreSaid = (r s : Record) → Says (record_bytes r) s → IsRecord r
 
 -- A path has no byte 0.
 abbrev pub PathsHaveNoByte0 : Type 0
-PathsHaveNoByte0 = (path : List ℕ) → IsPlace path → has_byte_0 path ≡ false
+PathsHaveNoByte0 = (path : List ℕ) → IsUtf8Path path → has_byte_0 path ≡ false
 
 -- If the text of a number begins with 0, the number is 0. `NumbersHaveDigits` says that each number
 -- has at least one digit. Both are true whatever bytes follow.

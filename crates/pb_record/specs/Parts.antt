@@ -21,8 +21,8 @@ abbrev pub IsNumber : ℕ → Type 0
 IsNumber n = n < 2 ^ 64
 
 -- the path is a normalised absolute path, in UTF-8
-abbrev pub IsPlace : List ℕ → Type 0
-IsPlace path = (is_path path ≡ true) × IsUtf8 path
+abbrev pub IsUtf8Path : List ℕ → Type 0
+IsUtf8Path path = (is_path path ≡ true) × IsUtf8 path
 
 -- the path is a relative path inside a folder, in UTF-8
 abbrev pub IsInside : List ℕ → Type 0
@@ -42,18 +42,18 @@ abbrev pub ArePairs : List (List ℕ × List ℕ) → Type 0
 ArePairs pairs = AllByRecursion (AreBoth IsUtf8 IsUtf8) pairs × (are_sorted pairs ≡ true)
 
 abbrev pub IsInput : Input → Type 0
-IsInput (File path bytes) = IsPlace path
-IsInput (Tree path below) = IsPlace path × AreFiles below
+IsInput (File path bytes) = IsUtf8Path path
+IsInput (Tree path below) = IsUtf8Path path × AreFiles below
 IsInput (Value name text) = IsUtf8 name × IsPerhaps text
 
 pub record IsAsked (a : RecordedCommand) : Type 0 where
   pub program : IsUtf8 a.program
   pub words : AllByRecursion IsUtf8 a.words
-  pub folder : IsPlace a.folder
+  pub folder : IsUtf8Path a.folder
   pub pairs : ArePairs a.pairs
-  pub out : IsPlace a.out
-  pub target : IsPlace a.target
-  pub reads : AllByRecursion IsPlace a.reads
+  pub out : IsUtf8Path a.out
+  pub target : IsUtf8Path a.target
+  pub reads : AllByRecursion IsUtf8Path a.reads
 
 abbrev pub AreNeeded : Needed → Type 0
 AreNeeded (Numbers own needs) = IsNumber own × AllByRecursion (AreBoth IsUtf8 IsNumber) needs

@@ -3,7 +3,7 @@
 ghost use Rattle.std.specs.Prelude.{◌≡◌, ◌++◌, ◌∷◌, List, ℕ, length, OnOk, MatchOption};
 ghost use Rattle.std.specs.Str.{IsUtf8};
 ghost use Rattle.pb_record.specs.Grammar.{block};
-ghost use Rattle.pb_record.specs.Parts.{IsAny, IsPlace, IsInside};
+ghost use Rattle.pb_record.specs.Parts.{IsAny, IsUtf8Path, IsInside};
 ghost use Rattle.pb_record.specs.Reading.{BeginsWith, StandsNone};
 
 use crate::number::{number_at, push_number};

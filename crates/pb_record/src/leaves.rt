@@ -97,9 +97,9 @@ impl Part for Text {
 
 impl Part for PathText {
     ghost use Rattle.pb_record.specs.Grammar.{block};
-    ghost use Rattle.pb_record.specs.Parts.{IsPlace};
+    ghost use Rattle.pb_record.specs.Parts.{IsUtf8Path};
 
-    ghost is_part = { IsPlace };
+    ghost is_part = { IsUtf8Path };
 
     ghost spelled = { block };
 

@@ -4,7 +4,7 @@ ghost use Rattle.std.specs.Prelude.{◌≡◌, ◌++◌, OnOk};
 ghost use Rattle.std.specs.List.{AllByRecursion};
 ghost use Rattle.std.specs.Str.{IsUtf8};
 ghost use Rattle.pb_record.specs.Grammar.{◌⨾◌, block, both, listed};
-ghost use Rattle.pb_record.specs.Parts.{ArePairs, IsPlace};
+ghost use Rattle.pb_record.specs.Parts.{ArePairs, IsUtf8Path};
 ghost use Rattle.pb_record.specs.Whole.{asked_of};
 
 use crate::pairs::Pairs;
@@ -69,7 +69,7 @@ fn write_command(asked: &RecordedCommand, out: &mut Vec<u8>) -> Result<(), Alloc
         ++ (block asked.now.program ⨾ listed block asked.now.words ⨾ block asked.now.folder ⨾ listed
         (both block block) asked.now.pairs)) }
     ensures are { OnOk result (IsUtf8 asked.now.program × AllByRecursion IsUtf8 asked.now.words
-        × IsPlace asked.now.folder × ArePairs asked.now.pairs) }
+        × IsUtf8Path asked.now.folder × ArePairs asked.now.pairs) }
 {
     asked.program.write(out)?;
     asked.words.write(out)?;
@@ -80,12 +80,12 @@ fn write_command(asked: &RecordedCommand, out: &mut Vec<u8>) -> Result<(), Alloc
 
 /// Adds the folder into which the child writes, the compiler's version, and what the child may
 /// read.
-fn write_places(asked: &RecordedCommand, out: &mut Vec<u8>) -> Result<(), AllocError>
+fn write_paths(asked: &RecordedCommand, out: &mut Vec<u8>) -> Result<(), AllocError>
     ensures written { OnOk result (out.new.items ≡ out.old.items
         ++ (block asked.now.out ⨾ block asked.now.target ⨾ block asked.now.toolchain ⨾ listed block
         asked.now.reads)) }
-    ensures are { OnOk result (IsPlace asked.now.out × IsPlace asked.now.target
-        × AllByRecursion IsPlace asked.now.reads) }
+    ensures are { OnOk result (IsUtf8Path asked.now.out × IsUtf8Path asked.now.target
+        × AllByRecursion IsUtf8Path asked.now.reads) }
 {
     asked.out.write(out)?;
     asked.target.write(out)?;
@@ -120,7 +120,7 @@ impl Part for RecordedCommand {
 
     fn write(&self, out: &mut Vec<u8>) -> Result<(), AllocError> {
         write_command(self, out)?;
-        write_places(self, out)?;
+        write_paths(self, out)?;
         Ok(())
     }
 

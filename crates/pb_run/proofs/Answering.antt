@@ -32,14 +32,14 @@ use Rattle.pb_run.specs.declared.ran.Validated.{Validated}
 use Rattle.pb_run.specs.declared.ran.Ran.{Ran}
 use Rattle.pb_run.proofs.Recorded.{all_at}
 use Rattle.pb_run.proofs.Shown.{AllStand, good_needs}
-use Rattle.pb_run.proofs.Spawning.{join, out_within, place_within, widen}
+use Rattle.pb_run.proofs.Spawning.{join, out_within, record_within, widen}
 use Rattle.pb_run.proofs.Tables.{tabled-unfold}
 use Rattle.pb_run.proofs.Units.{dep_info_inside, inside_file}
 use Rattle.pb_run.proofs.Views.{is_for}
 use Rattle.pb_store_soundness.specs.Apart.{is_of}
-use Rattle.pb_store_soundness.specs.Records.{is_key, out_of, place_of}
+use Rattle.pb_store_soundness.specs.Records.{is_key, out_of, record_path}
 use Rattle.pb_store_soundness.proofs.Becoming.{one}
-use Rattle.pb_store_soundness.proofs.Places.{folder_still, out_place_apart}
+use Rattle.pb_store_soundness.proofs.RecordPaths.{folder_still, out_record_apart}
 
 -- What has landed in an empty folder.
 
@@ -74,7 +74,7 @@ module _ (b : BuildContext) (order : IsInOrder b.project) (i : ℕ) (u : Planned
       subst (λ (v : Planned). (begun.command ≡ command_in b i v) × WaitsBy b v begun.command (view_in b i v) begun.awaited next w flying still) (one is.unit u (sym is.there ∙ at)) (is.command, is.waits)
 
   pub reached_stand : (states : List (State BadUnit)) (done : List (Option (List Directive))) (next : Option ℕ) (w : World) → BuildInvariant b states done next w → are_good states u.reaches ≡ true → AllStand b done w u.reaches
-  reached_stand states done next w keeps reaches place has = keeps.good place (all_at (λ p. is_good_at (slice_get states p)) u.reaches place reaches has)
+  reached_stand states done next w keeps reaches index has = keeps.good index (all_at (λ p. is_good_at (slice_get states p)) u.reaches index reaches has)
 
   -- the outcome, by the reply of the child in the unit's view
   reply_gives : (done : List (Option (List Directive))) (w : World) → AllStand b done w u.reaches → slice_get (outcomes_in b) i ≡ Some (judged b.project u (command_in b i u) (b.child (command_in b i u) (view_in b i u)))
@@ -134,11 +134,11 @@ module _ (b : BuildContext) (order : IsInOrder b.project) (i : ℕ) (u : Planned
         is_judged
 
 -- the record is put after
-pub kept_only : (folder key out : List ℕ) (old mid new : World) → out ≡ out_of folder key → ChangesOnly (is_at_or_below out) old mid → ChangesOnly (is_at_or_below (place_of folder key)) mid new → ChangesOnly (is_of folder key) old new
+pub kept_only : (folder key out : List ℕ) (old mid new : World) → out ≡ out_of folder key → ChangesOnly (is_at_or_below out) old mid → ChangesOnly (is_at_or_below (record_path folder key)) mid new → ChangesOnly (is_of folder key) old new
 kept_only folder key out old mid new lies first second =
     join (is_of folder key) old mid new (widen (is_at_or_below (out_of folder key)) (is_of folder key) old mid (out_within folder key) (subst (λ (o : List ℕ). ChangesOnly (is_at_or_below o) old mid) lies first))
-    (widen (is_at_or_below (place_of folder key)) (is_of folder key) mid new (place_within folder key) second)
+    (widen (is_at_or_below (record_path folder key)) (is_of folder key) mid new (record_within folder key) second)
 
-pub files_kept : (folder key out : List ℕ) (old new : World) → is_path folder ≡ true → is_key key ≡ true → out ≡ out_of folder key → ChangesOnly (is_at_or_below (place_of folder key)) old new → files_in out new.files ≡ files_in out old.files
+pub files_kept : (folder key out : List ℕ) (old new : World) → is_path folder ≡ true → is_key key ≡ true → out ≡ out_of folder key → ChangesOnly (is_at_or_below (record_path folder key)) old new → files_in out new.files ≡ files_in out old.files
 files_kept folder key out old new path is lies only =
-    subst (λ (o : List ℕ). files_in o new.files ≡ files_in o old.files) (sym lies) (folder_still (out_of folder key) (place_of folder key) old.files new.files (out_place_apart folder key key path is is) only.files)
+    subst (λ (o : List ℕ). files_in o new.files ≡ files_in o old.files) (sym lies) (folder_still (out_of folder key) (record_path folder key) old.files new.files (out_record_apart folder key key path is is) only.files)

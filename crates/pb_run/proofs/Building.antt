@@ -31,7 +31,7 @@ use Rattle.pb_run.proofs.Reusing.{Renewed, Renewing, keeps_bad_again, keeps_numb
 use Rattle.pb_run.proofs.Settling.{Keeping, Stands}
 use Rattle.pb_store_soundness.specs.Apart.{is_of}
 use Rattle.pb_store_soundness.specs.Numbers.{after}
-use Rattle.pb_store_soundness.specs.Records.{place_of, reading, records}
+use Rattle.pb_store_soundness.specs.Records.{record_path, reading, records}
 use Rattle.pb_store_soundness.specs.Reuse.{IsSame}
 use Rattle.pb_store.specs.Folder.{TakesNumber}
 use Rattle.pb_store.specs.Differences.{IsReplayed}
@@ -103,7 +103,7 @@ module _ (b : BuildContext) (order : IsInOrder b.project) (i : ℕ) (u : Planned
     }
 
     module _ (good : is_some j.ran.bad ≡ false) (new : At) (keeping : Keeping b.child (records_folder b.project) u.key (needed_keys b.project u) c l.number j.names ended next mid.world new.world) (gone : new.counts.starts.flying ≡ without l.ticket old.counts.starts.flying)
-        (holds : KeepsStillOutside (is_at_or_below (place_of (records_folder b.project) u.key)) (without l.ticket old.counts.starts.flying) mid.still new.still) (next' : Option ℕ) (taken : next' ≡ next) where
+        (holds : KeepsStillOutside (is_at_or_below (record_path (records_folder b.project) u.key)) (without l.ticket old.counts.starts.flying) mid.still new.still) (next' : Option ℕ) (taken : next' ≡ next) where
       unkept : (e : StepFault) → AnswersBuild b i u (begun_with u.key c (awaited.Child l)) (Err e) next next old new
       unkept e = record {
         outcome = λ states done can. tt;

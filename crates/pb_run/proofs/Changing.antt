@@ -13,14 +13,14 @@ use Rattle.pb_run.specs.Steps.{StepTakes}
 use Rattle.pb_run.specs.declared.begun.SpawnedChild.{SpawnedChild}
 use Rattle.pb_run.specs.declared.faults.StepFault.{StepFault}
 use Rattle.pb_run.proofs.RecordedOthers.{still_over}
-use Rattle.pb_run.proofs.Spawning.{launched_only, launched_still, place_within, still_widen, widen}
+use Rattle.pb_run.proofs.Spawning.{launched_only, launched_still, record_within, still_widen, widen}
 use Rattle.pb_run.proofs.Writes.{none_changed, record_only, stays_apart, unkept_only}
 use Rattle.pb_store_soundness.specs.Apart.{is_of}
-use Rattle.pb_store_soundness.specs.Records.{out_of, place_of}
+use Rattle.pb_store_soundness.specs.Records.{out_of, record_path}
 
--- what is said of a record's place, by the folder and the key as they are named
-pub at_place : (Said : List ℕ → Type 0) (folder root key k : List ℕ) → folder ≡ root → key ≡ k → Said (place_of folder key) → Said (place_of root k)
-at_place Said folder root key k is its said = subst (λ f. Said (place_of f k)) is (subst (λ x. Said (place_of folder x)) its said)
+-- what is said of a record's index, by the folder and the key as they are named
+pub at_record : (Said : List ℕ → Type 0) (folder root key k : List ℕ) → folder ≡ root → key ≡ k → Said (record_path folder key) → Said (record_path root k)
+at_record Said folder root key k is its said = subst (λ f. Said (record_path f k)) is (subst (λ x. Said (record_path folder x)) its said)
 
 module _ {T : Type 0} (Goes : T → Starts → Starts → Type 0) (May : StepFault → Starts → Starts → Type 0) (result : Result T StepFault) where
   -- it is said of another folder and key that are the same
@@ -37,13 +37,13 @@ module _ {T : Type 0} (Goes : T → Starts → Starts → Type 0) (May : StepFau
     takes = takes;
   }
 
-  -- or the record's place
-  pub changes_place : (folder key : List ℕ) (old mid new : At) → mid.world ≡ old.world → KeepsStill old.still mid.still → mid.counts.starts ≡ old.counts.starts → ChangesOnly (is_at_or_below (place_of folder key)) mid.world new.world
-      → KeepsStillOutside (is_at_or_below (place_of folder key)) mid.counts.starts.flying mid.still new.still → new.counts.starts ≡ mid.counts.starts → StepTakes Goes May result old.counts new.counts → ChangesUnit folder key None Goes May result old new
-  changes_place folder key old mid new same keeps starts only holds later takes = record {
-    only = subst (λ (w : World). ChangesOnly (is_of folder key) w new.world) same (widen (is_at_or_below (place_of folder key)) (is_of folder key) mid.world new.world (place_within folder key) only);
+  -- or the record's index
+  pub changes_record : (folder key : List ℕ) (old mid new : At) → mid.world ≡ old.world → KeepsStill old.still mid.still → mid.counts.starts ≡ old.counts.starts → ChangesOnly (is_at_or_below (record_path folder key)) mid.world new.world
+      → KeepsStillOutside (is_at_or_below (record_path folder key)) mid.counts.starts.flying mid.still new.still → new.counts.starts ≡ mid.counts.starts → StepTakes Goes May result old.counts new.counts → ChangesUnit folder key None Goes May result old new
+  changes_record folder key old mid new same keeps starts only holds later takes = record {
+    only = subst (λ (w : World). ChangesOnly (is_of folder key) w new.world) same (widen (is_at_or_below (record_path folder key)) (is_of folder key) mid.world new.world (record_within folder key) only);
     still = λ ticket apart stands stood.
-        still_widen (is_at_or_below (place_of folder key)) (is_of folder key) mid.counts.starts.flying mid.still new.still (place_within folder key) holds ticket
+        still_widen (is_at_or_below (record_path folder key)) (is_of folder key) mid.counts.starts.flying mid.still new.still (record_within folder key) holds ticket
         (λ v w changed. subst (λ (s : Starts). StandsStill ticket s.flying v w) (sym starts) (stands v w changed)) (keeps ticket stood);
     stay = λ ticket its apart there. ap (λ (s : Starts). child_at ticket s.flying) (later ∙ starts) ∙ there;
     takes = takes;
@@ -59,9 +59,9 @@ module _ {T : Type 0} (Goes : T → Starts → Starts → Type 0) (May : StepFau
     takes = takes;
   }
 
-  -- the record's place and the folder, before a child is spawned
-  pub changes_launched : (folder key out : List ℕ) (old mid new : At) → out ≡ out_of folder key → ChangesOnly (is_at_or_below (place_of folder key)) old.world mid.world
-      → KeepsStillOutside (is_at_or_below (place_of folder key)) old.counts.starts.flying old.still mid.still → mid.counts.starts ≡ old.counts.starts → ChangesOnly (is_at_or_below out) mid.world new.world
+  -- the record's index and the folder, before a child is spawned
+  pub changes_launched : (folder key out : List ℕ) (old mid new : At) → out ≡ out_of folder key → ChangesOnly (is_at_or_below (record_path folder key)) old.world mid.world
+      → KeepsStillOutside (is_at_or_below (record_path folder key)) old.counts.starts.flying old.still mid.still → mid.counts.starts ≡ old.counts.starts → ChangesOnly (is_at_or_below out) mid.world new.world
       → KeepsStillOutside (is_at_or_below out) mid.counts.starts.flying mid.still new.still → ((t : ℕ) (f : ChildInFlight) → child_at t mid.counts.starts.flying ≡ Some f → child_at t new.counts.starts.flying ≡ Some f)
       → StepTakes Goes May result old.counts new.counts → ChangesUnit folder key None Goes May result old new
   changes_launched folder key out old mid new lies first holds starts second keeps flies takes = record {
@@ -87,14 +87,14 @@ module _ {T : Type 0} (Goes : T → Starts → Starts → Type 0) (May : StepFau
     }
 
     -- the record is kept, or was to be
-    pub changes_kept : (two new : At) → two.world ≡ mid.world → KeepsStill mid.still two.still → two.counts.starts.flying ≡ without l.ticket old.counts.starts.flying → ChangesOnly (is_at_or_below (place_of root key)) two.world new.world
-        → KeepsStillOutside (is_at_or_below (place_of root key)) two.counts.starts.flying two.still new.still → new.counts.starts ≡ two.counts.starts → StepTakes Goes May result old.counts new.counts → ChangesUnit root key (Some l) Goes May result old new
+    pub changes_kept : (two new : At) → two.world ≡ mid.world → KeepsStill mid.still two.still → two.counts.starts.flying ≡ without l.ticket old.counts.starts.flying → ChangesOnly (is_at_or_below (record_path root key)) two.world new.world
+        → KeepsStillOutside (is_at_or_below (record_path root key)) two.counts.starts.flying two.still new.still → new.counts.starts ≡ two.counts.starts → StepTakes Goes May result old.counts new.counts → ChangesUnit root key (Some l) Goes May result old new
     changes_kept two new same keeps gone put holds later takes = record {
       only = record_only root key out lies l old.counts.starts.flying flies writes old.world mid.world two.world only same root new.world refl put;
       still = λ ticket apart stands stood. still_over (is_of root key) ticket l.ticket old.counts.starts.flying old.world mid.world old.still two.still new.still apart its_only
           (λ t ne sees was. keeps t (stays t ne sees was))
-          (still_widen (is_at_or_below (place_of root key)) (is_of root key) (without l.ticket old.counts.starts.flying) two.still new.still (place_within root key)
-          (subst (λ fs. KeepsStillOutside (is_at_or_below (place_of root key)) fs two.still new.still) gone holds))
+          (still_widen (is_at_or_below (record_path root key)) (is_of root key) (without l.ticket old.counts.starts.flying) two.still new.still (record_within root key)
+          (subst (λ fs. KeepsStillOutside (is_at_or_below (record_path root key)) fs two.still new.still) gone holds))
           stands stood;
       stay = λ ticket its apart there. stays_apart (Some l) l refl old.counts.starts.flying new.counts.starts.flying ticket its (ap (λ (s : Starts). s.flying) later ∙ gone) apart there;
       takes = takes;

@@ -32,28 +32,28 @@ found_in : {A : Type 0} (test : A → Bool) (xs : List A) (x : A) → find test 
 found_in test [] x is = cc
 found_in test (y ∷ xs) x is = by_test test y xs x (test y) refl is (λ more. found_in test xs x more)
 
-module _ (setup : Setup) (project : Project) (u : Planned) (done other : List (Option (List Directive))) (reached : (place : ℕ) → Contains u.needs place → Contains u.reaches place)
-    (same : (place : ℕ) → Contains u.reaches place → slice_get done place ≡ slice_get other place) where
-  said_same : (place : ℕ) → Contains u.reaches place → said_at done place ≡ said_at other place
-  said_same place has = ap said_in (same place has)
+module _ (setup : Setup) (project : Project) (u : Planned) (done other : List (Option (List Directive))) (reached : (index : ℕ) → Contains u.needs index → Contains u.reaches index)
+    (same : (index : ℕ) → Contains u.reaches index → slice_get done index ≡ slice_get other index) where
+  said_same : (index : ℕ) → Contains u.reaches index → said_at done index ≡ said_at other index
+  said_same index has = ap said_in (same index has)
 
   there_same : (o : Option ℕ) → own_run project u ≡ o → said_there done o ≡ said_there other o
   there_same None is = refl
-  there_same (Some place) is = said_same place (reached place (found_in (λ v. is_one_of is_run u.unit.owner (unit_at project v)) u.needs place is))
+  there_same (Some index) is = said_same index (reached index (found_in (λ v. is_one_of is_run u.unit.owner (unit_at project v)) u.needs index is))
 
   own_same : own_said project u done ≡ own_said project u other
   own_same = there_same (own_run project u) refl
 
   search_same : search_words u done ≡ search_words u other
-  search_same = flat_same (searched_words done) (searched_words other) u.reaches (λ place has. ap (flat_map search_word) (said_same place has))
+  search_same = flat_same (searched_words done) (searched_words other) u.reaches (λ index has. ap (flat_map search_word) (said_same index has))
 
   run_same : (o : Option ℕ) → own_run project u ≡ o → run_there project done o ≡ run_there project other o
   run_same None is = refl
-  run_same (Some place) is = ap (λ said. out_pairs (unit_at project place) ++ flat_map env_pair said) (there_same (Some place) is)
+  run_same (Some index) is = ap (λ said. out_pairs (unit_at project index) ++ flat_map env_pair said) (there_same (Some index) is)
 
-  passed_one : (place : ℕ) → Contains u.needs place → passed_at project done place ≡ passed_at project other place
+  passed_one : (index : ℕ) → Contains u.needs index → passed_at project done index ≡ passed_at project other index
   unfolding passed_at
-  passed_one place has = ap (passed_by project (unit_at project place)) (said_same place (reached place has))
+  passed_one index has = ap (passed_by project (unit_at project index)) (said_same index (reached index has))
 
   passed_same : passed_pairs project u done ≡ passed_pairs project u other
   passed_same = flat_same (passed_at project done) (passed_at project other) u.needs passed_one

@@ -43,10 +43,10 @@ use Rattle.pb_run.proofs.RecordedAnswer.{its_record, only_out}
 use Rattle.pb_run.proofs.RecordedLanding.{left_kept}
 use Rattle.pb_run.proofs.RecordedOthers.{still_over}
 use Rattle.pb_run.proofs.Settling.{Keeping, Stands, keeps_bad, keeps_good, keeps_landed, keeps_unkept, others_landed, others_unkept, stood_over}
-use Rattle.pb_run.proofs.Spawning.{place_within, still_widen}
+use Rattle.pb_run.proofs.Spawning.{record_within, still_widen}
 use Rattle.pb_store_soundness.specs.Apart.{is_of}
 use Rattle.pb_store_soundness.specs.Inputs.{input_in}
-use Rattle.pb_store_soundness.specs.Records.{place_of}
+use Rattle.pb_store_soundness.specs.Records.{record_path}
 use Rattle.pb_store.specs.declared.fault.StoreFault.TheVariants as store
 
 -- What the call that keeps a record asks.
@@ -142,7 +142,7 @@ module _ (b : BuildContext) (order : IsInOrder b.project) (i : ℕ) (u : Planned
       keeps_kept lines stands = keeps_good b order i u at u.key c l next w flying still states done can w1 landed_so ended j reply_so.0 reply_so.1 is_judged good v2 keeping lines stands outcome_kept
 
       pub others_kept : (other : ℕ) (its : Begun) (flying' : List ChildInFlight) (mid later : ℕ → Type 0) → flying' ≡ without l.ticket flying → StaysStillBut l.ticket flying w w1 still mid
-          → KeepsStillOutside (is_at_or_below (place_of (records_folder b.project) u.key)) (without l.ticket flying) mid later → BeginsApart b states i (Some l) other its next w flying still → IsBegun b other its next v2 flying' later
+          → KeepsStillOutside (is_at_or_below (record_path (records_folder b.project) u.key)) (without l.ticket flying) mid later → BeginsApart b states i (Some l) other its next w flying still → IsBegun b other its next v2 flying' later
       others_kept other its flying' mid later flies stays holds apart =
           others_landed b order i u at u.key c l next w flying still states done can w1 landed_so other its v2 flying' later apart
           (kept_only (records_folder b.project) u.key u.out w w1 v2 (order.folders i u at) landed_so keeping.only)
@@ -150,5 +150,5 @@ module _ (b : BuildContext) (order : IsInOrder b.project) (i : ℕ) (u : Planned
           (its_record b order i u at states done (begun_with u.key c (awaited.Child l)) next w flying still can l refl) keeping.left)
           flies
           (λ t ne stands stood. still_over (is_of (records_folder b.project) u.key) t l.ticket flying w w1 still mid later ne (only_out b order i u at w w1 landed_so) stays
-          (still_widen (is_at_or_below (place_of (records_folder b.project) u.key)) (is_of (records_folder b.project) u.key) (without l.ticket flying) mid later (place_within (records_folder b.project) u.key) holds)
+          (still_widen (is_at_or_below (record_path (records_folder b.project) u.key)) (is_of (records_folder b.project) u.key) (without l.ticket flying) mid later (record_within (records_folder b.project) u.key) holds)
           stands stood)

@@ -51,7 +51,7 @@ number_stays r (Some n) false next pairs is = refl
 number_stays r None true next pairs is = absurd (false≢true (sym is))
 number_stays r None false next pairs is = refl
 
-module _ (project : Project) (order : IsInOrder project) (place : ℕ) (u : Planned) (there : unit_at project place ≡ Some u) where
+module _ (project : Project) (order : IsInOrder project) (index : ℕ) (u : Planned) (there : unit_at project index ≡ Some u) where
   abbrev at_in : World → RecordMap
   at_in w = records (records_folder project) w
 
@@ -72,7 +72,7 @@ module _ (project : Project) (order : IsInOrder project) (place : ℕ) (u : Plan
     needed_on : (need : List ℕ) → Contains (needed_keys project u) need → at_in w' need ≡ at_in w need
     needed_on need has =
         let (x, its, is) = key_needed project order u need has in
-        subst (λ (key : List ℕ). at_in w' key ≡ at_in w key) (sym is) (record_still project order i v at w w' only reading its.place x its.there (far its.place (order.needs_reached place u there its.place its.among)))
+        subst (λ (key : List ℕ). at_in w' key ≡ at_in w key) (sym is) (record_still project order i v at w w' only reading its.index x its.there (far its.index (order.needs_reached index u there its.index its.among)))
 
     pub numbered_on : numbered (at_in w') (needed_keys project u) ≡ numbered (at_in w) (needed_keys project u)
     numbered_on = numbered_still (at_in w) (at_in w') (needed_keys project u) needed_on

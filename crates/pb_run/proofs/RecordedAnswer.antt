@@ -42,11 +42,11 @@ use Rattle.pb_run.proofs.Views.{IsFor}
 use Rattle.pb_store_soundness.specs.Apart.{is_of}
 use Rattle.pb_store_soundness.specs.Grounded.{RecordMap, Grounded, grounded}
 use Rattle.pb_store_soundness.specs.Numbers.{IsAhead}
-use Rattle.pb_store_soundness.specs.Records.{is_key, place_of, reading}
+use Rattle.pb_store_soundness.specs.Records.{is_key, record_path, reading}
 use Rattle.pb_store_soundness.specs.Sound.{Sound}
 use Rattle.pb_store_soundness.proofs.Becoming.{one, none_some}
 use Rattle.pb_store_soundness.proofs.Four.{in_output}
-use Rattle.pb_store_soundness.proofs.Places.{place_outside, no_key, record_same}
+use Rattle.pb_store_soundness.proofs.RecordPaths.{record_outside, no_key, record_same}
 use Rattle.pb_store.specs.Differences.{IsReplayed}
 use Rattle.pb_store.specs.declared.replaying.Replayed.{Replayed}
 use Rattle.pb_unit.specs.declared.plan.Planned.{Planned}
@@ -83,7 +83,7 @@ ahead_alike old new next alike ahead key r there = ahead key r (sym (alike key) 
 
 -- Where a unit's own work changes files.
 
-module _ (b : BuildContext) (order : IsInOrder b.project) (place : ℕ) (u : Planned) (there : unit_at b.project place ≡ Some u) where
+module _ (b : BuildContext) (order : IsInOrder b.project) (index : ℕ) (u : Planned) (there : unit_at b.project index ≡ Some u) where
   abbrev Folder : List ℕ
   Folder = records_folder b.project
 
@@ -98,11 +98,11 @@ module _ (b : BuildContext) (order : IsInOrder b.project) (place : ℕ) (u : Pla
   pub only_out : (old new : World) → ChangesOnly (is_at_or_below u.out) old new → ChangesOnly (is_of Folder u.key) old new
   only_out old new only = record {
     variables = only.variables;
-    files = λ q outside. only.files q (subst (λ f. is_at_or_below f q ≡ false) (sym (order.folders place u there)) (left_false _ _ outside));
+    files = λ q outside. only.files q (subst (λ f. is_at_or_below f q ≡ false) (sym (order.folders index u there)) (left_false _ _ outside));
   }
 
-  pub only_place : (old new : World) → ChangesOnly (is_at_or_below (place_of Folder u.key)) old new → ChangesOnly (is_of Folder u.key) old new
-  only_place old new only = record { variables = only.variables; files = λ q outside. only.files q (right_false _ _ outside) }
+  pub only_record : (old new : World) → ChangesOnly (is_at_or_below (record_path Folder u.key)) old new → ChangesOnly (is_of Folder u.key) old new
+  only_record old new only = record { variables = only.variables; files = λ q outside. only.files q (right_false _ _ outside) }
 
   pub only_join : (old mid new : World) → ChangesOnly (is_of Folder u.key) old mid → ChangesOnly (is_of Folder u.key) mid new → ChangesOnly (is_of Folder u.key) old new
   only_join old mid new one_change other = record { variables = other.variables ∙ one_change.variables; files = λ q outside. other.files q outside ∙ one_change.files q outside }
@@ -111,36 +111,36 @@ module _ (b : BuildContext) (order : IsInOrder b.project) (place : ℕ) (u : Pla
   pub records_out : (old new : World) → ChangesOnly (is_at_or_below u.out) old new → (l : List ℕ) → records_in b new l ≡ records_in b old l
   records_out old new only l = elim (cases_Bool (is_key l)) [
     | inl is_l ↦ record_same reading Folder old.files new.files l
-        (only.files (place_of Folder l) (subst (λ f. is_at_or_below f (place_of Folder l) ≡ false) (sym (order.folders place u there)) (place_outside Folder u.key l (order.keys place u there) is_l)))
+        (only.files (record_path Folder l) (subst (λ f. is_at_or_below f (record_path Folder l) ≡ false) (sym (order.folders index u there)) (record_outside Folder u.key l (order.keys index u there) is_l)))
     | inr wrong ↦ no_key reading Folder new.files l wrong ∙ sym (no_key reading Folder old.files l wrong)
   ]
 
   pub sound_out : (old new : World) → ChangesOnly (is_at_or_below u.out) old new → records_in b old u.key ≡ None → Sound reading judge b.child Folder old.files → Sound reading judge b.child Folder new.files
   sound_out old new only gone sound =
-      in_output reading judge b.child Folder old.files new.files u.key order.folder (order.keys place u there) gone
-      (λ q outside. only.files q (subst (λ f. is_at_or_below f q ≡ false) (sym (order.folders place u there)) outside)) sound
+      in_output reading judge b.child Folder old.files new.files u.key order.folder (order.keys index u there) gone
+      (λ q outside. only.files q (subst (λ f. is_at_or_below f q ≡ false) (sym (order.folders index u there)) outside)) sound
 
   -- What a unit that can answer waits for.
 
   module _ (states : List (State BadUnit)) (done : List (Option (List Directive))) (begun : Begun) (next : Option ℕ) (w : World) (flying : List ChildInFlight) (still : ℕ → Type 0)
-      (can : CanAnswer b states done place u begun next w flying still) where
+      (can : CanAnswer b states done index u begun next w flying still) where
     its_unit : can.begun_so.unit ≡ u
     its_unit = one can.begun_so.unit u (sym can.begun_so.there ∙ there)
 
-    pub its_command : begun.command ≡ command_in b place u
-    its_command = subst (λ (x : Planned). begun.command ≡ command_in b place x) its_unit can.begun_so.command
+    pub its_command : begun.command ≡ command_in b index u
+    its_command = subst (λ (x : Planned). begun.command ≡ command_in b index x) its_unit can.begun_so.command
 
-    its_waits : WaitsBy b u begun.command (view_in b place u) begun.awaited next w flying still
-    its_waits = subst (λ (x : Planned). WaitsBy b x begun.command (view_in b place x) begun.awaited next w flying still) its_unit can.begun_so.waits
+    its_waits : WaitsBy b u begun.command (view_in b index u) begun.awaited next w flying still
+    its_waits = subst (λ (x : Planned). WaitsBy b x begun.command (view_in b index x) begun.awaited next w flying still) its_unit can.begun_so.waits
 
-    pub its_flight : (launched : SpawnedChild) → child_of begun ≡ Some launched → IsInFlight b.child begun.command (view_in b place u) launched.ticket flying still
-    its_flight launched is = (waits_child b u begun.command (view_in b place u) begun.awaited launched next w flying still is its_waits).0
+    pub its_flight : (launched : SpawnedChild) → child_of begun ≡ Some launched → IsInFlight b.child begun.command (view_in b index u) launched.ticket flying still
+    its_flight launched is = (waits_child b u begun.command (view_in b index u) begun.awaited launched next w flying still is its_waits).0
 
     pub its_record : (launched : SpawnedChild) → child_of begun ≡ Some launched → AwaitsBy b.premise b u launched.number next w
-    its_record launched is = (waits_child b u begun.command (view_in b place u) begun.awaited launched next w flying still is its_waits).1
+    its_record launched is = (waits_child b u begun.command (view_in b index u) begun.awaited launched next w flying still is its_waits).1
 
-    record_waits : (again : Replayed) → begun.awaited ≡ awaited.Record again → WaitsBy b u begun.command (view_in b place u) (awaited.Record again) next w flying still
-    record_waits again is = subst (λ (o : Awaited). WaitsBy b u begun.command (view_in b place u) o next w flying still) is its_waits
+    record_waits : (again : Replayed) → begun.awaited ≡ awaited.Record again → WaitsBy b u begun.command (view_in b index u) (awaited.Record again) next w flying still
+    record_waits again is = subst (λ (o : Awaited). WaitsBy b u begun.command (view_in b index u) o next w flying still) is its_waits
 
     pub its_same : (again : Replayed) → begun.awaited ≡ awaited.Record again → NothingDiffers b.premise b u begun.command w
     its_same again is = (record_waits again is).0
@@ -148,25 +148,25 @@ module _ (b : BuildContext) (order : IsInOrder b.project) (place : ℕ) (u : Pla
     pub its_again : (again : Replayed) → begun.awaited ≡ awaited.Record again → IsReplayed (records_in b w u.key) again
     its_again again is = (record_waits again is).1
 
-    pub begun_bad : is_good_at (slice_get states place) ≡ false
+    pub begun_bad : is_good_at (slice_get states index) ≡ false
     begun_bad = ap is_good_at can.state
 
-    pub own_places : (p : ℕ) → Contains u.reaches p → p ≢ place
-    own_places = own_far b order states done place u there next w w (record { variables = refl; files = λ q outside. refl }) begun_bad can.reaches
+    pub own_indices : (p : ℕ) → Contains u.reaches p → p ≢ index
+    own_indices = own_far b order states done index u there next w w (record { variables = refl; files = λ q outside. refl }) begun_bad can.reaches
 
     pub its_for : IsFor b.project u begun.command
-    its_for = command_for b.project order b place u begun.command refl there its_command
+    its_for = command_for b.project order b index u begun.command refl there its_command
 
     -- What is kept after its answer.
 
     -- after a fault: no unit's state is changed
     pub keeps_fault : (w' : World) (next' : Option ℕ) → ChangesOnly (is_of Folder u.key) w w'
         → IfRecords b.premise (Sound reading judge b.child Folder w'.files) → IfRecords b.premise (IsAhead (records_in b w') next') → BuildInvariant b states done next' w'
-    keeps_fault w' next' only sound ahead = keeps_over b order states done place u there begun_bad next w w' can.keeps only states done next' (λ p apart. refl) (λ p apart. refl) can.keeps.long
+    keeps_fault w' next' only sound ahead = keeps_over b order states done index u there begun_bad next w w' can.keeps only states done next' (λ p apart. refl) (λ p apart. refl) can.keeps.long
         record {
           stands = λ good. absurd (false≢true (sym begun_bad ∙ good));
           reaches = λ good. absurd (false≢true (sym begun_bad ∙ good));
-          recorded = never_by b.premise (is_good_at (slice_get states place) ≡ true) (HasRecord b w' place) (λ good. false≢true (sym begun_bad ∙ good));
+          recorded = never_by b.premise (is_good_at (slice_get states index) ≡ true) (HasRecord b w' index) (λ good. false≢true (sym begun_bad ∙ good));
           begun = λ untouched. begun_untouched begun_state refl (sym can.state ∙ untouched);
         } sound ahead
       where
@@ -175,13 +175,13 @@ module _ (b : BuildContext) (order : IsInOrder b.project) (place : ℕ) (u : Pla
 
     -- after its answer, good or bad: a good one stands, and has its record
     pub keeps_answered : (w' : World) (next' : Option ℕ) (ran : Ran) (lines : List ℕ) → ChangesOnly (is_of Folder u.key) w w'
-        → slice_get (outcomes_in b) place ≡ Some (outcome_by (files_in u.out w'.files) ran)
-        → IfRecords b.premise (Sound reading judge b.child Folder w'.files) → IfRecords b.premise (IsAhead (records_in b w') next') → IfRecords b.premise (ran.bad ≡ None → HasRecord b w' place)
-        → BuildInvariant b (slice_set states place (Answered record { fault = ran.bad; lines = lines })) (slice_set done place ran.directives) next' w'
+        → slice_get (outcomes_in b) index ≡ Some (outcome_by (files_in u.out w'.files) ran)
+        → IfRecords b.premise (Sound reading judge b.child Folder w'.files) → IfRecords b.premise (IsAhead (records_in b w') next') → IfRecords b.premise (ran.bad ≡ None → HasRecord b w' index)
+        → BuildInvariant b (slice_set states index (Answered record { fault = ran.bad; lines = lines })) (slice_set done index ran.directives) next' w'
     keeps_answered w' next' ran lines only outcome sound ahead recorded =
-        keeps_over b order states done place u there begun_bad next w w' can.keeps only (slice_set states place (Answered answer)) (slice_set done place ran.directives) next'
-        (λ p apart. get_set_other states place p (Answered answer) (λ e. apart (sym e))) (λ p apart. get_set_other done place p ran.directives (λ e. apart (sym e)))
-        (length_set done place ran.directives ∙ can.keeps.long ∙ sym (length_set states place (Answered answer)))
+        keeps_over b order states done index u there begun_bad next w w' can.keeps only (slice_set states index (Answered answer)) (slice_set done index ran.directives) next'
+        (λ p apart. get_set_other states index p (Answered answer) (λ e. apart (sym e))) (λ p apart. get_set_other done index p ran.directives (λ e. apart (sym e)))
+        (length_set done index ran.directives ∙ can.keeps.long ∙ sym (length_set states index (Answered answer)))
         record {
           stands = λ good. record {
             unit = u;
@@ -190,7 +190,7 @@ module _ (b : BuildContext) (order : IsInOrder b.project) (place : ℕ) (u : Pla
             directives = ran.directives;
             messages = ran.messages;
             good = outcome ∙ ap (λ o. Some (outcome_from o (files_in u.out w'.files) ran.directives ran.messages)) (well good);
-            noted = noted_at done place ran.directives (long_enough (slice_get_within states place begun_state can.state));
+            noted = noted_at done index ran.directives (long_enough (slice_get_within states index begun_state can.state));
             holds = refl;
           };
           reaches = λ good. can.reaches;
@@ -201,28 +201,28 @@ module _ (b : BuildContext) (order : IsInOrder b.project) (place : ℕ) (u : Pla
         answer : Answer BadUnit
         answer = record { fault = ran.bad; lines = lines }
 
-        now : slice_get (slice_set states place (Answered answer)) place ≡ Some (Answered answer)
-        now = get_set_same states place begun_state (Answered answer) can.state
+        now : slice_get (slice_set states index (Answered answer)) index ≡ Some (Answered answer)
+        now = get_set_same states index begun_state (Answered answer) can.state
 
         none_of : (o : Option BadUnit) → is_none o ≡ true → o ≡ None
         none_of None is = refl
         none_of (Some bad) is = absurd (false≢true is)
 
-        well : is_good_at (slice_get (slice_set states place (Answered answer)) place) ≡ true → ran.bad ≡ None
+        well : is_good_at (slice_get (slice_set states index (Answered answer)) index) ≡ true → ran.bad ≡ None
         well good = none_of ran.bad (sym (ap is_good_at now) ∙ good)
 
         answered_untouched : (s : State BadUnit) → s ≡ Answered answer → Some s ≡ Some Untouched → ⊥
         answered_untouched s is e = cc
 
-        long_enough : place < length states → place < length done
-        long_enough less = subst (λ n. place < n) (sym can.keeps.long) less
+        long_enough : index < length states → index < length done
+        long_enough less = subst (λ n. index < n) (sym can.keeps.long) less
 
         noted_at : (xs : List (Option (List Directive))) (i : ℕ) (x : Option (List Directive)) → i < length xs → slice_get (slice_set xs i x) i ≡ Some x
         noted_at [] i x less = absurd (omega (arith, less))
         noted_at (y ∷ xs) zero x less = refl
         noted_at (y ∷ xs) (suc i) x less = noted_at xs i x (omega (arith, less))
 
-        recorded_by : (premise : Premise) → IfRecords premise (ran.bad ≡ None → HasRecord b w' place)
-            → IfRecords premise (is_good_at (slice_get (slice_set states place (Answered answer)) place) ≡ true → HasRecord b w' place)
+        recorded_by : (premise : Premise) → IfRecords premise (ran.bad ≡ None → HasRecord b w' index)
+            → IfRecords premise (is_good_at (slice_get (slice_set states index (Answered answer)) index) ≡ true → HasRecord b w' index)
         recorded_by TrustedRecords has = λ good. has (well good)
         recorded_by NoRecords has = tt

@@ -41,7 +41,7 @@ use Rattle.pb_store_soundness.specs.Reuse.{IsSame, NeededNow, number_if}
 use Rattle.pb_store_soundness.specs.Sound.{Sound, TrueBy}
 use Rattle.pb_store_soundness.proofs.Becoming.{one, none_some}
 use Rattle.pb_store_soundness.proofs.Flying.{unit_record}
-use Rattle.pb_store_soundness.proofs.Places.{is_same}
+use Rattle.pb_store_soundness.proofs.RecordPaths.{is_same}
 use Rattle.pb_store.specs.Folder.{Leaves, ReadBy, itself, further, HasNeeds, TakesNumber}
 use Rattle.pb_store.specs.Differences.{replayed}
 use Rattle.pb_unit.specs.declared.plan.Planned.{Planned}
@@ -55,7 +55,7 @@ pub if_records : (premise : Premise) (Fact : Type 0) → Fact → IfRecords prem
 if_records TrustedRecords Fact fact = fact
 if_records NoRecords Fact fact = tt
 
--- what became of the record in a unit's place: none counts; it is as it was; or it is one with this number, over units that stand
+-- what became of the record in a unit's index: none counts; it is as it was; or it is one with this number, over units that stand
 pub data Left (old new : RecordMap) (key : List ℕ) (number : Option ℕ) : Type 0 where
   vanished : new key ≡ None → Left old new key number
   as_before : new key ≡ old key → Left old new key number
@@ -124,7 +124,7 @@ copied_read judge child folder at files key r copies says need m has = says.read
 
 -- Another unit.
 
-module _ (b : BuildContext) (order : IsInOrder b.project) (place : ℕ) (u : Planned) (there : unit_at b.project place ≡ Some u) (w w' : World) (only : ChangesOnly (is_of (records_folder b.project) u.key) w w') where
+module _ (b : BuildContext) (order : IsInOrder b.project) (index : ℕ) (u : Planned) (there : unit_at b.project index ≡ Some u) (w w' : World) (only : ChangesOnly (is_of (records_folder b.project) u.key) w w') where
   abbrev Folder : List ℕ
   Folder = records_folder b.project
 
@@ -135,14 +135,14 @@ module _ (b : BuildContext) (order : IsInOrder b.project) (place : ℕ) (u : Pla
   At' = records_in b w'
 
   pub others_at : (l : List ℕ) → l ≢ u.key → At' l ≡ At l
-  others_at l ne = unit_record Folder u.key w w' order.folder (order.keys place u there) only reading l ne
+  others_at l ne = unit_record Folder u.key w w' order.folder (order.keys index u there) only reading l ne
 
-  module _ (other : ℕ) (v : Planned) (at : unit_at b.project other ≡ Some v) (far : (p : ℕ) → Contains v.reaches p → p ≢ place) where
+  module _ (other : ℕ) (v : Planned) (at : unit_at b.project other ≡ Some v) (far : (p : ℕ) → Contains v.reaches p → p ≢ index) where
     -- what a unit needs that does not reach this one stands as it stood
     need_apart : (need : List ℕ) → Contains (needed_keys b.project v) need → need ≢ u.key
     need_apart need has e =
         let (x, where', is) = key_needed b.project order v need has in
-        keys_differ b.project order where'.place place x u where'.there there (far where'.place (order.needs_reached other v at where'.place where'.among)) (sym is ∙ e)
+        keys_differ b.project order where'.index index x u where'.there there (far where'.index (order.needs_reached other v at where'.index where'.among)) (sym is ∙ e)
 
     pub needs_still : (number : ℕ) → HasNeeds At Folder (reads_of b.project v) (needed_keys b.project v) number → HasNeeds At' Folder (reads_of b.project v) (needed_keys b.project v) number
     needs_still number has = record {
@@ -158,10 +158,10 @@ module _ (b : BuildContext) (order : IsInOrder b.project) (place : ℕ) (u : Pla
         back f (itself need names is) = itself need names is
         back f (further need s names stands more) = further need s names (sym (others_at need (need_apart need names)) ∙ stands) more
 
-  module _ (other : ℕ) (v : Planned) (at : unit_at b.project other ≡ Some v) (far : (p : ℕ) → Contains v.reaches p → p ≢ place) (another : other ≢ place) where
+  module _ (other : ℕ) (v : Planned) (at : unit_at b.project other ≡ Some v) (far : (p : ℕ) → Contains v.reaches p → p ≢ index) (another : other ≢ index) where
     pub awaits_still : (next next' : Option ℕ) (given : Option ℕ) (number : ℕ) → TakesNumber next next' → Left At At' u.key given → given ≢ Some number → AwaitsRecord b v number next w → AwaitsRecord b v number next' w'
     awaits_still next next' given number taken left apart waits = record {
-      gone = record_still b.project order place u there w w' only reading other v at another ∙ waits.gone;
+      gone = record_still b.project order index u there w w' only reading other v at another ∙ waits.gone;
       unnamed = names_still At At' u.key given number others_at left apart waits.unnamed;
       needs_stand = needs_still other v at far number waits.needs_stand;
       before = before_taken next next' number taken waits.before;
@@ -175,13 +175,13 @@ module _ (b : BuildContext) (order : IsInOrder b.project) (place : ℕ) (u : Pla
     read_apart : (c : Command) → IsFor b.project v c → (need : List ℕ) → Contains c.reads (out_of Folder need) → need ≢ u.key
     read_apart c for need has e =
         let (x, where', is) = read_reached b.project order v (out_of Folder need) (subst (λ (l : List (List ℕ)). Contains l (out_of Folder need)) for.reads has) in
-        keys_differ b.project order where'.place place x u where'.there there (far where'.place where'.among) (sym (key_by_folder b.project order x where'.place need where'.there is) ∙ e)
+        keys_differ b.project order where'.index index x u where'.there there (far where'.index where'.among) (sym (key_by_folder b.project order x where'.index need where'.there is) ∙ e)
 
     unit_contents : (c : Command) → IsFor b.project v c → (need : List ℕ) → Contains c.reads (out_of Folder need) → contents (out_of Folder need) w'.files ≡ contents (out_of Folder need) w.files
     unit_contents c for need has =
         let (x, where', is) = read_reached b.project order v (out_of Folder need) (subst (λ (l : List (List ℕ)). Contains l (out_of Folder need)) for.reads has) in
         contents_by (out_of Folder need)
-        (subst (λ f. files_in f w'.files ≡ files_in f w.files) (sym is) (files_still b.project order place u there w w' only where'.place x where'.there (far where'.place where'.among)))
+        (subst (λ f. files_in f w'.files ≡ files_in f w.files) (sym is) (files_still b.project order index u there w w' only where'.index x where'.there (far where'.index where'.among)))
       where
         contents_by : (folder : List ℕ) → files_in folder w'.files ≡ files_in folder w.files → contents folder w'.files ≡ contents folder w.files
         contents_by folder same = ap (λ (m : Map). map (λ (e : List ℕ × List ℕ). (drop (length (stem folder) + 1) e.0, e.1)) (finite.entries m)) same
@@ -196,9 +196,9 @@ module _ (b : BuildContext) (order : IsInOrder b.project) (place : ℕ) (u : Pla
 
     pub same_still : (c : Command) (r : Record) → IsFor b.project v c → Sound reading judge b.child Folder w.files → IsSame reading Folder v.key c w r → IsSame reading Folder v.key c w' r
     same_still c r for sound is = record {
-      stands = record_still b.project order place u there w w' only reading other v at another ∙ is.stands;
+      stands = record_still b.project order index u there w w' only reading other v at another ∙ is.stands;
       asked = is.asked;
-      inputs = agrees_still c.target r.inputs w w' (subst (λ t. from_nothing t w' ≡ from_nothing t w) (sym for.target) (sources_still b.project order place u there w w' only)) is.inputs;
+      inputs = agrees_still c.target r.inputs w w' (subst (λ t. from_nothing t w' ≡ from_nothing t w) (sym for.target) (sources_still b.project order index u there w w' only)) is.inputs;
       needed = needed_still c for r r.needed (sound.each v.key r is.stands).says (sym (ap (λ (d : Command). d.reads) is.asked)) is.needed;
     }
 
@@ -211,8 +211,8 @@ module _ (b : BuildContext) (order : IsInOrder b.project) (place : ℕ) (u : Pla
         → (x y : World) → ChangesOnly (is_of Folder u.key) x y → StandsStill t flying x y
     flight_still c t flying spawned for flies x y changes =
         subst (λ (o : Option ChildInFlight). IfSome o (λ s. SeesStill s x y)) (sym flies) (
-          seen_still b.project order place u there x y changes v c for far,
-          subst (λ (o : Option (List ℕ)). inside_out o y.files ≡ inside_out o x.files) (sym for.out) (files_still b.project order place u there x y changes other v at another),
+          seen_still b.project order index u there x y changes v c for far,
+          subst (λ (o : Option (List ℕ)). inside_out o y.files ≡ inside_out o x.files) (sym for.out) (files_still b.project order index u there x y changes other v at another),
         )
 
     pub in_flight_still : (c : Command) (view : World) (t : ℕ) (flying flying' : List ChildInFlight) (still still' : ℕ → Type 0) → IsFor b.project v c
@@ -235,7 +235,7 @@ module _ (b : BuildContext) (order : IsInOrder b.project) (place : ℕ) (u : Pla
         → WaitsBy b v c view by next w flying still → WaitsBy b v c view by next' w' flying' still'
     waits_still c view (awaited.Record again) states next next' given flying flying' still still' for holds taken left numbers flies_on stands_on (same, gives) = (
       unchanged_by b.premise states next c for holds same,
-      ap (option_map replayed) (record_still b.project order place u there w w' only reading other v at another) ∙ gives,
+      ap (option_map replayed) (record_still b.project order index u there w w' only reading other v at another) ∙ gives,
     )
     waits_still c view (awaited.Child theirs) states next next' given flying flying' still still' for holds taken left numbers flies_on stands_on (in_flight, awaits) = (
       in_flight_still c view theirs.ticket flying flying' still still' for (flies_on theirs refl) (stands_on theirs refl) in_flight,
@@ -249,28 +249,28 @@ waits_child b u c view (awaited.Child l) launched next w flying still is waits =
 waits_child b u c view (awaited.Record again) launched next w flying still is waits = absurd (none_some launched is)
 
 -- a good unit is not this one, which is not good
-pub far_of : (states : List (State BadUnit)) (place : ℕ) (places : List ℕ) → is_good_at (slice_get states place) ≡ false → are_good states places ≡ true → (p : ℕ) → Contains places p → p ≢ place
-far_of states place places bad good p has e = false≢true (sym bad ∙ ap (λ q. is_good_at (slice_get states q)) (sym e) ∙ all_at (λ q. is_good_at (slice_get states q)) places p good has)
+pub far_of : (states : List (State BadUnit)) (index : ℕ) (indices : List ℕ) → is_good_at (slice_get states index) ≡ false → are_good states indices ≡ true → (p : ℕ) → Contains indices p → p ≢ index
+far_of states index indices bad good p has e = false≢true (sym bad ∙ ap (λ q. is_good_at (slice_get states q)) (sym e) ∙ all_at (λ q. is_good_at (slice_get states q)) indices p good has)
 
 -- another unit that has begun stays so
-pub stays_begun : (b : BuildContext) (order : IsInOrder b.project) (states : List (State BadUnit)) (done : List (Option (List Directive))) (place : ℕ) (u : Planned) (launched : Option SpawnedChild) (other : ℕ) (its : Begun)
+pub stays_begun : (b : BuildContext) (order : IsInOrder b.project) (states : List (State BadUnit)) (done : List (Option (List Directive))) (index : ℕ) (u : Planned) (launched : Option SpawnedChild) (other : ℕ) (its : Begun)
     (next next' given : Option ℕ) (w w' : World) (flying flying' : List ChildInFlight) (still still' : ℕ → Type 0)
-    → unit_at b.project place ≡ Some u → is_good_at (slice_get states place) ≡ false → BuildInvariant b states done next w
-    → BeginsApart b states place launched other its next w flying still
+    → unit_at b.project index ≡ Some u → is_good_at (slice_get states index) ≡ false → BuildInvariant b states done next w
+    → BeginsApart b states index launched other its next w flying still
     → ChangesOnly (is_of (records_folder b.project) u.key) w w' → TakesNumber next next' → IfRecords b.premise (Left (records_in b w) (records_in b w') u.key given)
     → ((theirs : SpawnedChild) → child_of its ≡ Some theirs → given ≢ Some theirs.number)
     → ((theirs : SpawnedChild) → child_of its ≡ Some theirs → (c : ChildInFlight) → child_at theirs.ticket flying ≡ Some c → child_at theirs.ticket flying' ≡ Some c)
     → ((theirs : SpawnedChild) → child_of its ≡ Some theirs → ((x y : World) → ChangesOnly (is_of (records_folder b.project) u.key) x y → StandsStill theirs.ticket flying x y) → still theirs.ticket → still' theirs.ticket)
     → IsBegun b other its next' w' flying' still'
-stays_begun b order states done place u launched other its next next' given w w' flying flying' still still' there bad keeps apart only taken left numbers flies_on stands_on =
+stays_begun b order states done index u launched other its next next' given w w' flying flying' still still' there bad keeps apart only taken left numbers flies_on stands_on =
     let is = apart.begun_so in
     let v_same : apart.unit ≡ is.unit = one apart.unit is.unit (sym apart.there ∙ is.there) in
-    let far = far_of states place is.unit.reaches bad (subst (λ (x : Planned). are_good states x.reaches ≡ true) v_same apart.reaches) in
+    let far = far_of states index is.unit.reaches bad (subst (λ (x : Planned). are_good states x.reaches ≡ true) v_same apart.reaches) in
     record {
       unit = is.unit;
       there = is.there;
       command = is.command;
-      waits = waits_still b order place u there w w' only other is.unit is.there far apart.another its.command (view_in b other is.unit) its.awaited states next next' given flying flying' still still'
+      waits = waits_still b order index u there w w' only other is.unit is.there far apart.another its.command (view_in b other is.unit) its.awaited states next next' given flying flying' still still'
           (command_for b.project order b other is.unit its.command refl is.there is.command) keeps.records taken left numbers flies_on stands_on is.waits;
     }
 

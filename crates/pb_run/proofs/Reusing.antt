@@ -35,14 +35,14 @@ use Rattle.pb_run.specs.declared.faults.StepFault.TheVariants.{Store, Start}
 use Rattle.pb_run.specs.declared.ran.Validated.{Validated}
 use Rattle.pb_run.specs.declared.ran.Ran.{Ran}
 use Rattle.pb_run.proofs.Answering.{files_kept, judged_gives, reached_stand}
-use Rattle.pb_run.proofs.RecordedAnswer.{begun_bad, its_again, its_command, its_same, keeps_answered, keeps_fault, only_place}
+use Rattle.pb_run.proofs.RecordedAnswer.{begun_bad, its_again, its_command, its_same, keeps_answered, keeps_fault, only_record}
 use Rattle.pb_run.proofs.RecordedOthers.{IfRecords, Left, as_before, if_records, stays_begun}
 use Rattle.pb_run.proofs.RecordedReplay.{left_migrated, migrated_ahead, migrated_record, migrated_sound, numbers_apart, replay_backs}
 use Rattle.pb_run.proofs.Settling.{not_none, on_good}
 use Rattle.pb_run.proofs.Shown.{AllStand, sees_view}
 use Rattle.pb_store_soundness.specs.Apart.{is_of}
 use Rattle.pb_store_soundness.specs.Numbers.{IsAhead}
-use Rattle.pb_store_soundness.specs.Records.{number_of, place_of, reading, records}
+use Rattle.pb_store_soundness.specs.Records.{number_of, record_path, reading, records}
 use Rattle.pb_store_soundness.specs.Sound.{Backs, Sound}
 use Rattle.pb_store_soundness.proofs.Becoming.{one}
 use Rattle.pb_store.specs.Folder.{Leaves, numbered, IsMigrated, TakesNext, TakesNumber, lacks_number, migrated, migrated_by, numbered_record}
@@ -54,7 +54,7 @@ use Rattle.pb_store.specs.declared.replaying.Replayed.{Replayed}
 pub record Renewing (child : Answers) (folder key : List ℕ) (needs : List (List ℕ)) (c : Command) (next next' : Option ℕ) (w w' : World) : Type 0 where
   pub sound : (r : Record) → ((number : ℕ) → next ≡ Some number → IsMigrated judge child folder key c needs number w r) → Sound reading judge child folder w.files → Sound reading judge child folder w'.files
   pub ahead : (r : Record) → ((number : ℕ) → next ≡ Some number → IsMigrated judge child folder key c needs number w r) → IsAhead (records folder w) next → IsAhead (records folder w') next'
-  pub only : ChangesOnly (is_at_or_below (place_of folder key)) w w'
+  pub only : ChangesOnly (is_at_or_below (record_path folder key)) w w'
   pub left : Leaves (migrated next (numbered (records folder w) needs) (records folder w key)) (records folder w key) (records folder w' key)
   pub same : lacks_number (records folder w key) ≡ false → w' ≡ w
 
@@ -178,7 +178,7 @@ module _ (b : BuildContext) (order : IsInOrder b.project) (i : ℕ) (u : Planned
 
   -- and whose record was renewed
   pub renewed_outcome : (j : Validated) (w' : World) (ran : Ran) → j ≡ judgement_by b.project u again.ended (answered_of b.project u c again.ended (file_at (dep_info_of b.project u) w.files)) → ran ≡ unstarted j.ran
-      → ChangesOnly (is_at_or_below (place_of (records_folder b.project) u.key)) w w' → slice_get (outcomes_in b) i ≡ Some (outcome_by (files_in u.out w'.files) ran)
+      → ChangesOnly (is_at_or_below (record_path (records_folder b.project) u.key)) w w' → slice_get (outcomes_in b) i ≡ Some (outcome_by (files_in u.out w'.files) ran)
   renewed_outcome j w' ran is_judged is_ran only =
       replay_outcome j w ran refl is_judged is_ran
       ∙ sym (ap (λ (m : Map). Some (outcome_by m ran)) (files_kept (records_folder b.project) u.key u.out w w' order.folder (order.keys i u at) (order.folders i u at) only))
@@ -219,7 +219,7 @@ module _ (b : BuildContext) (order : IsInOrder b.project) (i : ℕ) (u : Planned
     ahead_new = migrated_ahead b order i u at states done begun next w flying still can w' next' renews.only b.premise can.keeps.records same_now sees renews.ahead
 
     only_new : ChangesOnly (is_of (records_folder b.project) u.key) w w'
-    only_new = only_place b order i u at w w' renews.only
+    only_new = only_record b order i u at w w' renews.only
 
     pub keeps_unrenewed : BuildInvariant b states done next' w'
     keeps_unrenewed = keeps_fault b order i u at states done begun next w flying still can w' next' only_new sound_new ahead_new

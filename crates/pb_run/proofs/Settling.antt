@@ -38,7 +38,7 @@ use Rattle.pb_run.specs.declared.ran.Validated.{Validated}
 use Rattle.pb_run.specs.declared.ran.Ran.{Ran}
 use Rattle.pb_run.proofs.Answering.{landed_only, reached_stand}
 use Rattle.pb_run.proofs.Parts.{answer_parts, begun_parts}
-use Rattle.pb_run.proofs.RecordedAnswer.{begun_bad, its_command, its_record, keeps_answered, keeps_fault, only_join, only_out, only_place}
+use Rattle.pb_run.proofs.RecordedAnswer.{begun_bad, its_command, its_record, keeps_answered, keeps_fault, only_join, only_out, only_record}
 use Rattle.pb_run.proofs.RecordedLanding.{kept_ahead, kept_record, kept_sound, landed_ahead, landed_sound, left_landed}
 use Rattle.pb_run.proofs.RecordedOthers.{IfRecords, Left, flies_without, if_records, stays_begun}
 use Rattle.pb_run.proofs.Shown.{AllStand, sees_view}
@@ -46,7 +46,7 @@ use Rattle.pb_run.proofs.Units.{dep_info_inside, inside_file}
 use Rattle.pb_store_soundness.specs.Apart.{is_of}
 use Rattle.pb_store_soundness.specs.Inputs.{input_in}
 use Rattle.pb_store_soundness.specs.Numbers.{IsAhead, IsBefore}
-use Rattle.pb_store_soundness.specs.Records.{place_of, reading, records}
+use Rattle.pb_store_soundness.specs.Records.{record_path, reading, records}
 use Rattle.pb_store_soundness.specs.Sound.{Sound}
 use Rattle.pb_store.specs.Folder.{HasNeeds, IsKept, Leaves, kept_of, numbered}
 
@@ -72,7 +72,7 @@ pub record Keeping (child : Answers) (folder key : List ℕ) (needs : List (List
   pub sound : IsKept judge child folder key c needs names ended number w1 → Sound reading judge child folder w1.files → Sound reading judge child folder w2.files
   pub ahead : IsBefore next number → HasNeeds (records folder w1) folder c.reads needs number → IsAhead (records folder w1) next → IsAhead (records folder w2) next
   pub left : Leaves (Some (kept_of folder key c (map (input_in c.target w1) names) number (numbered (records folder w1) needs) ended)) (records folder w1 key) (records folder w2 key)
-  pub only : ChangesOnly (is_at_or_below (place_of folder key)) w1 w2
+  pub only : ChangesOnly (is_at_or_below (record_path folder key)) w1 w2
 
 -- and where it ended well
 abbrev pub Stands : List ℕ → List ℕ → List (List ℕ) → Command → ℕ → List InputName → Ended → World → World → Type 0
@@ -180,7 +180,7 @@ module _ (b : BuildContext) (order : IsInOrder b.project) (i : ℕ) (u : Planned
       ahead_kept = kept_ahead b order i u at states done begun next w flying still can w1 landed w2 kept.only b.premise l.number can.keeps.records waits kept.ahead
 
       only_kept : ChangesOnly (is_of (records_folder b.project) u.key) w w2
-      only_kept = only_join b order i u at w w1 w2 only_now (only_place b order i u at w1 w2 kept.only)
+      only_kept = only_join b order i u at w w1 w2 only_now (only_record b order i u at w1 w2 kept.only)
 
       -- a fault while it is kept
       pub keeps_unkept : BuildInvariant b states done next w2

@@ -40,37 +40,37 @@ each_of P (y ∷ xs) x all has = elim (contains_cases y xs x has) [
 
 -- each unit that is reached stands with the files of its outcome
 abbrev pub AllStand : BuildContext → List (Option (List Directive)) → World → List ℕ → Type 0
-AllStand b done w places = (place : ℕ) → Contains places place → StandsGood b done w place
+AllStand b done w indices = (index : ℕ) → Contains indices index → StandsGood b done w index
 
 module _ (b : BuildContext) (done : List (Option (List Directive))) (w : World) (n : ℕ) where
-  good_one : (place : ℕ) → StandsGood b done w place → place < n → is_good_at (slice_get (take n (outcomes_in b)) place) ≡ true
-  good_one place s less = ap is_good_at (before_take n place (outcomes_in b) less ∙ s.good)
+  good_one : (index : ℕ) → StandsGood b done w index → index < n → is_good_at (slice_get (take n (outcomes_in b)) index) ≡ true
+  good_one index s less = ap is_good_at (before_take n index (outcomes_in b) less ∙ s.good)
 
-  pub good_needs : (places : List ℕ) → AllByRecursion (λ v. v < n) places → AllStand b done w places → list_all (λ v. is_good_at (slice_get (take n (outcomes_in b)) v)) places ≡ true
+  pub good_needs : (indices : List ℕ) → AllByRecursion (λ v. v < n) indices → AllStand b done w indices → list_all (λ v. is_good_at (slice_get (take n (outcomes_in b)) v)) indices ≡ true
   good_needs [] all stand = refl
-  good_needs (place ∷ places) all stand = rw (good_one place (stand place (contains_head place places)) all.0, good_needs places all.1 (λ v has. stand v (contains_tail place places v has)))
+  good_needs (index ∷ indices) all stand = rw (good_one index (stand index (contains_head index indices)) all.0, good_needs indices all.1 (λ v has. stand v (contains_tail index indices v has)))
 
-  one_over : (place : ℕ) (rest : List (List ℕ)) (m : Map) → StandsGood b done w place → place < n
-      → folders_over (folder_in (unit_at b.project place) ++ rest) w.files m ≡ over (files_at (slice_get (take n (outcomes_in b)) place)) (folders_over rest w.files m)
-  one_over place rest m s less =
+  one_over : (index : ℕ) (rest : List (List ℕ)) (m : Map) → StandsGood b done w index → index < n
+      → folders_over (folder_in (unit_at b.project index) ++ rest) w.files m ≡ over (files_at (slice_get (take n (outcomes_in b)) index)) (folders_over rest w.files m)
+  one_over index rest m s less =
       ap (λ (x : Option Planned). folders_over (folder_in x ++ rest) w.files m) s.there
       ∙ ap (λ (f : Map). over f (folders_over rest w.files m)) s.holds
-      ∙ sym (ap (λ (o : Option Outcome). over (files_at o) (folders_over rest w.files m)) (before_take n place (outcomes_in b) less ∙ s.good))
+      ∙ sym (ap (λ (o : Option Outcome). over (files_at o) (folders_over rest w.files m)) (before_take n index (outcomes_in b) less ∙ s.good))
 
-  all_over : (places : List ℕ) (m : Map) → AllByRecursion (λ v. v < n) places → AllStand b done w places
-      → folders_over (flat_map (λ place. folder_in (unit_at b.project place)) places) w.files m ≡ with_made (take n (outcomes_in b)) places m
+  all_over : (indices : List ℕ) (m : Map) → AllByRecursion (λ v. v < n) indices → AllStand b done w indices
+      → folders_over (flat_map (λ index. folder_in (unit_at b.project index)) indices) w.files m ≡ with_made (take n (outcomes_in b)) indices m
   all_over [] m all stand = refl
-  all_over (place ∷ places) m all stand =
-      one_over place (flat_map (λ v. folder_in (unit_at b.project v)) places) m (stand place (contains_head place places)) all.0
-      ∙ ap (over (files_at (slice_get (take n (outcomes_in b)) place))) (all_over places m all.1 (λ v has. stand v (contains_tail place places v has)))
+  all_over (index ∷ indices) m all stand =
+      one_over index (flat_map (λ v. folder_in (unit_at b.project v)) indices) m (stand index (contains_head index indices)) all.0
+      ∙ ap (over (files_at (slice_get (take n (outcomes_in b)) index))) (all_over indices m all.1 (λ v has. stand v (contains_tail index indices v has)))
 
-  noted_one : (place : ℕ) → StandsGood b done w place → place < n → slice_get done place ≡ slice_get (directives_of (take n (outcomes_in b))) place
-  noted_one place s less = s.noted ∙ sym (slice_get-map directives_in (take n (outcomes_in b)) place ∙ ap (option_map directives_in) (before_take n place (outcomes_in b) less ∙ s.good))
+  noted_one : (index : ℕ) → StandsGood b done w index → index < n → slice_get done index ≡ slice_get (directives_of (take n (outcomes_in b))) index
+  noted_one index s less = s.noted ∙ sym (slice_get-map directives_in (take n (outcomes_in b)) index ∙ ap (option_map directives_in) (before_take n index (outcomes_in b) less ∙ s.good))
 
 module _ (b : BuildContext) (done : List (Option (List Directive))) (w : World) (i : ℕ) (u : Planned) (order : IsInOrder b.project) (at : unit_at b.project i ≡ Some u) (stand : AllStand b done w u.reaches) where
   pub commanded : command_of b.setup b.project u done ≡ command_in b i u
   commanded = command_same b.setup b.project u done (directives_of (take i (outcomes_in b))) (order.needs_reached i u at)
-      (λ place has. noted_one b done w i place (stand place has) (each_of (λ v. v < i) u.reaches place (order.reaches i u at) has))
+      (λ index has. noted_one b done w i index (stand index has) (each_of (λ v. v < i) u.reaches index (order.reaches i u at) has))
 
   pub is_for_unit : IsFor b.project u (command_in b i u)
   is_for_unit = is_for b.setup b.project u (directives_of (take i (outcomes_in b))) (order.packages i u at)

@@ -24,11 +24,11 @@ use Rattle.pb_run.proofs.Causing.{spawn_told}
 use Rattle.pb_store_soundness.specs.Apart.{is_of}
 use Rattle.pb_store_soundness.specs.Inputs.{Judge}
 use Rattle.pb_store_soundness.specs.Numbers.{IsAhead}
-use Rattle.pb_store_soundness.specs.Records.{RecordParser, is_key, out_of, place_of, record_at}
+use Rattle.pb_store_soundness.specs.Records.{RecordParser, is_key, out_of, record_path, record_at}
 use Rattle.pb_store_soundness.specs.Reuse.{number_if}
 use Rattle.pb_store_soundness.specs.Sound.{Sound}
 use Rattle.pb_store_soundness.proofs.Four.{in_output}
-use Rattle.pb_store_soundness.proofs.Places.{place_outside, record_same, no_key}
+use Rattle.pb_store_soundness.proofs.RecordPaths.{record_outside, record_same, no_key}
 use Rattle.pb_store.specs.Folder.{HasNumbers}
 
 -- What stands still.
@@ -52,7 +52,7 @@ pub still_join : (inside : List ℕ → Bool) (flying next : List ChildInFlight)
 still_join inside flying next before mid after same first second ticket stands stood =
     second ticket (λ v w only. subst (λ fs. StandsStill ticket fs v w) (sym same) (stands v w only)) (first ticket stands stood)
 
--- a unit's folder and its record's place are paths of it
+-- a unit's folder and its record's index are paths of it
 or_first : (a b : Bool) → a || b ≡ false → a ≡ false
 or_first true b h = absurd (false≢true (sym h))
 or_first false b h = refl
@@ -62,10 +62,10 @@ or_second true b h = absurd (false≢true (sym h))
 or_second false b h = h
 
 pub out_within : (folder key : List ℕ) → Within (is_at_or_below (out_of folder key)) (is_of folder key)
-out_within folder key q outside = or_first (is_at_or_below (out_of folder key) q) (is_at_or_below (place_of folder key) q) outside
+out_within folder key q outside = or_first (is_at_or_below (out_of folder key) q) (is_at_or_below (record_path folder key) q) outside
 
-pub place_within : (folder key : List ℕ) → Within (is_at_or_below (place_of folder key)) (is_of folder key)
-place_within folder key q outside = or_second (is_at_or_below (out_of folder key) q) (is_at_or_below (place_of folder key) q) outside
+pub record_within : (folder key : List ℕ) → Within (is_at_or_below (record_path folder key)) (is_of folder key)
+record_within folder key q outside = or_second (is_at_or_below (out_of folder key) q) (is_at_or_below (record_path folder key) q) outside
 
 -- The child flies.
 
@@ -115,13 +115,13 @@ anew_only c out old mid new is first second = changes_join out old mid new first
 
 -- The record dropped before.
 
-pub launched_only : (folder key out : List ℕ) (old mid new : World) → out ≡ out_of folder key → ChangesOnly (is_at_or_below (place_of folder key)) old mid → ChangesOnly (is_at_or_below out) mid new → ChangesOnly (is_of folder key) old new
+pub launched_only : (folder key out : List ℕ) (old mid new : World) → out ≡ out_of folder key → ChangesOnly (is_at_or_below (record_path folder key)) old mid → ChangesOnly (is_at_or_below out) mid new → ChangesOnly (is_of folder key) old new
 launched_only folder key out old mid new lies first second =
-    join (is_of folder key) old mid new (widen (is_at_or_below (place_of folder key)) (is_of folder key) old mid (place_within folder key) first)
+    join (is_of folder key) old mid new (widen (is_at_or_below (record_path folder key)) (is_of folder key) old mid (record_within folder key) first)
     (widen (is_at_or_below (out_of folder key)) (is_of folder key) mid new (out_within folder key) (subst (λ (o : List ℕ). ChangesOnly (is_at_or_below o) mid new) lies second))
 
 pub launched_spawned : (folder key out : List ℕ) (child : Answers) (c : Command) (old mid : World) (ticket : ℕ) (flying : List ChildInFlight) (still : ℕ → Type 0) → out ≡ out_of folder key
-    → ChangesOnly (is_at_or_below (place_of folder key)) old mid → IsSpawned (is_at_or_below out) child c mid ticket flying still → IsSpawned (is_of folder key) child c old ticket flying still
+    → ChangesOnly (is_at_or_below (record_path folder key)) old mid → IsSpawned (is_at_or_below out) child c mid ticket flying still → IsSpawned (is_of folder key) child c old ticket flying still
 launched_spawned folder key out child c old mid ticket flying still lies first spawned_so = record {
   spawned = spawned_so.spawned;
   only = launched_only folder key out old mid spawned_so.spawned lies first spawned_so.only;
@@ -130,16 +130,16 @@ launched_spawned folder key out child c old mid ticket flying still lies first s
   stands = spawned_so.stands;
 }
 
-pub launched_still : (folder key out : List ℕ) (flying next : List ChildInFlight) (before mid after : ℕ → Type 0) → out ≡ out_of folder key → next ≡ flying → KeepsStillOutside (is_at_or_below (place_of folder key)) flying before mid
+pub launched_still : (folder key out : List ℕ) (flying next : List ChildInFlight) (before mid after : ℕ → Type 0) → out ≡ out_of folder key → next ≡ flying → KeepsStillOutside (is_at_or_below (record_path folder key)) flying before mid
     → KeepsStillOutside (is_at_or_below out) next mid after → KeepsStillOutside (is_of folder key) flying before after
 launched_still folder key out flying next before mid after lies same first second =
-    still_join (is_of folder key) flying next before mid after same (still_widen (is_at_or_below (place_of folder key)) (is_of folder key) flying before mid (place_within folder key) first)
+    still_join (is_of folder key) flying next before mid after same (still_widen (is_at_or_below (record_path folder key)) (is_of folder key) flying before mid (record_within folder key) first)
     (still_widen (is_at_or_below (out_of folder key)) (is_of folder key) next mid after (out_within folder key) (subst (λ (o : List ℕ). KeepsStillOutside (is_at_or_below o) next mid after) lies second))
 
 -- what changes in a unit's folder leaves all records as they are
 pub records_stay : (read : RecordParser) (folder key : List ℕ) (old new : Map) → is_key key ≡ true → AgreeBut (is_at_or_below (out_of folder key)) old new → (l : List ℕ) → record_at read folder new l ≡ record_at read folder old l
 records_stay read folder key old new is only l = elim (cases_Bool (is_key l)) [
-  | inl is_l ↦ record_same read folder old new l (only (place_of folder l) (place_outside folder key l is is_l))
+  | inl is_l ↦ record_same read folder old new l (only (record_path folder l) (record_outside folder key l is is_l))
   | inr wrong ↦ no_key read folder new l wrong ∙ sym (no_key read folder old l wrong)
 ]
 

@@ -26,7 +26,7 @@ use Rattle.pb_run.specs.declared.faults.StepFault.{StepFault}
 use Rattle.pb_run.specs.declared.faults.StepFault.TheVariants.{Store, Start}
 use Rattle.pb_run.specs.declared.ran.Validated.{Validated}
 use Rattle.pb_run.specs.declared.ran.Ran.{Ran}
-use Rattle.pb_store_soundness.specs.Records.{place_of, records}
+use Rattle.pb_store_soundness.specs.Records.{record_path, records}
 use Rattle.pb_store.specs.Folder.{lacks_number}
 use Rattle.pb_store.specs.Looking as looking
 use Rattle.pb_store.specs.Looking.{LooksOrSpent, kept_called, migrated_called}
@@ -95,15 +95,15 @@ is_err r e f is so = cc
 abbrev StopsBeforeWrite : List Call → Counts → Counts → Type 0
 StopsBeforeWrite calls old new = (before : List Call) × (path : List ℕ) × (calls ≡ before ++ call.Write path ∷ []) × (new ≡ past_calls before old)
 
-spent_there : (folder key : List ℕ) (lacks : Bool) (old new : Counts) → lacks ≡ true → new ≡ past_calls (call.Read (place_of folder key) ∷ []) old → StopsBeforeWrite (call.Read (place_of folder key) ∷ cond lacks (call.Write (place_of folder key) ∷ []) []) old new
-spent_there folder key lacks old new is made = (call.Read (place_of folder key) ∷ [], place_of folder key, ap (λ b. call.Read (place_of folder key) ∷ cond b (call.Write (place_of folder key) ∷ []) []) is, made)
+spent_there : (folder key : List ℕ) (lacks : Bool) (old new : Counts) → lacks ≡ true → new ≡ past_calls (call.Read (record_path folder key) ∷ []) old → StopsBeforeWrite (call.Read (record_path folder key) ∷ cond lacks (call.Write (record_path folder key) ∷ []) []) old new
+spent_there folder key lacks old new is made = (call.Read (record_path folder key) ∷ [], record_path folder key, ap (λ b. call.Read (record_path folder key) ∷ cond b (call.Write (record_path folder key) ∷ []) []) is, made)
 
-pub migrate_made : {T : Type 0} (r : Result T StoreFault) (x : T) (folder key : List ℕ) (w : World) (old new : Counts) → r ≡ Ok x → LooksOrSpent r (call.Read (place_of folder key) ∷ []) (migrated_called folder key w) old new → new ≡ past_calls (migrated_called folder key w) old
+pub migrate_made : {T : Type 0} (r : Result T StoreFault) (x : T) (folder key : List ℕ) (w : World) (old new : Counts) → r ≡ Ok x → LooksOrSpent r (call.Read (record_path folder key) ∷ []) (migrated_called folder key w) old new → new ≡ past_calls (migrated_called folder key w) old
 migrate_made r x folder key w old new is (inl (spent, made)) = absurd (ok_no_err r x store.NumbersSpent is spent)
 migrate_made r x folder key w old new is (inr made) = subst (λ (o : Result _ StoreFault). looking.Looks o (migrated_called folder key w) old new) is made
 
 pub migrate_stops : {T : Type 0} (r : Result T StoreFault) (e : StoreFault) (folder key : List ℕ) (w : World) (old new : Counts) → r ≡ Err e → (r ≡ Err store.NumbersSpent → lacks_number (records folder w key) ≡ true)
-    → LooksOrSpent r (call.Read (place_of folder key) ∷ []) (migrated_called folder key w) old new → NumberingStopsAt (Store e) (migrated_called folder key w) old new
+    → LooksOrSpent r (call.Read (record_path folder key) ∷ []) (migrated_called folder key w) old new → NumberingStopsAt (Store e) (migrated_called folder key w) old new
 migrate_stops r e folder key w old new is lacks (inl (spent, made)) =
     subst (λ (f : StoreFault). NumberingStopsAt (Store f) (migrated_called folder key w) old new) (sym (is_err r e store.NumbersSpent is spent)) (spent_there folder key (lacks_number (records folder w key)) old new (lacks spent) made)
 migrate_stops r e folder key w old new is lacks (inr stops) =

@@ -17,7 +17,7 @@ use Rattle.pb_run.proofs.Answering.{kept_only}
 use Rattle.pb_run.proofs.RecordedOthers.{flies_without}
 use Rattle.pb_run.proofs.Spawning.{out_within, widen}
 use Rattle.pb_store_soundness.specs.Apart.{is_of}
-use Rattle.pb_store_soundness.specs.Records.{out_of, place_of}
+use Rattle.pb_store_soundness.specs.Records.{out_of, record_path}
 
 -- The child has landed.
 
@@ -48,8 +48,8 @@ module _ (root key out : List ℕ) (lies : out ≡ out_of root key) (l : Spawned
   unkept_only = widen (is_at_or_below (out_of root key)) (is_of root key) w v (out_within root key) (subst (λ (o : List ℕ). ChangesOnly (is_at_or_below o) w v) lies ended_v)
 
   -- the record is kept, or was to be
-  pub record_only : (folder : List ℕ) (v2 : World) → folder ≡ root → ChangesOnly (is_at_or_below (place_of folder key)) v v2 → ChangesOnly (is_of root key) w v2
-  record_only folder v2 is_folder then' = kept_only root key out w v v2 lies ended_v (subst (λ f. ChangesOnly (is_at_or_below (place_of f key)) v v2) is_folder then')
+  pub record_only : (folder : List ℕ) (v2 : World) → folder ≡ root → ChangesOnly (is_at_or_below (record_path folder key)) v v2 → ChangesOnly (is_of root key) w v2
+  record_only folder v2 is_folder then' = kept_only root key out w v v2 lies ended_v (subst (λ f. ChangesOnly (is_at_or_below (record_path f key)) v v2) is_folder then')
 
 -- it is that of a unit which has begun so
 module _ (launched : Option SpawnedChild) (l : SpawnedChild) (is : launched ≡ Some l) (flying : List ChildInFlight) where
@@ -68,9 +68,9 @@ module _ (launched : Option SpawnedChild) (l : SpawnedChild) (is : launched ≡ 
 pub none_changed : (inside : List ℕ → Bool) (old new : World) → new ≡ old → ChangesOnly inside old new
 none_changed inside old new same = subst (ChangesOnly inside old) (sym same) (only_same inside old)
 
-pub record_alone : (folder root key : List ℕ) (w v new : World) → folder ≡ root → v ≡ w → ChangesOnly (is_at_or_below (place_of folder key)) v new → ChangesOnly (is_at_or_below (place_of root key)) w new
+pub record_alone : (folder root key : List ℕ) (w v new : World) → folder ≡ root → v ≡ w → ChangesOnly (is_at_or_below (record_path folder key)) v new → ChangesOnly (is_at_or_below (record_path root key)) w new
 record_alone folder root key w v new is_folder same only =
-    subst (λ (x : World). ChangesOnly (is_at_or_below (place_of root key)) x new) same (subst (λ (f : List ℕ). ChangesOnly (is_at_or_below (place_of f key)) v new) is_folder only)
+    subst (λ (x : World). ChangesOnly (is_at_or_below (record_path root key)) x new) same (subst (λ (f : List ℕ). ChangesOnly (is_at_or_below (record_path f key)) v new) is_folder only)
 
 pub ended_anyway : (ticket : ℕ) (answer : Result Ended StartFault) (well stood less : Type 0) (before after : World) (old new : Counts) → (less → well) → HasEnded ticket answer well stood before after old new → HasEnded ticket answer less stood before after old new
 ended_anyway ticket answer well stood less before after old new weaker ended = record { counted = ended.counted; answered = λ x. ended.answered (weaker x); only = ended.only; lands = ended.lands }

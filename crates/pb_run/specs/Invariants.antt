@@ -26,10 +26,10 @@ records_folder project = profile_folder project.workspace project.profile
 
 -- this unit needs a unit that has the output folder `f`, or that reads the folder `f`
 pub record IsReadByNeed (project : Project) (u : Planned) (f : List ℕ) : Type 0 where
-  pub place : ℕ
-  pub needed : Contains u.needs place
+  pub index : ℕ
+  pub needed : Contains u.needs index
   pub need : Planned
-  pub there : slice_get project.plan.planned place ≡ Some need
+  pub there : slice_get project.plan.planned index ≡ Some need
   pub own_or_read : (f ≡ need.out) ⊎ Contains (reads_of project need) f
 
 -- What a build requires of a project. The workspace is settled, and the plan is a plan of this

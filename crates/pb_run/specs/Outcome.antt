@@ -60,7 +60,7 @@ files_at _ = finite.empty
 -- the files of `m`, overlaid with those of the units at these indices
 abbrev pub with_made : List Outcome → List ℕ → Map → Map
 with_made done [] m = m
-with_made done (index ∷ places) m = over (files_at (slice_get done index)) (with_made done places m)
+with_made done (index ∷ indices) m = over (files_at (slice_get done index)) (with_made done indices m)
 
 -- what a unit sees in a clean build: the sources, with the files of each unit that it reaches
 abbrev pub view_of : List Outcome → World → Planned → World

@@ -43,7 +43,7 @@ use Rattle.pb_run.specs.declared.ran.Ran.{Ran}
 use Rattle.pb_store_soundness.specs.Apart.{is_of}
 use Rattle.pb_store_soundness.specs.Inputs.{Judge, input_in}
 use Rattle.pb_store_soundness.specs.Numbers.{IsAhead, after}
-use Rattle.pb_store_soundness.specs.Records.{reading, records, place_of}
+use Rattle.pb_store_soundness.specs.Records.{reading, records, record_path}
 use Rattle.pb_store_soundness.specs.Sound.{Sound}
 use Rattle.pb_store.specs.Differences.{IsReplayed, FirstDifference}
 use Rattle.pb_store.specs.Folder.{Leaves, kept_of, numbered, migrated, HasNumbers, TakesNumber, TakesNext, lacks_number}
@@ -248,7 +248,7 @@ pub record BeginsUnit (is_modelled : Bool) (child : Answers) (project : Project)
 -- How a unit fails to begin. A call of the comparison failed, or something differs and a call of
 -- the launch failed. The launch removes the record and the files, and spawns the child.
 abbrev pub StopsToBegin : Project → Planned → Command → StepFault → World → Counts → Counts → Type 0
-StopsToBegin project u c fault w old new = StepStopsAt fault (unit_looks project u c w) old new ⊎ (Differs project u c w × LaunchEnds (place_of (records_folder project) u.key) u.out fault (past_look project u c w old) new)
+StopsToBegin project u c fault w old new = StepStopsAt fault (unit_looks project u c w) old new ⊎ (Differs project u c w × LaunchEnds (record_path (records_folder project) u.key) u.out fault (past_look project u c w old) new)
 
 pub record FailsToBegin (is_modelled : Bool) (project : Project) (u : Planned) (c : Command) (old new : At) (e : StepFault) : Type 0 where
   pub stops : IsTrue is_modelled → StopsToBegin project u c e old.world old.counts new.counts
@@ -318,7 +318,7 @@ pub record AnswersUnit (is_modelled : Bool) (project : Project) (u : Planned) (b
 -- changed only the unit's record.
 pub record EndsUnit {T : Type 0} (is_modelled : Bool) (project : Project) (u : Planned) (begun : Begun) (result : Result T StepFault) (before now : Store) (old new : At) : Type 0 where
   pub lands : IsTrue is_modelled → (answer : Result Ended StartFault) × AnswersThen begun.awaited answer (IsOk result) old (λ w counts.
-      ChangesOnly (is_at_or_below (place_of (records_folder project) u.key)) w new.world × CallsBehind begun.awaited (answered_called project u begun.command w begun.awaited) answer result counts new.counts)
+      ChangesOnly (is_at_or_below (record_path (records_folder project) u.key)) w new.world × CallsBehind begun.awaited (answered_called project u begun.command w begun.awaited) answer result counts new.counts)
   -- if the unit has no child and its record has a number, nothing changes and no number is taken
   pub same : IsTrue is_modelled → child_of begun ≡ None → lacks_number (records (records_folder project) old.world u.key) ≡ false → new.world ≡ old.world
   pub untaken : awaits_number begun.awaited ≡ false → now.next ≡ before.next

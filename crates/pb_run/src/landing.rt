@@ -108,11 +108,11 @@ fn push_key(
     alloc: Global,
     keys: &mut Items<Text>,
     project: &Project,
-    place: usize,
+    index: usize,
 ) -> Result<(), AllocError>
-    ensures { OnOk result (keys.new ≡ keys.old ++ key_at project.now place) }
+    ensures { OnOk result (keys.new ≡ keys.old ++ key_at project.now index) }
 {
-    if let Some(need) = unit_at(project, place) {
+    if let Some(need) = unit_at(project, index) {
         keys.push(need.key.copy(alloc)?)?;
     }
     Ok(())
@@ -123,12 +123,12 @@ fn push_keys(
     alloc: Global,
     keys: &mut Items<Text>,
     project: &Project,
-    places: &[usize],
+    indices: &[usize],
 ) -> Result<(), AllocError>
-    ensures { OnOk result (keys.new ≡ keys.old ++ flat_map (key_at project.now) places.now) }
+    ensures { OnOk result (keys.new ≡ keys.old ++ flat_map (key_at project.now) indices.now) }
 {
-    for place in places {
-        push_key(alloc, keys, project, *place)?;
+    for index in indices {
+        push_key(alloc, keys, project, *index)?;
     }
     Ok(())
 }

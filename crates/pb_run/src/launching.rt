@@ -8,7 +8,7 @@ ghost use Rattle.pb_run.specs.Running.{ChangesUnit, KeepsStore, AnewEnds, Calls,
 ghost use Rattle.pb_run.specs.Steps.{StartsRise, BeginFaults, StepTakes};
 ghost use Rattle.pb_run.specs.UnitSteps.{WritesTo};
 ghost use Rattle.pb_store_soundness.specs.Apart.{is_of};
-ghost use Rattle.pb_store_soundness.specs.Records.{out_of, place_of, records};
+ghost use Rattle.pb_store_soundness.specs.Records.{out_of, record_path, records};
 ghost use Rattle.pb_store.specs.Folder.{IsGiven, HasNumbers};
 
 use crate::begun::SpawnedChild;
@@ -128,7 +128,7 @@ pub(crate) fn launch<P: Place>(
         (λ launched. StartsRise launched.ticket) (BeginFaults store.old.next) result
         (P.at place.old) (P.at place.new) }
     ensures calls { Calls (λ launched. Launches P.child command.now launched.ticket)
-        (LaunchEnds (place_of store.old.folder key.now) out.now) result
+        (LaunchEnds (record_path store.old.folder key.now) out.now) result
         (P.at place.old).counts (P.at place.new).counts }
 {
     let _ = key.as_text();

@@ -16,10 +16,10 @@ use Rattle.pb_record.specs.declared.record.Needed.{Needed}
 use Rattle.pb_record.specs.declared.record.Needed.TheVariants.{Copies, Numbers}
 use Rattle.pb_record.specs.declared.record.Record.{Record}
 use Rattle.pb_store_soundness.specs.Numbers.{after, IsBefore, IsAhead}
-use Rattle.pb_store_soundness.specs.Records.{is_key, ends_as_record, place_of, record_at, read_text, if_of_key, number_in, numbered_in}
+use Rattle.pb_store_soundness.specs.Records.{is_key, ends_as_record, record_path, record_at, read_text, if_of_key, number_in, numbered_in}
 use Rattle.pb_store_soundness.proofs.Becoming.{one, none_some}
 use Rattle.pb_store_soundness.proofs.Elements.{any_at}
-use Rattle.pb_store_soundness.proofs.Places.{key_facts, record_plain, ends_so, place_in, its_key, text_at}
+use Rattle.pb_store_soundness.proofs.RecordPaths.{key_facts, record_plain, ends_so, record_below, its_key, text_at}
 use Rattle.pb_store.specs.Folder.{greatest_named, greatest_if, greatest_at, greatest_of, next_in}
 use Rattle.pb_store.proofs.Earned.{contains_none, contains_cases}
 
@@ -68,9 +68,9 @@ before_le n g less = elim (cases_Bool (g == 0xffff_ffff_ffff_ffff)) [
 ]
 
 -- the place of a record ends as the name of one
-pub place_ends : (folder key : List ℕ) → ends_as_record (place_of folder key) ≡ true
-place_ends folder key =
-    let same : place_of folder key ≡ (stem folder ++ 47 ∷ key) ++ codes ".record" = joined (stem folder) in
+pub record_ends : (folder key : List ℕ) → ends_as_record (record_path folder key) ≡ true
+record_ends folder key =
+    let same : record_path folder key ≡ (stem folder ++ 47 ∷ key) ++ codes ".record" = joined (stem folder) in
     ap ends_as_record same ∙ ends_so (stem folder ++ 47 ∷ key)
   where
     joined : (s : List ℕ) → s ++ 47 ∷ (key ++ codes ".record") ≡ (s ++ 47 ∷ key) ++ codes ".record"
@@ -79,8 +79,8 @@ place_ends folder key =
 
 module _ (folder : List ℕ) (w : World) where
   -- a record that counts is a text in its key's place
-  text_there : (m : Map) (key : List ℕ) (r : Record) (o : Option (List ℕ)) → is_key key ≡ true → get m (place_of folder key) ≡ o → if_of_key key (read_text reading o) ≡ Some r
-      → (text : List ℕ) × (get m (place_of folder key) ≡ Some text) × (read_text reading o ≡ Some r)
+  text_there : (m : Map) (key : List ℕ) (r : Record) (o : Option (List ℕ)) → is_key key ≡ true → get m (record_path folder key) ≡ o → if_of_key key (read_text reading o) ≡ Some r
+      → (text : List ℕ) × (get m (record_path folder key) ≡ Some text) × (read_text reading o ≡ Some r)
   text_there m key r None is at there = absurd (none_some r there)
   text_there m key r (Some text) is at there = (text, at, of_some (reading text) there)
     where
@@ -91,37 +91,37 @@ module _ (folder : List ℕ) (w : World) where
         | inr apart ↦ absurd (none_some r (sym (ap (λ b. cond b (Some t) None) apart) ∙ h))
       ]
 
-  name_of_place : (key : List ℕ) → drop (length (stem folder) + 1) (place_of folder key) ≡ key ++ codes ".record"
-  name_of_place key =
+  name_of_record : (key : List ℕ) → drop (length (stem folder) + 1) (record_path folder key) ≡ key ++ codes ".record"
+  name_of_record key =
       let long : length (stem folder ++ 47 ∷ []) ≡ length (stem folder) + 1 = length-append (stem folder) (47 ∷ []) in
-      ap (λ n. drop n (place_of folder key)) (sym long) ∙ ap (drop (length (stem folder ++ 47 ∷ []))) (joined (stem folder) (key ++ codes ".record")) ∙ drop-append_seam (stem folder ++ 47 ∷ []) (key ++ codes ".record")
+      ap (λ n. drop n (record_path folder key)) (sym long) ∙ ap (drop (length (stem folder ++ 47 ∷ []))) (joined (stem folder) (key ++ codes ".record")) ∙ drop-append_seam (stem folder ++ 47 ∷ []) (key ++ codes ".record")
     where
       joined : (s t : List ℕ) → s ++ 47 ∷ t ≡ (s ++ 47 ∷ []) ++ t
       joined [] t = refl
       joined (c ∷ s) t = ap (λ x. c ∷ x) (joined s t)
 
   -- its place is directly in the folder
-  place_directly_in : (key : List ℕ) → is_key key ≡ true → is_directly_in folder (place_of folder key) ≡ true
-  place_directly_in key is =
-      ap (λ b. b && not (list_any (λ c. c == 47) (drop (length (stem folder) + 1) (place_of folder key)))) (place_in folder key is)
-      ∙ ap (λ name. not (list_any (λ c. c == 47) name)) (name_of_place key) ∙ ap not (record_plain key (key_facts key is).plain)
+  record_directly_in : (key : List ℕ) → is_key key ≡ true → is_directly_in folder (record_path folder key) ≡ true
+  record_directly_in key is =
+      ap (λ b. b && not (list_any (λ c. c == 47) (drop (length (stem folder) + 1) (record_path folder key)))) (record_below folder key is)
+      ∙ ap (λ name. not (list_any (λ c. c == 47) name)) (name_of_record key) ∙ ap not (record_plain key (key_facts key is).plain)
 
   -- so it is among the files that are listed
-  pub place_listed : (key text : List ℕ) → is_key key ≡ true → get w.files (place_of folder key) ≡ Some text → Contains (listed_directly folder w) (place_of folder key)
-  place_listed key text is at =
-      let found : get (retain_keys w.files (is_directly_in folder)) (place_of folder key) ≡ Some text =
-      get-kept w.files (is_directly_in folder) (place_of folder key) ∙ ap (λ b. cond b (get w.files (place_of folder key)) None) (place_directly_in key is) ∙ at in
-      let (path, has, same) = any_at (is_same_path (place_of folder key)) (listed_directly folder w) (among_keys (retain_keys w.files (is_directly_in folder)) (place_of folder key) ∙ ap is_some found) in
-      subst (Contains (listed_directly folder w)) (same_path (place_of folder key) path same) has
+  pub record_listed : (key text : List ℕ) → is_key key ≡ true → get w.files (record_path folder key) ≡ Some text → Contains (listed_directly folder w) (record_path folder key)
+  record_listed key text is at =
+      let found : get (retain_keys w.files (is_directly_in folder)) (record_path folder key) ≡ Some text =
+      get-kept w.files (is_directly_in folder) (record_path folder key) ∙ ap (λ b. cond b (get w.files (record_path folder key)) None) (record_directly_in key is) ∙ at in
+      let (path, has, same) = any_at (is_same_path (record_path folder key)) (listed_directly folder w) (among_keys (retain_keys w.files (is_directly_in folder)) (record_path folder key) ∙ ap is_some found) in
+      subst (Contains (listed_directly folder w)) (same_path (record_path folder key) path same) has
 
   named_below : (key : List ℕ) (r : Record) → record_at reading folder w.files key ≡ Some r → greatest_named r.needed ≤ greatest_of w.files (listed_directly folder w)
   named_below key r there =
       let is = its_key reading folder w.files key r there in
-      let (text, at, reads) = text_there w.files key r (get w.files (place_of folder key)) is refl (sym (text_at reading folder w.files key (get w.files (place_of folder key)) is refl) ∙ there) in
-      let here : greatest_at w.files (place_of folder key) ≡ greatest_named r.needed =
-      ap (λ b. cond b (greatest_if (read_text reading (get w.files (place_of folder key)))) 0) (place_ends folder key) ∙ ap greatest_if reads in
+      let (text, at, reads) = text_there w.files key r (get w.files (record_path folder key)) is refl (sym (text_at reading folder w.files key (get w.files (record_path folder key)) is refl) ∙ there) in
+      let here : greatest_at w.files (record_path folder key) ≡ greatest_named r.needed =
+      ap (λ b. cond b (greatest_if (read_text reading (get w.files (record_path folder key)))) 0) (record_ends folder key) ∙ ap greatest_if reads in
       subst (λ n. n ≤ greatest_of w.files (listed_directly folder w)) here
-      (fold_each (greatest_at w.files) 0 (listed_directly folder w) (place_of folder key) (place_listed key text is at))
+      (fold_each (greatest_at w.files) 0 (listed_directly folder w) (record_path folder key) (record_listed key text is at))
 
   pub open_ahead : IsAhead (record_at reading folder w.files) (next_in folder w)
   open_ahead key r there =

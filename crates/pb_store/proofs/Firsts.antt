@@ -84,7 +84,7 @@ module _ {V A B : Type 0} (Holds : V → A → Type 0) (told : A → B) (old mid
     before = take i row;
     here = here;
     after = drop (i + 1) row;
-    place = sym (take-append-drop i row) ∙ ap (λ rest. take i row ++ rest) (drop_more row i here within ∙ ap (λ x. x ∷ drop (i + 1) row) (sym is));
+    split = sym (take-append-drop i row) ∙ ap (λ rest. take i row ++ rest) (drop_more row i here within ∙ ap (λ x. x ∷ drop (i + 1) row) (sym is));
     hold = all;
     fails = λ holds. let passes = test.1 (subst (λ w. Holds w here) (sym same) holds) in cc;
     tells = tells;
@@ -98,7 +98,7 @@ module _ {A : Type 0} (Holds : A → Type 0) (row : List A) (i : ℕ) (first : A
     before = take i row;
     here = get_or row i first;
     after = drop (i + 1) row;
-    place = sym (take-append-drop i row) ∙ ap (λ rest. take i row ++ rest) (drop_more row i (get_or row i first) within ∙ ap (λ x. x ∷ drop (i + 1) row) (get_or_default row i (get_or row i first) first within));
+    split = sym (take-append-drop i row) ∙ ap (λ rest. take i row ++ rest) (drop_more row i (get_or row i first) within ∙ ap (λ x. x ∷ drop (i + 1) row) (get_or_default row i (get_or row i first) first within));
     hold = all;
     fails = λ holds. let passes = test.1 holds in cc;
     tells = refl;

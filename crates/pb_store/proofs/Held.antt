@@ -17,13 +17,13 @@ use Rattle.pb_record.specs.declared.record.Needed.{Needed}
 use Rattle.pb_record.specs.declared.record.Needed.TheVariants.{Numbers}
 use Rattle.pb_record.specs.declared.record.Record.{Record}
 use Rattle.pb_store_soundness.specs.Grounded.{RecordMap}
-use Rattle.pb_store_soundness.specs.Records.{RecordParser, ends_as_record, if_of_key, is_key, number_of, place_of, read_text, record_at}
+use Rattle.pb_store_soundness.specs.Records.{RecordParser, ends_as_record, if_of_key, is_key, number_of, record_path, read_text, record_at}
 use Rattle.pb_store_soundness.specs.Reuse.{number_if}
-use Rattle.pb_store_soundness.proofs.Places.{is_same, no_key, one_key, places_differ, record_same, text_at}
+use Rattle.pb_store_soundness.proofs.RecordPaths.{is_same, no_key, one_key, records_differ, record_same, text_at}
 use Rattle.pb_store.specs.Differences.{AreNeeded, FirstNeed, FirstOrAll, HasNumber, IsFirst}
 use Rattle.pb_store.specs.Folder.{HasNumbers, IsHeld, number_in, numbered, or_zero}
 use Rattle.pb_store.specs.Presence.{noted, noted_at, numbered_by}
-use Rattle.pb_store.proofs.Ahead.{place_ends, place_listed}
+use Rattle.pb_store.proofs.Ahead.{record_ends, record_listed}
 use Rattle.pb_store.proofs.Earned.{contains_cases, contains_none}
 
 -- The numbers that are held stand for the records of needed units.
@@ -40,7 +40,7 @@ module _ (at : RecordMap) (numbers : List (List ℕ × Option ℕ)) (holds : Has
     before = first.before;
     here = first.here;
     after = first.after;
-    place = first.place;
+    split = first.split;
     hold = all_from first.before first.hold;
     fails = λ has. first.fails (holds first.here.0 ∙ has);
     tells = first.tells;
@@ -90,49 +90,49 @@ noted_so numbers later text key n is noted = noted ∙ ap (λ k. with_entry numb
 
 -- Where only the place of a record changes, and what stands there has this number.
 module _ (read : RecordParser) (folder key : List ℕ) (is : is_key key ≡ true) where
-  stays : (old new : Map) (l : List ℕ) → AgreeBut (is_at_or_below (place_of folder key)) old new → key ≢ l → record_at read folder new l ≡ record_at read folder old l
+  stays : (old new : Map) (l : List ℕ) → AgreeBut (is_at_or_below (record_path folder key)) old new → key ≢ l → record_at read folder new l ≡ record_at read folder old l
   stays old new l only apart = elim (cases_Bool (is_key l)) [
-    | inl is_l ↦ record_same read folder old new l (only _ (places_differ folder key l is is_l apart))
+    | inl is_l ↦ record_same read folder old new l (only _ (records_differ folder key l is is_l apart))
     | inr wrong ↦ no_key read folder new l wrong ∙ sym (no_key read folder old l wrong)
   ]
 
-  held_on : (old new : Map) (numbers : List (List ℕ × Option ℕ)) (n : Option ℕ) → AgreeBut (is_at_or_below (place_of folder key)) old new → number_if (record_at read folder new key) ≡ n
+  held_on : (old new : Map) (numbers : List (List ℕ × Option ℕ)) (n : Option ℕ) → AgreeBut (is_at_or_below (record_path folder key)) old new → number_if (record_at read folder new key) ≡ n
       → HasNumbers (record_at read folder old) numbers → HasNumbers (record_at read folder new) (with_entry numbers key n)
   held_on old new numbers n only here holds l = elim (is_same key l) [
     | inl same ↦ subst (λ k. number_in (with_entry numbers key n) k ≡ number_if (record_at read folder new k)) same (ap (option_and_then (λ (number : Option ℕ). number)) (value_there numbers key n) ∙ sym here)
     | inr apart ↦ ap (option_and_then (λ (number : Option ℕ). number)) (value_elsewhere numbers key n l (λ e. apart (sym e))) ∙ holds l ∙ ap number_if (sym (stays old new l only apart))
   ]
 
-  pub held_dropped : (old mid new : World) (numbers later : List (List ℕ × Option ℕ)) → mid ≡ old → ChangesOnly (is_at_or_below (place_of folder key)) mid new → record_at read folder new.files key ≡ None → later ≡ with_entry numbers key None
+  pub held_dropped : (old mid new : World) (numbers later : List (List ℕ × Option ℕ)) → mid ≡ old → ChangesOnly (is_at_or_below (record_path folder key)) mid new → record_at read folder new.files key ≡ None → later ≡ with_entry numbers key None
       → HasNumbers (record_at read folder old.files) numbers → HasNumbers (record_at read folder new.files) later
   held_dropped old mid new numbers later same only gone is_later holds =
       subst (HasNumbers (record_at read folder new.files)) (sym is_later)
       (held_on mid.files new.files numbers None only.files (ap number_if gone) (subst (λ (w : World). HasNumbers (record_at read folder w.files) numbers) (sym same) holds))
 
-  pub held_put : (old mid new : World) (numbers later : List (List ℕ × Option ℕ)) (r : Record) (number : ℕ) → mid ≡ old → ChangesOnly (is_at_or_below (place_of folder key)) mid new → record_at read folder new.files key ≡ Some r → number_of r ≡ Some number
+  pub held_put : (old mid new : World) (numbers later : List (List ℕ × Option ℕ)) (r : Record) (number : ℕ) → mid ≡ old → ChangesOnly (is_at_or_below (record_path folder key)) mid new → record_at read folder new.files key ≡ Some r → number_of r ≡ Some number
       → later ≡ with_entry numbers key (Some number) → HasNumbers (record_at read folder old.files) numbers → HasNumbers (record_at read folder new.files) later
   held_put old mid new numbers later r number same only there has is_later holds =
       subst (HasNumbers (record_at read folder new.files)) (sym is_later)
       (held_on mid.files new.files numbers (Some number) only.files (ap number_if there ∙ has) (subst (λ (w : World). HasNumbers (record_at read folder w.files) numbers) (sym same) holds))
 
 -- The store is opened.
-place_is : (folder k l : List ℕ) → place_of folder k ≡ place_of folder l → k ≡ l
-place_is folder k l same = append_cancel_right k l (codes ".record") (one_key folder (k ++ codes ".record") (l ++ codes ".record") same)
+record_is : (folder k l : List ℕ) → record_path folder k ≡ record_path folder l → k ≡ l
+record_is folder k l same = append_cancel_right k l (codes ".record") (one_key folder (k ++ codes ".record") (l ++ codes ".record") same)
 
 module _ (folder : List ℕ) (m : Map) where
   abbrev number_there : List ℕ → Option ℕ
   number_there key = number_if (record_at reading folder m key)
 
   -- a record that is read elsewhere changes nothing of a key
-  noted_apart : (path key : List ℕ) (o : Option Record) (numbers : List (List ℕ × Option ℕ)) → ((k : List ℕ) → is_key k ≡ true → place_of folder k ≡ path → key ≢ k) → number_in (noted folder path o numbers) key ≡ number_in numbers key
+  noted_apart : (path key : List ℕ) (o : Option Record) (numbers : List (List ℕ × Option ℕ)) → ((k : List ℕ) → is_key k ≡ true → record_path folder k ≡ path → key ≢ k) → number_in (noted folder path o numbers) key ≡ number_in numbers key
   noted_apart path key None numbers apart = refl
-  noted_apart path key (Some r) numbers apart = elim (cases_Bool (is_key r.key && bytes_eq (place_of folder r.key) path)) [
+  noted_apart path key (Some r) numbers apart = elim (cases_Bool (is_key r.key && bytes_eq (record_path folder r.key) path)) [
     | inl here ↦ ap (λ b. number_in (if b then with_entry numbers r.key (number_of r) else numbers) key) here
-        ∙ ap (option_and_then (λ (number : Option ℕ). number)) (value_elsewhere numbers r.key (number_of r) key (apart r.key (and_left _ _ here) ((bytes_eq-Decides (place_of folder r.key) path).0 (and_right _ _ here))))
+        ∙ ap (option_and_then (λ (number : Option ℕ). number)) (value_elsewhere numbers r.key (number_of r) key (apart r.key (and_left _ _ here) ((bytes_eq-Decides (record_path folder r.key) path).0 (and_right _ _ here))))
     | inr other ↦ ap (λ b. number_in (if b then with_entry numbers r.key (number_of r) else numbers) key) other
   ]
 
-  step_apart : (path key : List ℕ) (numbers : List (List ℕ × Option ℕ)) → ((k : List ℕ) → is_key k ≡ true → place_of folder k ≡ path → key ≢ k) → number_in (noted_at folder m numbers path) key ≡ number_in numbers key
+  step_apart : (path key : List ℕ) (numbers : List (List ℕ × Option ℕ)) → ((k : List ℕ) → is_key k ≡ true → record_path folder k ≡ path → key ≢ k) → number_in (noted_at folder m numbers path) key ≡ number_in numbers key
   step_apart path key numbers apart = elim (cases_Bool (ends_as_record path)) [
     | inl named ↦ ap (λ b. number_in (if b then noted folder path (read_text reading (get m path)) numbers else numbers) key) named ∙ noted_apart path key (read_text reading (get m path)) numbers apart
     | inr other ↦ ap (λ b. number_in (if b then noted folder path (read_text reading (get m path)) numbers else numbers) key) other
@@ -140,17 +140,17 @@ module _ (folder : List ℕ) (m : Map) where
 
   -- the one that is read in its place gives the number of the record that counts there
   noted_here : (key : List ℕ) (o : Option Record) (numbers : List (List ℕ × Option ℕ)) → is_key key ≡ true → (number_in numbers key ≡ None) ⊎ (number_in numbers key ≡ number_if (if_of_key key o))
-      → number_in (noted folder (place_of folder key) o numbers) key ≡ number_if (if_of_key key o)
+      → number_in (noted folder (record_path folder key) o numbers) key ≡ number_if (if_of_key key o)
   noted_here key None numbers is (inl none) = none
   noted_here key None numbers is (inr same) = same
-  noted_here key (Some r) numbers is before = elim (cases_Bool (is_key r.key && bytes_eq (place_of folder r.key) (place_of folder key))) [
+  noted_here key (Some r) numbers is before = elim (cases_Bool (is_key r.key && bytes_eq (record_path folder r.key) (record_path folder key))) [
     | inl here ↦
-        let own : r.key ≡ key = place_is folder r.key key ((bytes_eq-Decides (place_of folder r.key) (place_of folder key)).0 (and_right _ _ here)) in
+        let own : r.key ≡ key = record_is folder r.key key ((bytes_eq-Decides (record_path folder r.key) (record_path folder key)).0 (and_right _ _ here)) in
         ap (λ b. number_in (if b then with_entry numbers r.key (number_of r) else numbers) key) here
         ∙ subst (λ k. number_in (with_entry numbers r.key (number_of r)) k ≡ number_of r) own (ap (option_and_then (λ (number : Option ℕ). number)) (value_there numbers r.key (number_of r)))
         ∙ sym (ap (λ b. number_if (if b then Some r else None)) ((bytes_eq-Decides r.key key).1 own))
     | inr other ↦
-        let apart : bytes_eq r.key key ≡ false = unlike r.key key (λ own. false≢true (sym other ∙ and_from _ _ (ap is_key own ∙ is) ((bytes_eq-Decides (place_of folder r.key) (place_of folder key)).1 (ap (place_of folder) own)))) in
+        let apart : bytes_eq r.key key ≡ false = unlike r.key key (λ own. false≢true (sym other ∙ and_from _ _ (ap is_key own ∙ is) ((bytes_eq-Decides (record_path folder r.key) (record_path folder key)).1 (ap (record_path folder) own)))) in
         let none : number_if (if_of_key key (Some r)) ≡ None = ap (λ b. number_if (if b then Some r else None)) apart in
         ap (λ b. number_in (if b then with_entry numbers r.key (number_of r) else numbers) key) other
         ∙ elim before [
@@ -160,36 +160,36 @@ module _ (folder : List ℕ) (m : Map) where
   ]
 
   module _ (key : List ℕ) (is : is_key key ≡ true) where
-    there_is : number_there key ≡ number_if (if_of_key key (read_text reading (get m (place_of folder key))))
-    there_is = ap number_if (text_at reading folder m key (get m (place_of folder key)) is refl)
+    there_is : number_there key ≡ number_if (if_of_key key (read_text reading (get m (record_path folder key))))
+    there_is = ap number_if (text_at reading folder m key (get m (record_path folder key)) is refl)
 
-    step_here : (numbers : List (List ℕ × Option ℕ)) → (number_in numbers key ≡ None) ⊎ (number_in numbers key ≡ number_there key) → number_in (noted_at folder m numbers (place_of folder key)) key ≡ number_there key
+    step_here : (numbers : List (List ℕ × Option ℕ)) → (number_in numbers key ≡ None) ⊎ (number_in numbers key ≡ number_there key) → number_in (noted_at folder m numbers (record_path folder key)) key ≡ number_there key
     step_here numbers before =
-        ap (λ b. number_in (if b then noted folder (place_of folder key) (read_text reading (get m (place_of folder key))) numbers else numbers) key) (place_ends folder key)
-        ∙ noted_here key (read_text reading (get m (place_of folder key))) numbers is (elim before [
+        ap (λ b. number_in (if b then noted folder (record_path folder key) (read_text reading (get m (record_path folder key))) numbers else numbers) key) (record_ends folder key)
+        ∙ noted_here key (read_text reading (get m (record_path folder key))) numbers is (elim before [
           | inl none ↦ inl none
           | inr same ↦ inr (same ∙ there_is)
         ])
         ∙ sym there_is
 
-    step_at : (numbers : List (List ℕ × Option ℕ)) (path : List ℕ) → path ≡ place_of folder key → (number_in numbers key ≡ None) ⊎ (number_in numbers key ≡ number_there key) → number_in (noted_at folder m numbers path) key ≡ number_there key
+    step_at : (numbers : List (List ℕ × Option ℕ)) (path : List ℕ) → path ≡ record_path folder key → (number_in numbers key ≡ None) ⊎ (number_in numbers key ≡ number_there key) → number_in (noted_at folder m numbers path) key ≡ number_there key
     step_at numbers path at before = subst (λ p. number_in (noted_at folder m numbers p) key ≡ number_there key) (sym at) (step_here numbers before)
 
-    step_off : (numbers : List (List ℕ × Option ℕ)) (path : List ℕ) → path ≢ place_of folder key → number_in (noted_at folder m numbers path) key ≡ number_in numbers key
-    step_off numbers path off = step_apart path key numbers (λ k is_k at same. off (sym at ∙ ap (place_of folder) (sym same)))
+    step_off : (numbers : List (List ℕ × Option ℕ)) (path : List ℕ) → path ≢ record_path folder key → number_in (noted_at folder m numbers path) key ≡ number_in numbers key
+    step_off numbers path off = step_apart path key numbers (λ k is_k at same. off (sym at ∙ ap (record_path folder) (sym same)))
 
     all_keep : (paths : List (List ℕ)) (numbers : List (List ℕ × Option ℕ)) → number_in numbers key ≡ number_there key → number_in (fold (noted_at folder m) numbers paths) key ≡ number_there key
     all_keep [] numbers same = same
-    all_keep (p ∷ ps) numbers same = elim (is_same p (place_of folder key)) [
+    all_keep (p ∷ ps) numbers same = elim (is_same p (record_path folder key)) [
       | inl at ↦ all_keep ps (noted_at folder m numbers p) (step_at numbers p at (inr same))
       | inr off ↦ all_keep ps (noted_at folder m numbers p) (step_off numbers p off ∙ same)
     ]
 
-    one_finds : (paths : List (List ℕ)) (numbers : List (List ℕ × Option ℕ)) → number_in numbers key ≡ None → Contains paths (place_of folder key) → number_in (fold (noted_at folder m) numbers paths) key ≡ number_there key
-    one_finds [] numbers none has = absurd (contains_none (place_of folder key) has)
-    one_finds (p ∷ ps) numbers none has = elim (is_same p (place_of folder key)) [
+    one_finds : (paths : List (List ℕ)) (numbers : List (List ℕ × Option ℕ)) → number_in numbers key ≡ None → Contains paths (record_path folder key) → number_in (fold (noted_at folder m) numbers paths) key ≡ number_there key
+    one_finds [] numbers none has = absurd (contains_none (record_path folder key) has)
+    one_finds (p ∷ ps) numbers none has = elim (is_same p (record_path folder key)) [
       | inl at ↦ all_keep ps (noted_at folder m numbers p) (step_at numbers p at (inl none))
-      | inr off ↦ elim (contains_cases p ps (place_of folder key) has) [
+      | inr off ↦ elim (contains_cases p ps (record_path folder key) has) [
         | inl at ↦ absurd (off at)
         | inr more ↦ one_finds ps (noted_at folder m numbers p) (step_off numbers p off ∙ none) more
       ]
@@ -200,13 +200,13 @@ module _ (folder : List ℕ) (m : Map) where
   none_wrong key wrong (p ∷ ps) numbers = none_wrong key wrong ps (noted_at folder m numbers p) ∙ step_apart p key numbers (λ k is_k at same. false≢true (sym wrong ∙ ap is_key same ∙ is_k))
 
 module _ (folder : List ℕ) (w : World) where
-  by_text : (key : List ℕ) (o : Option (List ℕ)) → is_key key ≡ true → get w.files (place_of folder key) ≡ o → number_in (fold (noted_at folder w.files) [] (listed_directly folder w)) key ≡ number_if (record_at reading folder w.files key)
+  by_text : (key : List ℕ) (o : Option (List ℕ)) → is_key key ≡ true → get w.files (record_path folder key) ≡ o → number_in (fold (noted_at folder w.files) [] (listed_directly folder w)) key ≡ number_if (record_at reading folder w.files key)
   by_text key None is at = all_keep folder w.files key is (listed_directly folder w) [] (sym (ap number_if (text_at reading folder w.files key None is at)))
-  by_text key (Some text) is at = one_finds folder w.files key is (listed_directly folder w) [] refl (place_listed folder w key text is at)
+  by_text key (Some text) is at = one_finds folder w.files key is (listed_directly folder w) [] refl (record_listed folder w key text is at)
 
   open_held : HasNumbers (record_at reading folder w.files) (fold (noted_at folder w.files) [] (listed_directly folder w))
   open_held key = elim (cases_Bool (is_key key)) [
-    | inl is ↦ by_text key (get w.files (place_of folder key)) is refl
+    | inl is ↦ by_text key (get w.files (record_path folder key)) is refl
     | inr wrong ↦ none_wrong folder w.files key wrong (listed_directly folder w) [] ∙ sym (ap number_if (no_key reading folder w.files key wrong))
   ]
 

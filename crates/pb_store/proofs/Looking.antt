@@ -45,24 +45,24 @@ looks_told result e names old new is stops = subst (λ r. Looks r names old new)
 -- how far a row of calls has come: these are left
 pub record Reached (whole rest : List Call) (old mid : Counts) : Type 0 where
   pub before : List Call
-  pub place : whole ≡ before ++ rest
+  pub split : whole ≡ before ++ rest
   pub made : mid ≡ past_calls before old
 
 pub reached_none : (whole : List Call) (c : Counts) → Reached whole whole c c
-reached_none whole c = record { before = []; place = refl; made = refl }
+reached_none whole c = record { before = []; split = refl; made = refl }
 
 pub reached_on : (whole a rest : List Call) (old mid next : Counts) → Reached whole (a ++ rest) old mid → next ≡ past_calls a mid → Reached whole rest old next
 reached_on whole a rest old mid next reached is = record {
   before = reached.before ++ a;
-  place = reached.place ∙ sym (append_assoc reached.before a rest);
+  split = reached.split ∙ sym (append_assoc reached.before a rest);
   made = made_both reached.before a old mid next reached.made is;
 }
 
 pub reached_made : (whole rest : List Call) (old mid new : Counts) → Reached whole rest old mid → new ≡ past_calls rest mid → new ≡ past_calls whole old
-reached_made whole rest old mid new reached is = made_both reached.before rest old mid new reached.made is ∙ ap (λ names. past_calls names old) (sym reached.place)
+reached_made whole rest old mid new reached is = made_both reached.before rest old mid new reached.made is ∙ ap (λ names. past_calls names old) (sym reached.split)
 
 pub reached_stops : (e : StoreFault) (whole rest : List Call) (old mid new : Counts) → Reached whole rest old mid → StopsAt e rest mid new → StopsAt e whole old new
-reached_stops e whole rest old mid new reached is = subst (λ names. StopsAt e names old new) (sym reached.place) (stops_then e reached.before rest old mid new reached.made is)
+reached_stops e whole rest old mid new reached is = subst (λ names. StopsAt e names old new) (sym reached.split) (stops_then e reached.before rest old mid new reached.made is)
 
 -- a row, item for item
 module _ {A : Type 0} (is_same : World → A → Bool) (look : World → A → List Call) (w now : World) (row : List A) (i : ℕ) where

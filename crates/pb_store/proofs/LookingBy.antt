@@ -63,7 +63,7 @@ row_reached items rest path whole old mid new reached cut made =
 pub row_unread : (e : OpenFault) (items rest : List (List ℕ)) (path : List ℕ) (whole : List Call) (old mid new : Counts) → Reached whole (records_looked items) old mid → items ≡ path ∷ rest
     → OpeningStopsAt e (cond (ends_as_record path) (call.Read path ∷ []) []) mid new → OpeningStopsAt e whole old new
 row_unread e items rest path whole old mid new reached cut stops =
-    subst (λ names. OpeningStopsAt e names old new) (sym reached.place)
+    subst (λ names. OpeningStopsAt e names old new) (sym reached.split)
     (opening_stops_then e reached.before (records_looked items) old mid new reached.made
     (subst (λ names. OpeningStopsAt e names mid new) (sym (first_parts items rest path cut)) (opening_stops_first e (cond (ends_as_record path) (call.Read path ∷ []) []) (records_looked rest) mid new stops)))
 

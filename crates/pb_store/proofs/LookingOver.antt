@@ -14,7 +14,7 @@ use Rattle.pb_record.specs.declared.record.Input.{Input}
 use Rattle.pb_record.specs.declared.record.InputName.{InputName}
 use Rattle.pb_record.specs.declared.record.Record.{Record}
 use Rattle.pb_store_soundness.specs.Inputs.{Agrees, name_of}
-use Rattle.pb_store_soundness.specs.Records.{place_of, records}
+use Rattle.pb_store_soundness.specs.Records.{record_path, records}
 use Rattle.pb_store.specs.Asking.{IsFirstName, SamePart, parts}
 use Rattle.pb_store.specs.Differences.{FirstInput, IsFirst, IsPresent}
 use Rattle.pb_store.specs.declared.difference.CommandPart.{CommandPart}
@@ -83,21 +83,21 @@ module _ (folder : List ℕ) (c : commands.Command) (w : World) (r : Record) whe
 
 -- the place of a record, and the record that counts there
 module _ (folder key : List ℕ) (c : commands.Command) (w : World) (old : Counts) where
-  pub at_unread : (e : StoreFault) (new : Counts) → StopsAt e (call.Read (place_of folder key) ∷ []) old new → StopsAt e (unit_looked folder key c w) old new
+  pub at_unread : (e : StoreFault) (new : Counts) → StopsAt e (call.Read (record_path folder key) ∷ []) old new → StopsAt e (unit_looked folder key c w) old new
   unfolding unit_looked
-  at_unread e new stops = stops_first e (call.Read (place_of folder key) ∷ []) _ old new stops
+  at_unread e new stops = stops_first e (call.Read (record_path folder key) ∷ []) _ old new stops
 
-  pub at_none : (found : Option Record) (new : Counts) → found ≡ records folder w key → found ≡ None → new ≡ past_calls (call.Read (place_of folder key) ∷ []) old → new ≡ past_calls (unit_looked folder key c w) old
+  pub at_none : (found : Option Record) (new : Counts) → found ≡ records folder w key → found ≡ None → new ≡ past_calls (call.Read (record_path folder key) ∷ []) old → new ≡ past_calls (unit_looked folder key c w) old
   unfolding unit_looked
-  at_none found new is none made = made ∙ ap (λ o. past_calls (call.Read (place_of folder key) ∷ option_map_or (from_looked folder c w) o []) old) (sym none ∙ is)
+  at_none found new is none made = made ∙ ap (λ o. past_calls (call.Read (record_path folder key) ∷ option_map_or (from_looked folder c w) o []) old) (sym none ∙ is)
 
-  at_names : (found : Option Record) (r : Record) → found ≡ records folder w key → found ≡ Some r → unit_looked folder key c w ≡ (call.Read (place_of folder key) ∷ []) ++ from_looked folder c w r
+  at_names : (found : Option Record) (r : Record) → found ≡ records folder w key → found ≡ Some r → unit_looked folder key c w ≡ (call.Read (record_path folder key) ∷ []) ++ from_looked folder c w r
   unfolding unit_looked
-  at_names found r is some = ap (λ o. call.Read (place_of folder key) ∷ option_map_or (from_looked folder c w) o []) (sym is ∙ some)
+  at_names found r is some = ap (λ o. call.Read (record_path folder key) ∷ option_map_or (from_looked folder c w) o []) (sym is ∙ some)
 
-  pub at_then : {T : Type 0} (result : Result T StoreFault) (found : Option Record) (r : Record) (now : World) (mid new : Counts) → found ≡ records folder w key → found ≡ Some r → now ≡ w → mid ≡ past_calls (call.Read (place_of folder key) ∷ []) old
+  pub at_then : {T : Type 0} (result : Result T StoreFault) (found : Option Record) (r : Record) (now : World) (mid new : Counts) → found ≡ records folder w key → found ≡ Some r → now ≡ w → mid ≡ past_calls (call.Read (record_path folder key) ∷ []) old
       → Looks result (from_looked folder c now r) mid new → Looks result (unit_looked folder key c w) old new
   at_then result found r now mid new is some same first second =
       subst (λ names. Looks result names old new) (sym (at_names found r is some))
-      (looks_both result (call.Read (place_of folder key) ∷ []) (from_looked folder c w r) old mid new first
+      (looks_both result (call.Read (record_path folder key) ∷ []) (from_looked folder c w r) old mid new first
       (subst (λ (v : World). Looks result (from_looked folder c v r) mid new) same second))

@@ -13,11 +13,11 @@ use Rattle.pb_record.specs.Commands.{command_of}
 use Rattle.pb_record.specs.declared.record.Record.{Record}
 use Rattle.pb_store_soundness.specs.Inputs.{Judge, Agrees, IsHonest, reply_in}
 use Rattle.pb_store_soundness.specs.Numbers.{after, IsBefore, NamesBefore, IsAhead}
-use Rattle.pb_store_soundness.specs.Records.{is_key, out_of, place_of, read_text, reading, records, if_of_key, number_of}
+use Rattle.pb_store_soundness.specs.Records.{is_key, out_of, record_path, read_text, reading, records, if_of_key, number_of}
 use Rattle.pb_store_soundness.specs.Sound.{Sound, Backs}
 use Rattle.pb_store_soundness.proofs.Ahead.{given_ahead}
 use Rattle.pb_store_soundness.proofs.Becoming.{one, none_some}
-use Rattle.pb_store_soundness.proofs.Places.{its_key, text_at}
+use Rattle.pb_store_soundness.proofs.RecordPaths.{its_key, text_at}
 use Rattle.pb_store_soundness.proofs.Renewing.{reuse}
 use Rattle.pb_store.specs.Calls.{looked, MayWrite}
 use Rattle.pb_store.specs.Folder.{MigratesRecord, PutsRecord, IsAfterPut, HasNumbers, HasNeeds, MayPut, numbered, IsMigrated, lacks_number, migrated, migrated_by, numbered_record}
@@ -36,7 +36,7 @@ key_of key r (Some t) there = elim (cases_Bool (bytes_eq t.key key)) [
 
 pub stands_by_key : (folder key : List ℕ) (w : World) (r : Record) → records folder w key ≡ Some r → r.key ≡ key
 stands_by_key folder key w r there =
-    key_of key r (read_text reading (get w.files (place_of folder key))) (sym (text_at reading folder w.files key (get w.files (place_of folder key)) (its_key reading folder w.files key r there) refl) ∙ there)
+    key_of key r (read_text reading (get w.files (record_path folder key))) (sym (text_at reading folder w.files key (get w.files (record_path folder key)) (its_key reading folder w.files key r there) refl) ∙ there)
 
 module _ (judge : Judge) (child : Answers) (folder key : List ℕ) (c : Command) (needs : List (List ℕ)) (number : ℕ) (old : World) (r : Record)
     (path : is_path folder ≡ true) (is : is_key key ≡ true) (may : IsMigrated judge child folder key c needs number old r) where

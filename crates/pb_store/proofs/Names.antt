@@ -48,7 +48,7 @@ next_is (x ∷ xs) (y ∷ ys) name (apart, tells) = split (same x y) x y (first_
 
 pub name_is : (row other : Pairs) (name : List ℕ) → IsFirstName row other name → first_name row other ≡ Some name
 name_is row other name first =
-    ap (λ p. first_name p other) first.place ∙ ap (λ q. first_name (first.before ++ first.after) q) first.other_place ∙ past first.before first.after first.behind ∙ next_is first.after first.behind name first.next
+    ap (λ p. first_name p other) first.split ∙ ap (λ q. first_name (first.before ++ first.after) q) first.other_split ∙ past first.before first.after first.behind ∙ next_is first.after first.behind name first.next
 
 none_same : (row : Pairs) → first_name row row ≡ None
 none_same [] = refl
@@ -72,7 +72,7 @@ abbrev Tells : Option (List ℕ) → Pairs → Pairs → Type 0
 Tells found row other = MatchOption found (row ≡ other) (IsFirstName row other)
 
 found_here : (row other : Pairs) (name : List ℕ) → IsNextName row other name → IsFirstName row other name
-found_here row other name next = record { before = []; after = row; behind = other; place = refl; other_place = refl; next = next }
+found_here row other name next = record { before = []; after = row; behind = other; split = refl; other_split = refl; next = next }
 
 further : (x y : List ℕ × List ℕ) (xs ys : Pairs) (found : Option (List ℕ)) → x ≡ y → Tells found xs ys → Tells found (x ∷ xs) (y ∷ ys)
 further x y xs ys None e told = cc
@@ -80,8 +80,8 @@ further x y xs ys (Some name) e told = record {
   before = x ∷ told.before;
   after = told.after;
   behind = told.behind;
-  place = ap (λ r. x ∷ r) told.place;
-  other_place = ap (λ a. a ∷ ys) (sym e) ∙ ap (λ r. x ∷ r) told.other_place;
+  split = ap (λ r. x ∷ r) told.split;
+  other_split = ap (λ a. a ∷ ys) (sym e) ∙ ap (λ r. x ∷ r) told.other_split;
   next = told.next;
 }
 
@@ -203,6 +203,6 @@ by_prefix (z ∷ before) after behind name sorted also next =
 
 pub first_is_first : FirstNameIsFirst
 first_is_first row other name sorted also first =
-    subst (λ r. IsLeastName r other name) (sym first.place)
-    (subst (λ r. IsLeastName (first.before ++ first.after) r name) (sym first.other_place)
-    (by_prefix first.before first.after first.behind name (subst (λ r. are_sorted r ≡ true) first.place sorted) (subst (λ r. are_sorted r ≡ true) first.other_place also) first.next))
+    subst (λ r. IsLeastName r other name) (sym first.split)
+    (subst (λ r. IsLeastName (first.before ++ first.after) r name) (sym first.other_split)
+    (by_prefix first.before first.after first.behind name (subst (λ r. are_sorted r ≡ true) first.split sorted) (subst (λ r. are_sorted r ≡ true) first.other_split also) first.next))

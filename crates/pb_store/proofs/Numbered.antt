@@ -7,7 +7,7 @@ use Rattle.pb_record.specs.Numbers.{numbered_in, numbers_of}
 use Rattle.pb_record.specs.declared.record.Needed.{Needed}
 use Rattle.pb_record.specs.declared.record.Needed.TheVariants.{Copies, Numbers}
 use Rattle.pb_record.specs.declared.record.Record.{Record}
-use Rattle.pb_store_soundness.specs.Records.{is_key, number_in, place_of}
+use Rattle.pb_store_soundness.specs.Records.{is_key, number_in, record_path}
 use Rattle.pb_store.specs.Folder.{greatest_if, greatest_named}
 use Rattle.pb_store.specs.Presence.{greatest_said, greatest_told, noted, noted_told, own_said}
 
@@ -25,6 +25,6 @@ own_by (Numbers own needs) = refl
 
 pub noted_is : (folder path : List ℕ) (kept : Option Record) (numbers : List (List ℕ × Option ℕ)) → noted_told folder path (option_map numbers_of kept) numbers ≡ noted folder path kept numbers
 noted_is folder path None numbers = refl
-noted_is folder path (Some r) numbers = ap (λ own. cond (is_key r.key && bytes_eq (place_of folder r.key) path) (with_entry numbers r.key own) numbers) (own_by r.needed)
+noted_is folder path (Some r) numbers = ap (λ own. cond (is_key r.key && bytes_eq (record_path folder r.key) path) (with_entry numbers r.key own) numbers) (own_by r.needed)
 
 pub ruleset number_laws = (greatest_is, noted_is)

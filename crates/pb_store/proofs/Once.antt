@@ -37,7 +37,7 @@ module _ {A B : Type 0} (Holds : A → Type 0) (told : A → B) where
   all_here (x ∷ before) here after (holds, all) = all_here before here after all
 
   pub none_fails : (row : List A) (b : B) → AllByRecursion Holds row → IsFirst Holds told row b → ⊥
-  none_fails row b all first = first.fails (all_here first.before first.here first.after (subst (AllByRecursion Holds) first.place all))
+  none_fails row b all first = first.fails (all_here first.before first.here first.after (subst (AllByRecursion Holds) first.split all))
 
   one_here : (before other : List A) (here there : A) (after behind : List A) → before ++ here ∷ after ≡ other ++ there ∷ behind → AllByRecursion Holds before → AllByRecursion Holds other → (Holds here → ⊥) → (Holds there → ⊥) → here ≡ there
   one_here [] [] here there after behind same all more fails wrong = head_of here there after behind same
@@ -48,7 +48,7 @@ module _ {A B : Type 0} (Holds : A → Type 0) (told : A → B) where
 
   one_first : (row : List A) (b d : B) → IsFirst Holds told row b → IsFirst Holds told row d → b ≡ d
   one_first row b d first other =
-      first.tells ∙ ap told (one_here first.before other.before first.here other.here first.after other.after (sym first.place ∙ other.place) first.hold other.hold first.fails other.fails) ∙ sym other.tells
+      first.tells ∙ ap told (one_here first.before other.before first.here other.here first.after other.after (sym first.split ∙ other.split) first.hold other.hold first.fails other.fails) ∙ sym other.tells
 
 -- the command that was asked asks the same
 

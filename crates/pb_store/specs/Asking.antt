@@ -44,8 +44,8 @@ pub record IsFirstName (row other : List (List ℕ × List ℕ)) (name : List �
   pub before : List (List ℕ × List ℕ)
   pub after : List (List ℕ × List ℕ)
   pub behind : List (List ℕ × List ℕ)
-  pub place : row ≡ before ++ after
-  pub other_place : other ≡ before ++ behind
+  pub split : row ≡ before ++ after
+  pub other_split : other ≡ before ++ behind
   pub next : IsNextName after behind name
 
 -- the two rows have different variables at this name, and agree at each lesser name

@@ -30,7 +30,7 @@ pub record IsFirst {A B : Type 0} (Holds : A → Type 0) (told : A → B) (row :
   pub before : List A
   pub here : A
   pub after : List A
-  pub place : row ≡ before ++ here ∷ after
+  pub split : row ≡ before ++ here ∷ after
   pub hold : AllByRecursion Holds before
   pub fails : Holds here → ⊥
   pub tells : b ≡ told here

@@ -22,7 +22,7 @@ use Rattle.pb_record.specs.declared.record.Needed.{Needed}
 use Rattle.pb_record.specs.declared.record.Needed.TheVariants.{Copies, Numbers}
 use Rattle.pb_record.specs.declared.record.Record.{Record}
 use Rattle.pb_store_soundness.specs.Inputs.{contents, input_in, name_of}
-use Rattle.pb_store_soundness.specs.Records.{ends_as_record, out_of, place_of, records}
+use Rattle.pb_store_soundness.specs.Records.{ends_as_record, out_of, record_path, records}
 use Rattle.pb_store.specs.Differences.{HasFiles, IsPresent, same_files}
 use Rattle.pb_store.specs.Folder.{lacks_number}
 use Rattle.pb_store.specs.declared.fault.OpenFault.{OpenFault}
@@ -141,7 +141,7 @@ from_looked folder c w r = if is_asked r.asked c then around_looked folder c.tar
 -- the calls for a unit: its record is read, and if the record counts, the calls for the record
 -- follow
 unfoldable pub unit_looked : List ℕ → List ℕ → commands.Command → World → List Call
-unit_looked folder key c w = call.Read (place_of folder key) ∷ option_map_or (from_looked folder c w) (records folder w key) []
+unit_looked folder key c w = call.Read (record_path folder key) ∷ option_map_or (from_looked folder c w) (records folder w key) []
 
 -- the calls that read files of this list, in its order; only files with the name of a record are
 -- read
@@ -159,12 +159,12 @@ names_looked target w names = looked_up_to (λ name. true) (name_looked target w
 
 -- the calls that keep a record: the calls for its inputs, and then the call that writes the record
 abbrev pub kept_called : List ℕ → List ℕ → List ℕ → World → List InputName → List Call
-kept_called folder key target w names = names_looked target w names ++ (call.Write (place_of folder key) ∷ [])
+kept_called folder key target w names = names_looked target w names ++ (call.Write (record_path folder key) ∷ [])
 
 -- The calls that migrate a record. The record's file is read. If the record counts and has no
 -- number, its file is written again.
 abbrev pub migrated_called : List ℕ → List ℕ → World → List Call
-migrated_called folder key w = call.Read (place_of folder key) ∷ (if lacks_number (records folder w key) then call.Write (place_of folder key) ∷ [] else [])
+migrated_called folder key w = call.Read (record_path folder key) ∷ (if lacks_number (records folder w key) then call.Write (record_path folder key) ∷ [] else [])
 
 -- Either the calls of the first list were made, and then no run number was left. Or the calls of
 -- the second list were made, as `Looks` states.

@@ -11,7 +11,7 @@ use Rattle.pb_place_types.specs.Paths.{inside}
 use Rattle.pb_place_types.specs.World.{Map}
 use Rattle.pb_record.specs.declared.numbers.Numbers.{Numbers}
 use Rattle.pb_record.specs.declared.record.Record.{Record}
-use Rattle.pb_store_soundness.specs.Records.{ends_as_record, is_key, number_of, place_of, read_text, reading}
+use Rattle.pb_store_soundness.specs.Records.{ends_as_record, is_key, number_of, record_path, read_text, reading}
 use Rattle.pb_store.specs.Folder.{number_in, or_zero}
 use Rattle.pb_store.specs.Looking.{looked_up_to}
 
@@ -57,13 +57,13 @@ own_said (Some (own, needs)) = Some own
 -- belongs to the record's key, the table now has the record's number.
 abbrev pub noted_told : List ℕ → List ℕ → Option Numbers → List (List ℕ × Option ℕ) → List (List ℕ × Option ℕ)
 noted_told folder path None numbers = numbers
-noted_told folder path (Some said) numbers = if is_key said.key && bytes_eq (place_of folder said.key) path then with_entry numbers said.key (own_said said.numbered) else numbers
+noted_told folder path (Some said) numbers = if is_key said.key && bytes_eq (record_path folder said.key) path then with_entry numbers said.key (own_said said.numbered) else numbers
 
 -- The table after the record at a path was read. If the path belongs to the record's key, the table
 -- now has the record's number.
 abbrev pub noted : List ℕ → List ℕ → Option Record → List (List ℕ × Option ℕ) → List (List ℕ × Option ℕ)
 noted folder path None numbers = numbers
-noted folder path (Some r) numbers = if is_key r.key && bytes_eq (place_of folder r.key) path then with_entry numbers r.key (number_of r) else numbers
+noted folder path (Some r) numbers = if is_key r.key && bytes_eq (record_path folder r.key) path then with_entry numbers r.key (number_of r) else numbers
 
 -- The table after the file at a path was read, if the path ends in `.record`. Any other path leaves
 -- the table unchanged.

@@ -7,7 +7,7 @@ ghost use Rattle.pb_record.specs.declared.record.Record.{Record};
 ghost use Rattle.pb_place_types.specs.Paths.{is_relative};
 ghost use Rattle.pb_store_soundness.specs.Grounded.{RecordMap};
 ghost use Rattle.pb_store_soundness.specs.Inputs.{name_of};
-ghost use Rattle.pb_store_soundness.specs.Records.{out_of, place_of, records};
+ghost use Rattle.pb_store_soundness.specs.Records.{out_of, record_path, records};
 ghost use Rattle.pb_store.specs.Calls.{OnlyLooks, MayLook, MayRead};
 ghost use Rattle.pb_store.specs.Folder.{Compares, HasNumbers};
 ghost use Rattle.pb_store.specs.Differences.{FirstOrAll, FirstInput, IsPresent, HasFiles, AreNeeded, FirstDifference, FirstNeed, FirstFrom, NothingDiffers, IsAnswered};
@@ -319,7 +319,7 @@ impl Store {
         ensures quiet { IsTrue P.is_modelled →
             OnlyLooks MayRead result (P.at place.old) (P.at place.new) }
         ensures looks { IsTrue P.is_modelled →
-            Looks result (call.Read (place_of self.now.folder key.now) ∷ [])
+            Looks result (call.Read (record_path self.now.folder key.now) ∷ [])
             (P.at place.old).counts (P.at place.new).counts }
     {
         match record_at(alloc, place, &self.folder, key) {

@@ -5,14 +5,14 @@ ghost use Rattle.pb_place_types.specs.declared.call.Call.TheVariants as call;
 ghost use Rattle.pb_place_types.specs.Paths.{is_at_or_below};
 ghost use Rattle.pb_place_types.specs.World.{PartlyRemoved, removed};
 ghost use Rattle.pb_store_soundness.specs.Numbers.{after};
-ghost use Rattle.pb_store_soundness.specs.Records.{place_of, records};
+ghost use Rattle.pb_store_soundness.specs.Records.{record_path, records};
 ghost use Rattle.pb_store.specs.Calls.{CallsOnce, ChangesOnlyAt, MayRemove, MayDrop};
 ghost use Rattle.pb_store.specs.Folder.{DropsRecord, IsGiven, RemovesRecord, HasNumbers};
 
 use crate::fault::{StoreFault, store_error};
 use crate::keys::Key;
 use crate::numbers::note;
-use crate::store::{Store, place_path};
+use crate::store::{Store, record_path};
 use pb_place_types::{PathText, Place};
 use std::alloc::Global;
 
@@ -54,14 +54,14 @@ fn remove_record<P: Place>(
     ensures record { IsTrue P.is_modelled →
         RemovesRecord P.child folder.now key.now result (P.at place.old).world
         (P.at place.new).world }
-    ensures only { ChangesOnlyAt (is_at_or_below (place_of folder.now key.now)) MayRemove result
+    ensures only { ChangesOnlyAt (is_at_or_below (record_path folder.now key.now)) MayRemove result
         (P.at place.old) (P.at place.new) }
-    ensures calls { CallsOnce (call.Remove (place_of folder.now key.now)) result
+    ensures calls { CallsOnce (call.Remove (record_path folder.now key.now)) result
         (P.at place.old).counts (P.at place.new).counts }
 {
     let _ = folder.as_str();
     let _ = key.as_text();
-    let path = match place_path(alloc, folder, key) {
+    let path = match record_path(alloc, folder, key) {
         Ok(path) => path,
         Err(_) => return Err(StoreFault::OutOfMemory),
     };
@@ -102,9 +102,9 @@ impl Store {
             (P.at place.new).world }
 
         // Only the record's file changes, by one call. If no number is left, nothing changes.
-        ensures only { ChangesOnlyAt (is_at_or_below (place_of self.old.folder key.now))
+        ensures only { ChangesOnlyAt (is_at_or_below (record_path self.old.folder key.now))
             (MayDrop self.old.next) result (P.at place.old) (P.at place.new) }
-        ensures calls { CallsOnce (call.Remove (place_of self.old.folder key.now)) result
+        ensures calls { CallsOnce (call.Remove (record_path self.old.folder key.now)) result
             (P.at place.old).counts (P.at place.new).counts }
     {
         // The number comes first: if no number is left, nothing is removed.

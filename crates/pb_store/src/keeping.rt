@@ -8,7 +8,7 @@ ghost use Rattle.pb_place_types.specs.Paths.{is_at_or_below};
 ghost use Rattle.pb_place_types.specs.World.{Torn, written};
 ghost use Rattle.pb_store_soundness.specs.Grounded.{RecordMap};
 ghost use Rattle.pb_store_soundness.specs.Inputs.{input_in};
-ghost use Rattle.pb_store_soundness.specs.Records.{number_of, out_of, place_of, records};
+ghost use Rattle.pb_store_soundness.specs.Records.{number_of, out_of, record_path, records};
 ghost use Rattle.pb_store.specs.Calls.{CallsOnce, FailsToWrite, OnlyLooks, ChangesOnlyAt, MayLook, MayWrite, MayKeep};
 ghost use Rattle.pb_store.specs.Folder.{KeepsRecord, PutsRecord, HasNumbers, kept_of, numbered};
 ghost use Rattle.pb_store.specs.Looking.{Looks, kept_called, names_looked};
@@ -19,7 +19,7 @@ use crate::fault::{StoreFault, store_error};
 use crate::inputs::present;
 use crate::keys::Key;
 use crate::numbers::{note, with_numbers};
-use crate::store::{Store, place_path};
+use crate::store::{Store, record_path};
 use pb_data::{Bytes, Items, Table, Text, TryCopy, with_next};
 use pb_place_types::{Command, Ended, PathText, Place};
 use pb_record::{Input, InputName, Needed, Record, RecordedCommand, write_record_pieces};
@@ -68,14 +68,14 @@ pub(crate) fn put_record<P: Place>(
     ensures record { IsTrue P.is_modelled → kept.key ≡ key.now →
         PutsRecord P.child folder.now key.now kept result (P.at place.old).world
         (P.at place.new).world }
-    ensures only { ChangesOnlyAt (is_at_or_below (place_of folder.now key.now)) MayWrite result
+    ensures only { ChangesOnlyAt (is_at_or_below (record_path folder.now key.now)) MayWrite result
         (P.at place.old) (P.at place.new) }
-    ensures calls { CallsOnce (call.Write (place_of folder.now key.now)) result
+    ensures calls { CallsOnce (call.Write (record_path folder.now key.now)) result
         (P.at place.old).counts (P.at place.new).counts }
 {
     let _ = folder.as_str();
     let _ = key.as_text();
-    let path = match place_path(alloc, folder, key) {
+    let path = match record_path(alloc, folder, key) {
         Ok(path) => path,
         Err(_) => return Err(StoreFault::OutOfMemory),
     };
@@ -248,12 +248,12 @@ fn put_still<P: Place>(
     ensures record { IsTrue P.is_modelled → kept.key ≡ key.now →
         PutsRecord P.child folder.now key.now kept result (P.at place.old).world
         (P.at place.new).world }
-    ensures only { ChangesOnlyAt (is_at_or_below (place_of folder.now key.now)) MayWrite result
+    ensures only { ChangesOnlyAt (is_at_or_below (record_path folder.now key.now)) MayWrite result
         (P.at place.old) (P.at place.new) }
     ensures calls { IsTrue P.is_modelled →
-        CallsOnce (call.Write (place_of folder.now key.now)) result (P.at place.old).counts
+        CallsOnce (call.Write (record_path folder.now key.now)) result (P.at place.old).counts
         (P.at place.new).counts }
-    ensures written { FailsToWrite (place_of folder.now key.now) result
+    ensures written { FailsToWrite (record_path folder.now key.now) result
         (P.at place.new).counts }
 {
     match stood_still(alloc, place, command, names) {
@@ -304,12 +304,12 @@ impl Store {
         ensures next { self.new.next ≡ self.old.next }
 
         // Only the record's file changes, and only by the last call of the place.
-        ensures only { ChangesOnlyAt (is_at_or_below (place_of self.old.folder key.now)) MayKeep
+        ensures only { ChangesOnlyAt (is_at_or_below (record_path self.old.folder key.now)) MayKeep
             result (P.at place.old) (P.at place.new) }
         ensures calls { IsTrue P.is_modelled →
             Looks result (kept_called self.old.folder key.now command.now.target
             (P.at place.old).world names.now) (P.at place.old).counts (P.at place.new).counts }
-        ensures written { FailsToWrite (place_of self.old.folder key.now) result
+        ensures written { FailsToWrite (record_path self.old.folder key.now) result
             (P.at place.new).counts }
     {
         let _ = self.folder.as_str();

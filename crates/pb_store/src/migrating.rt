@@ -3,7 +3,7 @@
 ghost use Rattle.std.specs.Prelude.{◌≡◌, ◌∷◌, [], Some, false, is_some, IsTrue};
 ghost use Rattle.pb_place_types.specs.declared.call.Call.TheVariants as call;
 ghost use Rattle.pb_place_types.specs.Paths.{is_at_or_below};
-ghost use Rattle.pb_store_soundness.specs.Records.{number_of, place_of, records};
+ghost use Rattle.pb_store_soundness.specs.Records.{number_of, record_path, records};
 ghost use Rattle.pb_store.specs.Calls.{FailsToWrite, MayMigrate, ChangesOnlyAt};
 ghost use Rattle.pb_store.specs.Folder.{MigratesRecord, HasNumbers, MigratesNext, numbered_record};
 ghost use Rattle.pb_store.specs.Looking.{LooksOrSpent, migrated_called};
@@ -54,11 +54,11 @@ impl Store {
             (P.at place.old).world (P.at place.new).world }
         ensures next { MigratesNext result self.old.next self.new.next }
         ensures folder { self.new.folder ≡ self.old.folder }
-        ensures only { ChangesOnlyAt (is_at_or_below (place_of self.old.folder key.now))
+        ensures only { ChangesOnlyAt (is_at_or_below (record_path self.old.folder key.now))
             (MayMigrate self.old.next) result (P.at place.old) (P.at place.new) }
-        ensures calls { LooksOrSpent result [] (call.Write (place_of self.old.folder key.now) ∷ [])
+        ensures calls { LooksOrSpent result [] (call.Write (record_path self.old.folder key.now) ∷ [])
             (P.at place.old).counts (P.at place.new).counts }
-        ensures written { FailsToWrite (place_of self.old.folder key.now) result
+        ensures written { FailsToWrite (record_path self.old.folder key.now) result
             (P.at place.new).counts }
     {
         let _ = self.folder.as_str();
@@ -126,13 +126,13 @@ impl Store {
         ensures folder { self.new.folder ≡ self.old.folder }
 
         // Only the record's file changes, and only by the last call of the place.
-        ensures only { ChangesOnlyAt (is_at_or_below (place_of self.old.folder key.now))
+        ensures only { ChangesOnlyAt (is_at_or_below (record_path self.old.folder key.now))
             (MayMigrate self.old.next) result (P.at place.old) (P.at place.new) }
         ensures calls { IsTrue P.is_modelled →
-            LooksOrSpent result (call.Read (place_of self.old.folder key.now) ∷ [])
+            LooksOrSpent result (call.Read (record_path self.old.folder key.now) ∷ [])
             (migrated_called self.old.folder key.now (P.at place.old).world)
             (P.at place.old).counts (P.at place.new).counts }
-        ensures written { FailsToWrite (place_of self.old.folder key.now) result
+        ensures written { FailsToWrite (record_path self.old.folder key.now) result
             (P.at place.new).counts }
     {
         let found = record_at(alloc, place, &self.folder, key)?;

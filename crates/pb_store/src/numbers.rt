@@ -5,13 +5,13 @@ ghost use Rattle.std.specs.Str.{bytes_eq};
 ghost use Rattle.pb_data.specs.Table.{with_entry};
 ghost use Rattle.pb_store.specs.Differences.{FirstOrAll};
 ghost use Rattle.pb_store.specs.Folder.{IsHeld, number_in, or_zero};
-ghost use Rattle.pb_store_soundness.specs.Records.{is_key, place_of};
+ghost use Rattle.pb_store_soundness.specs.Records.{is_key, record_path};
 ghost use Rattle.pb_store.specs.Presence.{noted_told, numbered_by, own_said};
 ghost use Rattle.pb_store.specs.declared.fault.StoreFault.TheVariants as store_fault;
 
 use crate::fault::StoreFault;
 use crate::keys::Key;
-use crate::store::place_path;
+use crate::store::record_path;
 use pb_data::{Items, Table, Text, TryCopy};
 use pb_place_types::PathText;
 use pb_record::Numbers;
@@ -124,21 +124,21 @@ pub(crate) fn note(
 }
 
 /// Returns whether a path is the path of a unit's record.
-fn is_place(
+fn is_record_path(
     alloc: Global,
     folder: &PathText,
     key: &Text,
     path: &PathText,
 ) -> Result<bool, AllocError>
     ensures { IfOk result
-        (λ is. is ≡ is_key key.now && bytes_eq (place_of folder.now key.now) path.now) }
+        (λ is. is ≡ is_key key.now && bytes_eq (record_path folder.now key.now) path.now) }
 {
     let key = match Key::parse(key.copy(alloc)?) {
         Some(key) => key,
         None => return Ok(false),
     };
-    let place = place_path(alloc, folder, &key)?;
-    Ok(place.as_str().as_bytes() == path.as_str().as_bytes())
+    let wanted = record_path(alloc, folder, &key)?;
+    Ok(wanted.as_str().as_bytes() == path.as_str().as_bytes())
 }
 
 /// Returns a record's own run number, or none.
@@ -169,7 +169,7 @@ pub(crate) fn note_read(
         None => return Ok(()),
         Some(said) => said,
     };
-    match is_place(alloc, folder, &said.key, path) {
+    match is_record_path(alloc, folder, &said.key, path) {
         Ok(true) => note(alloc, numbers, &said.key, own_number(said)),
         Ok(false) => Ok(()),
         Err(_) => Err(StoreFault::OutOfMemory),

@@ -3,7 +3,7 @@
 ghost use Rattle.std.specs.Prelude.{◌≡◌, ◌∷◌, IsTrue, IfOk, []};
 ghost use Rattle.std.specs.FinMap as map;
 ghost use Rattle.pb_place_types.specs.declared.call.Call.TheVariants as call;
-ghost use Rattle.pb_store_soundness.specs.Records.{place_of, read_text, if_of_key, reading, records};
+ghost use Rattle.pb_store_soundness.specs.Records.{record_path, read_text, if_of_key, reading, records};
 ghost use Rattle.pb_store.specs.Calls.{OnlyLooks, MayRead};
 ghost use Rattle.pb_store.specs.Looking.{Looks};
 
@@ -30,12 +30,12 @@ pub struct Store {
 
 /// Returns the path of a unit's record.
 #[tactic(auto, using(crate::proofs::Writing::record_relative))]
-pub(crate) fn place_path(
+pub(crate) fn record_path(
     alloc: Global,
     folder: &PathText,
     key: &Key,
 ) -> Result<PathText, AllocError>
-    ensures { IfOk result (λ path. path ≡ place_of folder.now key.now) }
+    ensures { IfOk result (λ path. path ≡ record_path folder.now key.now) }
 {
     let mut name = String::from_str(alloc, key.as_text().as_str())?;
     name.push_str(".record")?;
@@ -72,12 +72,12 @@ fn text_at<P: Place>(
 ) -> Result<Option<Bytes>, StoreFault>
     ensures ok { IsTrue P.is_modelled →
         IfOk result (λ found. found ≡ map.get (P.at place.old).world.files
-        (place_of folder.now key.now)) }
+        (record_path folder.now key.now)) }
     ensures quiet { OnlyLooks MayRead result (P.at place.old) (P.at place.new) }
-    ensures looks { Looks result (call.Read (place_of folder.now key.now) ∷ [])
+    ensures looks { Looks result (call.Read (record_path folder.now key.now) ∷ [])
         (P.at place.old).counts (P.at place.new).counts }
 {
-    let path = match place_path(alloc, folder, key) {
+    let path = match record_path(alloc, folder, key) {
         Ok(path) => path,
         Err(_) => return Err(StoreFault::OutOfMemory),
     };
@@ -126,7 +126,7 @@ pub(crate) fn record_at<P: Place>(
     ensures ok { IsTrue P.is_modelled →
         IfOk result (λ found. found ≡ records folder.now (P.at place.old).world key.now) }
     ensures quiet { OnlyLooks MayRead result (P.at place.old) (P.at place.new) }
-    ensures looks { Looks result (call.Read (place_of folder.now key.now) ∷ [])
+    ensures looks { Looks result (call.Read (record_path folder.now key.now) ∷ [])
         (P.at place.old).counts (P.at place.new).counts }
 {
     let _ = key.as_text();

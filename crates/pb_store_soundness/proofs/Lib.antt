@@ -1,6 +1,6 @@
 pub mod Elements
 pub mod Becoming
-pub mod Places
+pub mod RecordPaths
 pub mod Four
 pub mod Renewing
 pub mod Flying

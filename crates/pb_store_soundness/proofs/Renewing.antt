@@ -12,7 +12,7 @@ use Rattle.pb_record.specs.declared.record.Needed.{Needed}
 use Rattle.pb_record.specs.declared.record.Needed.TheVariants.{Copies, Numbers}
 use Rattle.pb_record.specs.declared.record.Record.{Record}
 use Rattle.pb_store_soundness.specs.Inputs.{Judge, Agrees, SameBelow, IsHonest, input_in, name_of, reply_in}
-use Rattle.pb_store_soundness.specs.Records.{RecordParser, out_of, place_of, record_at, number_in, numbered_in, number_of, needs_of}
+use Rattle.pb_store_soundness.specs.Records.{RecordParser, out_of, record_path, record_at, number_in, numbered_in, number_of, needs_of}
 use Rattle.pb_store_soundness.specs.Grounded.{RecordMap, Grounded, grounded, Reaches, named, onward}
 use Rattle.pb_store_soundness.specs.Sound.{Sound, IsTrueRecord, TrueBy, TrueNumbers, Rests, Backs}
 use Rattle.pb_store_soundness.specs.Laws.{Became}
@@ -20,7 +20,7 @@ use Rattle.pb_store_soundness.specs.Reuse.{number_if, NeededNow, IsSame, AreGrou
 use Rattle.pb_store_soundness.proofs.Elements.{any_at}
 use Rattle.pb_store_soundness.proofs.Becoming.{one, none_some, Stays, grounded_number, need_grounded, reached_grounded, reached, reaches, was_grounded}
 use Rattle.pb_store_soundness.proofs.Four.{other_stays, put_became, put}
-use Rattle.pb_store_soundness.proofs.Places.{its_key, out_place_apart, folder_still}
+use Rattle.pb_store_soundness.proofs.RecordPaths.{its_key, out_record_apart, folder_still}
 
 -- what is true of a record of format 2
 numbers_by : (judge : Judge) (child : Answers) (folder : List ℕ) (at : RecordMap) (files : Map) (key : List ℕ) (r : Record) (number : ℕ) (needed : Needed) → number_in needed ≡ Some number
@@ -158,15 +158,15 @@ module _ (read : RecordParser) (judge : Judge) (child : Answers) (folder key : L
       let (v, far, same) = reads_reached is f ((names.reads f).0 has) in
       let (n, is_v) = reached_grounded Now key v number is far in
       let (s, here) = standing v n is_v in
-      let apart = out_place_apart folder v key put_there.path (its_key read folder new v s here) put_there.key_is in
-      put_there.only q (share_no_path (out_of folder v) (place_of folder key) q apart.first apart.second apart.not_below_first apart.not_below_second
+      let apart = out_record_apart folder v key put_there.path (its_key read folder new v s here) put_there.key_is in
+      put_there.only q (share_no_path (out_of folder v) (record_path folder key) q apart.first apart.second apart.not_below_first apart.not_below_second
       (at_below (out_of folder v) q (subst (λ x. is_below x q ≡ true) same inside)))
     where
       standing : (v : List ℕ) (n : ℕ) → Grounded Now v n → (s : Record) × (Now v ≡ Some s)
       standing v n (grounded k s m here numbered less needs) = (s, here)
 
   made_still : files_in (out_of folder key) new ≡ files_in (out_of folder key) w.files
-  made_still = folder_still (out_of folder key) (place_of folder key) w.files new (out_place_apart folder key key put_there.path put_there.key_is put_there.key_is) put_there.only
+  made_still = folder_still (out_of folder key) (record_path folder key) w.files new (out_record_apart folder key key put_there.path put_there.key_is put_there.key_is) put_there.only
 
   gives_again : Grounded Now key number → (x : World) → Agrees r.asked.target r.inputs x → SameBelow r.asked.reads new x.files → Backs judge r (out_of folder key) (files_in (out_of folder key) new) (reply_in child (command_of r.asked) x)
   gives_again is x agree_x below =

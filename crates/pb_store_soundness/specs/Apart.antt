@@ -4,12 +4,12 @@ use Rattle.pb_place_types.specs.Folders.{files_in}
 use Rattle.pb_place_types.specs.Paths.{is_path, is_at_or_below}
 use Rattle.pb_place_types.specs.World.{World, ChangesOnly, seen_by}
 use Rattle.pb_place_types.specs.declared.command.Command.{Command}
-use Rattle.pb_store_soundness.specs.Records.{RecordParser, is_key, out_of, place_of, record_at}
+use Rattle.pb_store_soundness.specs.Records.{RecordParser, is_key, out_of, record_path, record_at}
 
 -- a path belongs to a unit if it is at or below the unit's output folder, or at or below the path
 -- of its record
 abbrev pub is_of : List ℕ → List ℕ → List ℕ → Bool
-is_of folder key q = is_at_or_below (out_of folder key) q || is_at_or_below (place_of folder key) q
+is_of folder key q = is_at_or_below (out_of folder key) q || is_at_or_below (record_path folder key) q
 
 -- the command reads only output folders of other units
 abbrev pub ReadsOthers : List ℕ → List ℕ → Command → Type 0

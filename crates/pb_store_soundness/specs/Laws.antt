@@ -6,7 +6,7 @@ use Rattle.pb_place_types.specs.Paths.{is_path, is_at_or_below}
 use Rattle.pb_place_types.specs.World.{Map, Answers, AgreeBut}
 use Rattle.pb_record.specs.declared.record.Record.{Record}
 use Rattle.pb_store_soundness.specs.Inputs.{Judge}
-use Rattle.pb_store_soundness.specs.Records.{RecordParser, is_key, out_of, place_of, record_at, number_of, needs_of}
+use Rattle.pb_store_soundness.specs.Records.{RecordParser, is_key, out_of, record_path, record_at, number_of, needs_of}
 use Rattle.pb_store_soundness.specs.Grounded.{RecordMap}
 use Rattle.pb_store_soundness.specs.Sound.{Sound, IsTrueRecord}
 
@@ -43,11 +43,11 @@ InOutputLaw = (read : RecordParser) (judge : Judge) (child : Answers) (folder : 
 -- a record.
 abbrev pub WithoutRecordLaw : Type 0
 WithoutRecordLaw = (read : RecordParser) (judge : Judge) (child : Answers) (folder : List ℕ) (old new : Map) (key : List ℕ) → is_path folder ≡ true → is_key key ≡ true
-    → record_at read folder new key ≡ None → AgreeBut (is_at_or_below (place_of folder key)) old new → Sound read judge child folder old → Sound read judge child folder new
+    → record_at read folder new key ≡ None → AgreeBut (is_at_or_below (record_path folder key)) old new → Sound read judge child folder old → Sound read judge child folder new
 
 -- A folder stays sound if a true record of format 2 is written. No record that counts may contain
 -- the key of this record's unit together with this record's number.
 abbrev pub PutLaw : Type 0
 PutLaw = (read : RecordParser) (judge : Judge) (child : Answers) (folder : List ℕ) (old new : Map) (key : List ℕ) (r : Record) (number : ℕ) → is_path folder ≡ true → is_key key ≡ true
-    → record_at read folder new key ≡ Some r → number_of r ≡ Some number → Unnamed (record_at read folder old) key number → AgreeBut (is_at_or_below (place_of folder key)) old new
+    → record_at read folder new key ≡ Some r → number_of r ≡ Some number → Unnamed (record_at read folder old) key number → AgreeBut (is_at_or_below (record_path folder key)) old new
     → IsTrueRecord judge child folder (record_at read folder new) new key r → Sound read judge child folder old → Sound read judge child folder new

@@ -20,12 +20,12 @@ ends_as_record name = bytes_eq (drop (length name - 7) name) (codes ".record")
 unfoldable pub is_key : List ℕ → Bool
 is_key key = is_name key && (not (list_any (λ b. b == slash) key) && not (ends_as_record key))
 
--- The output folder of the unit with this key. `place_of` is the path of its record.
+-- The output folder of the unit with this key. `record_path` is the path of its record.
 abbrev pub out_of : List ℕ → List ℕ → List ℕ
 out_of folder key = below folder key
 
-abbrev pub place_of : List ℕ → List ℕ → List ℕ
-place_of folder key = below folder (key ++ codes ".record")
+abbrev pub record_path : List ℕ → List ℕ → List ℕ
+record_path folder key = below folder (key ++ codes ".record")
 
 -- A function that reads texts as records. For a text that is not the text of a record, it returns
 -- `None`.
@@ -43,7 +43,7 @@ if_of_key key (Some r) = if bytes_eq r.key key then Some r else None
 
 -- the record that counts for a key, if there is one
 unfoldable pub record_at : RecordParser → List ℕ → Map → List ℕ → Option Record
-record_at read folder files key = if is_key key then if_of_key key (read_text read (finite.get files (place_of folder key))) else None
+record_at read folder files key = if is_key key then if_of_key key (read_text read (finite.get files (record_path folder key))) else None
 
 -- the record that counts for each key, in a folder of a world
 abbrev pub records : List ℕ → World → List ℕ → Option Record

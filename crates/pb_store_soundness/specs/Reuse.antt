@@ -9,7 +9,7 @@ use Rattle.pb_record.specs.declared.record.Needed.{Needed}
 use Rattle.pb_record.specs.declared.record.Needed.TheVariants.{Copies, Numbers}
 use Rattle.pb_record.specs.declared.record.Record.{Record}
 use Rattle.pb_store_soundness.specs.Inputs.{Judge, Agrees, IsHonest, reply_in}
-use Rattle.pb_store_soundness.specs.Records.{RecordParser, is_key, out_of, place_of, record_at, number_of, needs_of}
+use Rattle.pb_store_soundness.specs.Records.{RecordParser, is_key, out_of, record_path, record_at, number_of, needs_of}
 use Rattle.pb_store_soundness.specs.Grounded.{RecordMap, Grounded, Reaches}
 use Rattle.pb_store_soundness.specs.Sound.{Sound, Backs, HoldsCopies}
 use Rattle.pb_store_soundness.specs.Laws.{Unnamed}
@@ -73,7 +73,7 @@ pub record IsPut (read : RecordParser) (folder key : List ℕ) (r : Record) (num
   pub there : record_at read folder new key ≡ Some r
   pub numbered : number_of r ≡ Some number
   pub unnamed : Unnamed (record_at read folder old) key number
-  pub only : AgreeBut (is_at_or_below (place_of folder key)) old new
+  pub only : AgreeBut (is_at_or_below (record_path folder key)) old new
 
 -- A folder stays sound if a new record of format 2 is put into it. The record must contain the
 -- reply of an honest child in the present world, and the present values of the inputs. `NamesNeeds`

@@ -83,7 +83,7 @@ fn paths_of(alloc: Global, first: &str, second: &str) -> Result<(PathText, PathT
 
 /// Returns how a path is related to a folder: `below` it, the folder `itself`, or `outside`.
 /// Returns `wrong` if the path is below the folder but does not start with it.
-fn place_of(path: &PathText, folder: &PathText) -> &'static str {
+fn relation_of(path: &PathText, folder: &PathText) -> &'static str {
     match (path.is_below(folder), path.starts_with(folder)) {
         (true, true) => "below",
         (false, true) => "itself",
@@ -95,7 +95,7 @@ fn place_of(path: &PathText, folder: &PathText) -> &'static str {
 /// Returns whether a path is related to a folder in this way.
 fn lies(alloc: Global, path: &str, folder: &str, wanted: &str) -> Result<bool, PathFault> {
     let paths = paths_of(alloc, path, folder)?;
-    let is_so = place_of(&paths.0, &paths.1) == wanted;
+    let is_so = relation_of(&paths.0, &paths.1) == wanted;
     drop(paths);
     Ok(is_so)
 }

@@ -5,11 +5,11 @@ use pb_tests_files::Shown;
 use pb_unit::{Plan, PlanFault, Planned};
 
 /// Puts places with commas between them.
-fn put_places(out: &mut Shown, places: &[usize]) {
+fn put_indices(out: &mut Shown, indices: &[usize]) {
     let mut before = "";
-    for place in places {
+    for index in indices {
         out.put(&[before]);
-        out.put_number(*place as u64);
+        out.put_number(*index as u64);
         before = ",";
     }
 }
@@ -25,23 +25,23 @@ pub fn put_texts(out: &mut Shown, texts: &[Text]) {
 
 /// Puts a unit with its key and level. If `whole` is true, also puts the indices of the units that
 /// it needs and reaches.
-fn put_unit(out: &mut Shown, plan: &Plan, place: usize, planned: &Planned, whole: bool) {
+fn put_unit(out: &mut Shown, plan: &Plan, index: usize, planned: &Planned, whole: bool) {
     out.put(&[planned.key.as_str(), " "]);
-    out.put_number(plan.level(place) as u64);
+    out.put_number(plan.level(index) as u64);
     if whole {
         out.put(&[" "]);
-        put_places(out, plan.needs(place));
+        put_indices(out, plan.needs(index));
         out.put(&["/"]);
-        put_places(out, plan.reaches(place));
+        put_indices(out, plan.reaches(index));
     }
 }
 
 /// Puts a plan: the units in order, with `; ` between them.
 pub fn put_plan(out: &mut Shown, plan: &Plan, whole: bool) {
     let mut before = "";
-    for (place, planned) in plan.units().iter().enumerate() {
+    for (index, planned) in plan.units().iter().enumerate() {
         out.put(&[before]);
-        put_unit(out, plan, place, planned, whole);
+        put_unit(out, plan, index, planned, whole);
         before = "; ";
     }
 }

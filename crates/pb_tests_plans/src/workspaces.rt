@@ -4,7 +4,7 @@
 
 mod cases;
 mod loaded;
-mod places;
+mod locations;
 mod profiles;
 mod settings;
 mod show;

@@ -129,7 +129,7 @@ a.target.lib 3 [2] [0, 1, 2]
 0 without library
 ";
 
-/// Rules: `load.members`, `settings.places`, `select.order`, `resolve.enabled`, `plan.order`.
+/// Rules: `load.members`, `settings.locations`, `select.order`, `resolve.enabled`, `plan.order`.
 #[test]
 fn a_workspace_has_a_plan(rt: HostRuntime) -> Result<(), Fail> {
     let found = workspace_text(rt.alloc())?;

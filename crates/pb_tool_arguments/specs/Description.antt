@@ -43,8 +43,8 @@ telling colors =
     ∷ record (option (codes "color")) { parser = Some colors } ∷ []
 
 -- the options for the manifest and for the target folder
-abbrev pub places : List Rule
-places = option (codes "manifest-path") ∷ option (codes "target-dir") ∷ []
+abbrev pub paths : List Rule
+paths = option (codes "manifest-path") ∷ option (codes "target-dir") ∷ []
 
 -- the options for the form of messages, for the runner, and for the value of `CARGO` that children
 -- see
@@ -83,7 +83,7 @@ choosing app = with_rules features (with_rules selection app)
 
 -- the subcommand `pb_tool build`
 abbrev pub build : Choices → App
-build choices = with_rules without_effect (with_rules (children choices.formats) (with_rules places (with_rules (telling choices.colors) (with_rules at_one_time (choosing (new_app (codes "build")))))))
+build choices = with_rules without_effect (with_rules (children choices.formats) (with_rules paths (with_rules (telling choices.colors) (with_rules at_one_time (choosing (new_app (codes "build")))))))
 
 -- the options for the form of a plan
 abbrev pub forms : List Rule
@@ -91,7 +91,7 @@ forms = flag (codes "json") ∷ flag (codes "dot") ∷ []
 
 -- the subcommand `pb_tool plan`
 abbrev pub plan : App
-plan = with_rules forms (with_rules places (choosing (new_app (codes "plan"))))
+plan = with_rules forms (with_rules paths (choosing (new_app (codes "plan"))))
 
 -- the options that choose which packages and which profile are removed from a target folder
 abbrev pub removal : List Rule
@@ -101,7 +101,7 @@ removal =
 
 -- the subcommand `pb_tool clean`
 abbrev pub clean : App
-clean = with_rules places (with_rules removal (new_app (codes "clean")))
+clean = with_rules paths (with_rules removal (new_app (codes "clean")))
 
 -- the subcommand `pb_tool session FILE`
 abbrev pub session : App

@@ -12,7 +12,7 @@ key_in None = []
 key_in (Some p) = p.key
 
 abbrev pub key_at : List Planned → ℕ → List ℕ
-key_at units place = key_in (slice_get units place)
+key_at units index = key_in (slice_get units index)
 
 -- Lines.
 

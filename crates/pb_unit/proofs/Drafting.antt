@@ -102,7 +102,7 @@ not_below_itself b less = elim (then_less _ _ less) [
   | inr rest ↦ (let no : Less ≡ Equal = sym rest.1 ∙ tied_itself nat_list_cmp_total b.name in cc)
 ]
 
--- one in order stands at one place
+-- one in order stands at one index
 later : (xs : List Named) (i j : ℕ) (b : Named) → IsStrictlySortedBy named_cmp xs → i < j → slice_get xs i ≡ Some b → slice_get xs j ≡ Some b → ⊥
 later xs i j b rises lt x y =
     let less = Less-from_sorted named_cmp xs i j b rises lt (slice_get_within xs j b y) in
@@ -150,10 +150,10 @@ module _ (ws : Workspace) (features : Features) (selection : Selection) where
   pub named_to : (b : Named) → Contains (all_named ws features selection) b → IsNamed b
   named_to b has =
       let (k, p, at, has') = placed_from (named_at ws features selection) selection.packages b has in
-      let (j, made, place, has'') = placed_from (named_by selection (features_at features p Target) p) (binaries_of (slice_get ws.packages p)) b has' in
+      let (j, made, index, has'') = placed_from (named_by selection (features_at features p Target) p) (binaries_of (slice_get ws.packages p)) b has' in
       let (test, one) = where_true _ (named p made.name ∷ []) b has'' in
       let same : named p made.name ≡ b = single (named p made.name) b one in
-      let (owner, package_at, there) = binary_there p j made place in
+      let (owner, package_at, there) = binary_there p j made index in
       let tests = and_parts _ _ test in
       subst IsNamed same (record {
         owner = owner;
@@ -169,8 +169,8 @@ module _ (ws : Workspace) (features : Features) (selection : Selection) where
   pub named_from : (b : Named) → IsNamed b → Contains (all_named ws features selection) b
   named_from b h =
       let (k, at) = at_from_contains selection.packages b.owner h.selected in
-      let (j, place) = at_from_contains h.owner.binaries h.made h.there in
-      let lookup : slice_get (binaries_of (slice_get ws.packages b.owner)) j ≡ Some h.made = ap (λ o. slice_get (binaries_of o) j) h.package_at ∙ place in
+      let (j, index) = at_from_contains h.owner.binaries h.made h.there in
+      let lookup : slice_get (binaries_of (slice_get ws.packages b.owner)) j ≡ Some h.made = ap (λ o. slice_get (binaries_of o) j) h.package_at ∙ index in
       let same : named b.owner h.made.name ≡ b = named_same b.owner b.owner h.made.name b.name refl h.name in
       let test = both_true (asks_binary selection h.made.name) (list_all (is_mentioned (features_at features b.owner Target)) h.made.required_features) h.asked (all_mentioned (features_at features b.owner Target) h.made.required_features h.on) in
       let one : Contains (named_by selection (features_at features b.owner Target) b.owner j h.made) b = at_true _ (named b.owner h.made.name ∷ []) b test (subst (Contains (named b.owner h.made.name ∷ [])) same (head (named b.owner h.made.name) [])) in
@@ -183,8 +183,8 @@ module _ (ws : Workspace) (features : Features) (selection : Selection) where
   named_at_root _ p n (library q selected asked there) e = absurd (let w : Lib ≡ Bin n = ap (λ (x : Unit). x.what) e in cc)
   named_at_root _ p n (binary q owner made selected package_at there asked on) e =
       let names : made.name ≡ n = bin_name made.name n (ap (λ (x : Unit). x.what) e) in
-      let places : q ≡ p = ap (λ (x : Unit). x.owner) e in
-      subst (λ (o : ℕ). IsNamed (named o n)) places (record { owner = owner; made = made; selected = selected; package_at = package_at; there = there; name = names; asked = asked; on = on })
+      let indices : q ≡ p = ap (λ (x : Unit). x.owner) e in
+      subst (λ (o : ℕ). IsNamed (named o n)) indices (record { owner = owner; made = made; selected = selected; package_at = package_at; there = there; name = names; asked = asked; on = on })
 
   -- the candidates
   module _ (units : List Unit) (settled : IsSettled ws) (all_selected : All (λ p. p < length ws.packages) selection.packages) (are : AreCandidates ws features selection units) where
@@ -197,12 +197,12 @@ module _ (ws : Workspace) (features : Features) (selection : Selection) where
     -- what stands at a number: a unit of a package, or a binary that is a root
     data Stands (i : ℕ) (u : Unit) : Type 0 where
       among : (at : slice_get (fixed ws.packages) i ≡ Some u) → Stands i u
-      behind : (j : ℕ) (b : Named) (place : i ≡ length (fixed ws.packages) + j) (at : slice_get are.named j ≡ Some b) (is : unit_named b ≡ u) → Stands i u
+      behind : (j : ℕ) (b : Named) (index : i ≡ length (fixed ws.packages) + j) (at : slice_get are.named j ≡ Some b) (is : unit_named b ≡ u) → Stands i u
 
     stands : (i : ℕ) (u : Unit) → slice_get units i ≡ Some u → Stands i u
     stands i u at = elim (get_cases (fixed ws.packages) (map unit_named are.named) i u (ap (λ (l : List Unit). slice_get l i) (sym are.is) ∙ at)) [
       | inl here ↦ among here
-      | inr there ↦ (let (b, place, is) = get_map_back unit_named are.named there.0 u there.2 in behind there.0 b there.1 place is)
+      | inr there ↦ (let (b, index, is) = get_map_back unit_named are.named there.0 u there.2 in behind there.0 b there.1 index is)
     ]
 
     back : (i : ℕ) (u : Unit) → slice_get (fixed ws.packages ++ map unit_named are.named) i ≡ Some u → slice_get units i ≡ Some u
@@ -213,23 +213,23 @@ module _ (ws : Workspace) (features : Features) (selection : Selection) where
 
     owner_at : (i : ℕ) (u : Unit) → Stands i u → u.owner < length ws.packages
     owner_at i u (among at) = (fixed_is ws.packages i u at).owner
-    owner_at i u (behind j b place at is) = subst (λ (x : Unit). x.owner < length ws.packages) is (named_owner b (contains_from_at are.named j b at))
+    owner_at i u (behind j b index at is) = subst (λ (x : Unit). x.owner < length ws.packages) is (named_owner b (contains_from_at are.named j b at))
 
-    one_place : (i j : ℕ) (u : Unit) → Stands i u → Stands j u → i ≡ j
-    one_place i j u (among x) (among y) = sym (fixed_is ws.packages i u x).number ∙ (fixed_is ws.packages j u y).number
-    one_place i j u (among x) (behind k b place at is) = absurd (not_fixed b u is (fixed_is ws.packages i u x).kind)
-    one_place i j u (behind k b place at is) (among y) = absurd (not_fixed b u is (fixed_is ws.packages j u y).kind)
-    one_place i j u (behind k b place at is) (behind l c place' at' is') =
+    one_index : (i j : ℕ) (u : Unit) → Stands i u → Stands j u → i ≡ j
+    one_index i j u (among x) (among y) = sym (fixed_is ws.packages i u x).number ∙ (fixed_is ws.packages j u y).number
+    one_index i j u (among x) (behind k b index at is) = absurd (not_fixed b u is (fixed_is ws.packages i u x).kind)
+    one_index i j u (behind k b index at is) (among y) = absurd (not_fixed b u is (fixed_is ws.packages j u y).kind)
+    one_index i j u (behind k b index at is) (behind l c index' at' is') =
         let e : unit_named b ≡ unit_named c = is ∙ sym is' in
         let same : b ≡ c = named_same b.owner c.owner b.name c.name (ap (λ (x : Unit). x.owner) e) (bin_name b.name c.name (ap (λ (x : Unit). x.what) e)) in
-        let places : k ≡ l = once_named are.named k l c are.rises (at ∙ ap (λ (x : Named). Some x) same) at' in
-        omega (arith, place, place', places)
+        let indices : k ≡ l = once_named are.named k l c are.rises (at ∙ ap (λ (x : Named). Some x) same) at' in
+        omega (arith, index, index', indices)
 
     pub numbered : AreNumbered ws units
     numbered = record {
       owners = λ i u at. owner_at i u (stands i u at);
       at_number = λ u there. back (number u) u (get_left (fixed ws.packages) (map unit_named are.named) (number u) u (fixed_at ws.packages u.owner u.side u.what there.kind there.owner));
-      once = λ i j u x y. one_place i j u (stands i u x) (stands j u y);
+      once = λ i j u x y. one_index i j u (stands i u x) (stands j u y);
     }
 
     pub owners_few : (lent : List Unit) → lent ≡ units → All (λ (u : Unit). u.owner < 256) lent
@@ -252,7 +252,7 @@ module _ (ws : Workspace) (features : Features) (selection : Selection) where
 
     well_at : (i : ℕ) (u : Unit) → Stands i u → IsNamedWell u.what
     well_at i u (among at) = fixed_well u.what (fixed_is ws.packages i u at).kind
-    well_at i u (behind j b place at is) = subst (λ (x : Unit). IsNamedWell x.what) is (named_well b (contains_from_at are.named j b at))
+    well_at i u (behind j b index at is) = subst (λ (x : Unit). IsNamedWell x.what) is (named_well b (contains_from_at are.named j b at))
 
     pub well : (i : ℕ) (u : Unit) → slice_get units i ≡ Some u → IsNamedWell u.what
     well i u at = well_at i u (stands i u at)
@@ -286,7 +286,7 @@ module _ (ws : Workspace) (features : Features) (selection : Selection) where
         where
           by : Stands i (unit p s (Bin name)) → IsRoot ws features selection (unit p s (Bin name))
           by (among here) = absurd (false≢true (fixed_is ws.packages i (unit p s (Bin name)) here).kind)
-          by (behind j b place there is) = subst (IsRoot ws features selection) is (named_root b (named_to b ((are.same b).0 (contains_from_at are.named j b there))))
+          by (behind j b index there is) = subst (IsRoot ws features selection) is (named_root b (named_to b ((are.same b).0 (contains_from_at are.named j b there))))
       is_root_to i p s Script at test = absurd (false≢true test)
       is_root_to i p s Run at test = absurd (false≢true test)
 
@@ -299,8 +299,8 @@ module _ (ws : Workspace) (features : Features) (selection : Selection) where
         λ has.
             let (k, u, at, given) = placed_from (root_at ws (asks_libraries selection) h.marks) units i (subst (λ (l : List ℕ). Contains l i) h.is has) in
             let (test, one) = where_true (is_root ws (asks_libraries selection) h.marks u) (k ∷ []) i given in
-            let place : slice_get units i ≡ Some u = ap (slice_get units) (sym (single k i one)) ∙ at in
-            (u, place, is_root_to i u.owner u.side u.what place test),
+            let index : slice_get units i ≡ Some u = ap (slice_get units) (sym (single k i one)) ∙ at in
+            (u, index, is_root_to i u.owner u.side u.what index test),
         λ some.
             let (u, at, is) = some in
             subst (λ (l : List ℕ). Contains l i) (sym h.is) (placed_to (root_at ws (asks_libraries selection) h.marks) units i u i at (at_true (is_root ws (asks_libraries selection) h.marks u) (i ∷ []) i (is_root_from u is) (head i []))),

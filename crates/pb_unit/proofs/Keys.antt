@@ -172,16 +172,16 @@ not_later x [] q all lt e = omega (arith, lt)
 not_later x (p ∷ ps) zero all lt e = false≢true (sym all.0 ∙ (bytes_eq-Decides x p.name).1 e)
 not_later x (p ∷ ps) (suc q) all lt e = not_later x ps q all.1 (omega arith) e
 
-one_place : (ps : List Package) (p q : ℕ) → IsDistinct bytes_eq (map (λ (o : Package). o.name) ps) → p < length ps → q < length ps → name_of (slice_get ps p) ≡ name_of (slice_get ps q) → p ≡ q
+one_index : (ps : List Package) (p q : ℕ) → IsDistinct bytes_eq (map (λ (o : Package). o.name) ps) → p < length ps → q < length ps → name_of (slice_get ps p) ≡ name_of (slice_get ps q) → p ≡ q
 unfolding IsDistinct
-one_place [] p q d lp lq e = absurd (omega arith)
-one_place (x ∷ ps) zero zero d lp lq e = refl
-one_place (x ∷ ps) zero (suc q) d lp lq e = absurd (not_later x.name ps q d.0 (omega arith) e)
-one_place (x ∷ ps) (suc p) zero d lp lq e = absurd (not_later x.name ps p d.0 (omega arith) (sym e))
-one_place (x ∷ ps) (suc p) (suc q) d lp lq e = ap suc (one_place ps p q d.1 (omega arith) (omega arith) e)
+one_index [] p q d lp lq e = absurd (omega arith)
+one_index (x ∷ ps) zero zero d lp lq e = refl
+one_index (x ∷ ps) zero (suc q) d lp lq e = absurd (not_later x.name ps q d.0 (omega arith) e)
+one_index (x ∷ ps) (suc p) zero d lp lq e = absurd (not_later x.name ps p d.0 (omega arith) (sym e))
+one_index (x ∷ ps) (suc p) (suc q) d lp lq e = ap suc (one_index ps p q d.1 (omega arith) (omega arith) e)
 
 pub one_owner : (ws : Workspace) (p q : ℕ) → IsSettled ws → p < length ws.packages → q < length ws.packages → name_at ws p ≡ name_at ws q → p ≡ q
-one_owner ws p q settled lp lq e = one_place ws.packages p q settled.names lp lq e
+one_owner ws p q settled lp lq e = one_index ws.packages p q settled.names lp lq e
 
 unit_same : (u v : Unit) → u.owner ≡ v.owner → u.side ≡ v.side → u.what ≡ v.what → u ≡ v
 unit_same u v o s w = ap (λ p. unit p u.side u.what) o ∙ ap (λ t. unit v.owner t u.what) s ∙ ap (λ x. unit v.owner v.side x) w

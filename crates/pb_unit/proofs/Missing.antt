@@ -45,10 +45,10 @@ both false b p q = absurd (false≢true p)
 pub missing_to : (ws : Workspace) (features : Features) (name : List ℕ) → Contains (all_missing ws features) name → IsMissing ws features name
 missing_to ws features name has =
     let (p, owner, at, has') = placed_from (missing_at ws features) ws.packages name has in
-    let (n, e, place, has'') = placed_from (missing_by ws features p) owner.entries name has' in
+    let (n, e, index, has'') = placed_from (missing_by ws features p) owner.entries name has' in
     let (test, one) = where_true _ (name_at ws e.to ∷ []) name has'' in
     let (enabled, none) = and_parts _ _ test in
-    let there : HasEntry ws p n e = record { owner = owner; package_at = at; entry_at = place } in
+    let there : HasEntry ws p n e = record { owner = owner; package_at = at; entry_at = index } in
     let is : name ≡ name_at ws e.to = sym (single (name_at ws e.to) name one) in
     elim (one_of _ _ enabled) [
       | inl target ↦ (p, Target, n, e, target, there, off _ none, is)

@@ -33,7 +33,7 @@ use Rattle.pb_unit.specs.declared.fault.PlanFault.{PlanFault}
 use Rattle.pb_unit.specs.declared.fault.PlanFault.TheVariants.{OutOfMemory}
 use Rattle.pb_unit.specs.Units.{name_at, key_of, needs, Reaches, IsRoot, IsPlanned}
 use Rattle.pb_unit.specs.Drawing.{node_of, IsDrawn, IsPlannedFrom, IsRefusal, owner_of, name_behind}
-use Rattle.pb_unit.specs.Plan.{IsBelow, ComesBefore, above, level_of, level_at, ArePlaces, profile_line, profile_folder, HasSettings, AreWithoutLibrary, IsCycle, IsStraight, IsPlan, IsCrowd, LacksPlan, by_cycle, by_number, LieApart}
+use Rattle.pb_unit.specs.Plan.{IsBelow, ComesBefore, above, level_of, level_at, AreIndices, profile_line, profile_folder, HasSettings, AreWithoutLibrary, IsCycle, IsStraight, IsPlan, IsCrowd, LacksPlan, by_cycle, by_number, LieApart}
 use Rattle.pb_unit.proofs.Keys.{key_named, name_is, one_unit}
 use Rattle.pb_unit.proofs.Graphs.{AreNumbered, is_graph, need_to, need_from, reach_to, reach_at, reached_to, reached_from, roots_within, key_behind}
 use Rattle.pb_unit.proofs.Drafting.{numbered, well, root_there, roots_are}
@@ -217,8 +217,8 @@ module _ (ws : Workspace) (features : Features) (selection : Selection) (settled
         λ is.
             let (i, at, reached) = from_unit u is in
             let (s, in', e) = map_contains (λ (x : Step). x.node) steps i ((h.units i).1 reached) in
-            let (k, place) = at_from_contains steps s in' in
-            let (p, there, m) = zip_left (IsPlannedFrom ws line folder units) steps planned made k s place in
+            let (k, index) = at_from_contains steps s in' in
+            let (p, there, m) = zip_left (IsPlannedFrom ws line folder units) steps planned made k s index in
             let same : p.unit ≡ u = some_eq p.unit u (sym m.unit_at ∙ ap (slice_get units) e ∙ at) in
             subst (Contains (map (λ (x : Planned). x.unit) planned)) same (contains_map (λ (x : Planned). x.unit) planned p (contains_from_at planned k p there)),
       )
@@ -234,39 +234,39 @@ module _ (ws : Workspace) (features : Features) (selection : Selection) (settled
               by_none (Some s) here = let (p, there, m) = zip_left (IsPlannedFrom ws line folder units) steps planned made k s here in absurd (let no : None ≡ Some p = sym at ∙ there in cc)
           by (Some p) at = let m = step_of k p at in ap order.level_of m.at ∙ sym m.is.level ∙ sym (ap level_of at)
 
-      -- places of steps are places of units
-      places_are : (Wanted : ℕ → Type 0) (Asked : Unit → Type 0) (places given : List ℕ) → order.ArePlaces steps Wanted places → given ≡ places
+      -- indices of steps are indices of units
+      indices_are : (Wanted : ℕ → Type 0) (Asked : Unit → Type 0) (indices given : List ℕ) → order.AreIndices steps Wanted indices → given ≡ indices
           → ((j : ℕ) (v : Unit) → slice_get units j ≡ Some v → Wanted j → Asked v) → ((j : ℕ) (v : Unit) → slice_get units j ≡ Some v → Asked v → Wanted j)
-          → ArePlaces planned Asked given
-      places_are Wanted Asked places given are same to from = record {
+          → AreIndices planned Asked given
+      indices_are Wanted Asked indices given are same to from = record {
         rises = subst IsStrictlyIncreasing (sym same) are.rises;
-        same = λ place. (
+        same = λ index. (
           λ has.
-              let (s, at, wanted) = (are.same place).0 (subst (λ (l : List ℕ). Contains l place) same has) in
-              let (p, there, m) = zip_left (IsPlannedFrom ws line folder units) steps planned made place s at in
+              let (s, at, wanted) = (are.same index).0 (subst (λ (l : List ℕ). Contains l index) same has) in
+              let (p, there, m) = zip_left (IsPlannedFrom ws line folder units) steps planned made index s at in
               (p, there, to s.node p.unit m.unit_at wanted),
           λ some.
               let (p, at, asked) = some in
-              let m = step_of place p at in
-              subst (λ (l : List ℕ). Contains l place) (sym same) ((are.same place).1 (m.step, m.at, from m.step.node p.unit m.is.unit_at asked)),
+              let m = step_of index p at in
+              subst (λ (l : List ℕ). Contains l index) (sym same) ((are.same index).1 (m.step, m.at, from m.step.node p.unit m.is.unit_at asked)),
         );
       }
 
-      needs_are : (k : ℕ) (p : Planned) → slice_get planned k ≡ Some p → ArePlaces planned (Contains (needs ws features p.unit)) p.needs
+      needs_are : (k : ℕ) (p : Planned) → slice_get planned k ≡ Some p → AreIndices planned (Contains (needs ws features p.unit)) p.needs
       needs_are k p at =
           let m = step_of k p at in
           let i = m.step.node in
-          places_are (Contains (graph.needs_at nodes i)) (Contains (needs ws features p.unit)) m.step.needs p.needs (all_at (λ (s : Step). order.ArePlaces steps (Contains (graph.needs_at nodes s.node)) s.needs) steps h.needs k m.step m.at) m.is.needs
+          indices_are (Contains (graph.needs_at nodes i)) (Contains (needs ws features p.unit)) m.step.needs p.needs (all_at (λ (s : Step). order.AreIndices steps (Contains (graph.needs_at nodes s.node)) s.needs) steps h.needs k m.step m.at) m.is.needs
           (λ j v there has.
           let (w, found, need) = need_to ws features units settled numbers i j p.unit m.is.unit_at (subst (λ (l : List Node). Contains (graph.needs_at l i) j) drawn.nodes_are has) in
           subst (Contains (needs ws features p.unit)) (some_eq w v (sym found ∙ there)) need)
           (λ j v there need. subst (λ (l : List Node). Contains (graph.needs_at l i) j) (sym drawn.nodes_are) (need_from ws features units settled numbers i j p.unit v m.is.unit_at there need))
 
-      reaches_are : (k : ℕ) (p : Planned) → slice_get planned k ≡ Some p → ArePlaces planned (Reaches ws features p.unit) p.reaches
+      reaches_are : (k : ℕ) (p : Planned) → slice_get planned k ≡ Some p → AreIndices planned (Reaches ws features p.unit) p.reaches
       reaches_are k p at =
           let m = step_of k p at in
           let i = m.step.node in
-          places_are (graph.Reaches nodes i) (Reaches ws features p.unit) m.step.reaches p.reaches (all_at (λ (s : Step). order.ArePlaces steps (graph.Reaches nodes s.node) s.reaches) steps h.reaches k m.step m.at) m.is.reaches
+          indices_are (graph.Reaches nodes i) (Reaches ws features p.unit) m.step.reaches p.reaches (all_at (λ (s : Step). order.AreIndices steps (graph.Reaches nodes s.node) s.reaches) steps h.reaches k m.step m.at) m.is.reaches
           (λ j v there way.
           let (w, found, more) = reach_to ws features units settled numbers i j p.unit m.is.unit_at (subst (λ (l : List Node). graph.Reaches l i j) drawn.nodes_are way) in
           subst (Reaches ws features p.unit) (some_eq w v (sym found ∙ there)) more)
@@ -313,8 +313,8 @@ module _ (ws : Workspace) (features : Features) (selection : Selection) (settled
             settings = all_from_at (HasSettings ws line) planned (λ k p at. let m = step_of k p at in record { owner = m.is.owner; package_at = m.is.package_at; settings = m.is.settings });
             levels = all_from_at (λ (p : Planned). p.level ≡ above (map (level_at planned) p.needs)) planned levels_are;
             order = order_is;
-            needs = all_from_at (λ (p : Planned). ArePlaces planned (Contains (needs ws features p.unit)) p.needs) planned needs_are;
-            reaches = all_from_at (λ (p : Planned). ArePlaces planned (Reaches ws features p.unit) p.reaches) planned reaches_are;
+            needs = all_from_at (λ (p : Planned). AreIndices planned (Contains (needs ws features p.unit)) p.needs) planned needs_are;
+            reaches = all_from_at (λ (p : Planned). AreIndices planned (Reaches ws features p.unit) p.reaches) planned reaches_are;
             straight = straight_is h.no_circle;
             some = omega (arith, long, some);
             few = omega (arith, long, few);
@@ -337,15 +337,15 @@ module _ (ws : Workspace) (features : Features) (selection : Selection) (settled
             where
               to : (n : ℕ) → Contains (map (level_at planned) p.needs) n → Contains (map (level_at planned) q.needs) n
               to n has =
-                  let (place, in', f) = map_contains (level_at planned) p.needs n has in
-                  let (r, at, need) = ((needs_are k p x).same place).0 in' in
-                  subst (Contains (map (level_at planned) q.needs)) f (contains_map (level_at planned) q.needs place (((needs_are l q y).same place).1 (r, at, subst (λ (u : Unit). Contains (needs ws features u) r.unit) e need)))
+                  let (index, in', f) = map_contains (level_at planned) p.needs n has in
+                  let (r, at, need) = ((needs_are k p x).same index).0 in' in
+                  subst (Contains (map (level_at planned) q.needs)) f (contains_map (level_at planned) q.needs index (((needs_are l q y).same index).1 (r, at, subst (λ (u : Unit). Contains (needs ws features u) r.unit) e need)))
 
               from : (n : ℕ) → Contains (map (level_at planned) q.needs) n → Contains (map (level_at planned) p.needs) n
               from n has =
-                  let (place, in', f) = map_contains (level_at planned) q.needs n has in
-                  let (r, at, need) = ((needs_are l q y).same place).0 in' in
-                  subst (Contains (map (level_at planned) p.needs)) f (contains_map (level_at planned) p.needs place (((needs_are k p x).same place).1 (r, at, subst (λ (u : Unit). Contains (needs ws features u) r.unit) (sym e) need)))
+                  let (index, in', f) = map_contains (level_at planned) q.needs n has in
+                  let (r, at, need) = ((needs_are l q y).same index).0 in' in
+                  subst (Contains (map (level_at planned) p.needs)) f (contains_map (level_at planned) p.needs index (((needs_are k p x).same index).1 (r, at, subst (λ (u : Unit). Contains (needs ws features u) r.unit) (sym e) need)))
 
           level_apart : (a b : Planned) → ComesBefore a b → a.key ≡ b.key → a.level ≡ b.level → ⊥
           level_apart a b before e f = elim before.order [

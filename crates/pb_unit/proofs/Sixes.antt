@@ -73,16 +73,16 @@ pub record IsAt (count i : ℕ) (u : Unit) : Type 0 where
 
 record IsFrom (n count i : ℕ) (u : Unit) : Type 0 where
   pub kind : is_fixed u.what ≡ true
-  pub place : ℕ
-  pub owner : u.owner ≡ n + place
-  pub inside : place < count
-  pub at : place * 6 + slot u.what u.side ≡ i
+  pub index : ℕ
+  pub owner : u.owner ≡ n + index
+  pub inside : index < count
+  pub at : index * 6 + slot u.what u.side ≡ i
 
 some_same : {A : Type 0} (x y : A) → Some x ≡ Some y → x ≡ y
 some_same x y e = cc
 
 here_at : (n count i : ℕ) (s : Side) (w : What) (u : Unit) → is_fixed w ≡ true → 0 < count → slot w s ≡ i → Some (unit n s w) ≡ Some u → IsFrom n count i u
-here_at n count i s w u h lt is e = subst (IsFrom n count i) (some_same (unit n s w) u e) (record { kind = h; place = 0; owner = omega arith; inside = lt; at = omega (arith, is) })
+here_at n count i s w u h lt is e = subst (IsFrom n count i) (some_same (unit n s w) u e) (record { kind = h; index = 0; owner = omega arith; inside = lt; at = omega (arith, is) })
 
 fixed_back : (n : ℕ) (ps : List Package) (i : ℕ) (u : Unit) → slice_get (placed six n ps) i ≡ Some u → IsFrom n (length ps) i u
 fixed_back n [] i u at = cc
@@ -94,10 +94,10 @@ fixed_back n (p ∷ ps) (suc (suc (suc (suc zero)))) u at = here_at n (length (p
 fixed_back n (p ∷ ps) (suc (suc (suc (suc (suc zero))))) u at = here_at n (length (p ∷ ps)) 5 Host Run u refl (omega arith) refl at
 fixed_back n (p ∷ ps) (suc (suc (suc (suc (suc (suc i)))))) u at =
     let h = fixed_back (n + 1) ps i u at in
-    record { kind = h.kind; place = suc h.place; owner = omega (arith, h.owner); inside = omega (arith, h.inside); at = omega (arith, h.at) }
+    record { kind = h.kind; index = suc h.index; owner = omega (arith, h.owner); inside = omega (arith, h.inside); at = omega (arith, h.at) }
 
 pub fixed_is : (ps : List Package) (i : ℕ) (u : Unit) → slice_get (fixed ps) i ≡ Some u → IsAt (length ps) i u
 fixed_is ps i u at =
     let h = fixed_back 0 ps i u at in
-    let e : u.owner ≡ h.place = omega (arith, h.owner) in
+    let e : u.owner ≡ h.index = omega (arith, h.owner) in
     record { kind = h.kind; owner = omega (arith, e, h.inside); number = omega (arith, e, h.at) }

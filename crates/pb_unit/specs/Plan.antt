@@ -47,7 +47,7 @@ level_of (Some p) = p.level
 
 -- the level of the unit at an index
 abbrev pub level_at : List Planned → ℕ → ℕ
-level_at units place = level_of (slice_get units place)
+level_at units index = level_of (slice_get units index)
 
 abbrev pub needs_in : Option Planned → List ℕ
 needs_in None = []
@@ -57,10 +57,10 @@ abbrev pub reaches_in : Option Planned → List ℕ
 reaches_in None = []
 reaches_in (Some p) = p.reaches
 
--- `places` lists the indices of the wanted units, in plan order, each once
-pub record ArePlaces (units : List Planned) (Wanted : Unit → Type 0) (places : List ℕ) : Type 0 where
-  pub rises : IsStrictlyIncreasing places
-  pub same : (place : ℕ) → Contains places place ↔ ((p : Planned) × (slice_get units place ≡ Some p) × Wanted p.unit)
+-- `indices` lists the indices of the wanted units, in plan order, each once
+pub record AreIndices (units : List Planned) (Wanted : Unit → Type 0) (indices : List ℕ) : Type 0 where
+  pub rises : IsStrictlyIncreasing indices
+  pub same : (index : ℕ) → Contains indices index ↔ ((p : Planned) × (slice_get units index ≡ Some p) × Wanted p.unit)
 
 -- Profiles.
 
@@ -112,8 +112,8 @@ pub record IsPlan (ws : Workspace) (features : Features) (selection : Selection)
   pub settings : All (HasSettings ws line) plan.planned
   pub levels : All (λ p. p.level ≡ above (map (level_at plan.planned) p.needs)) plan.planned
   pub order : AllPairs ComesBefore plan.planned
-  pub needs : All (λ p. ArePlaces plan.planned (Contains (needs ws features p.unit)) p.needs) plan.planned
-  pub reaches : All (λ p. ArePlaces plan.planned (Reaches ws features p.unit) p.reaches) plan.planned
+  pub needs : All (λ p. AreIndices plan.planned (Contains (needs ws features p.unit)) p.needs) plan.planned
+  pub reaches : All (λ p. AreIndices plan.planned (Reaches ws features p.unit) p.reaches) plan.planned
   pub straight : IsStraight ws features selection
   pub some : 0 < length plan.planned
   pub few : length plan.planned ≤ max_units

@@ -67,15 +67,15 @@ fn add_binary(
     found: &mut Vec<Named>,
     selection: &Selection,
     on: &[Text],
-    place: usize,
+    owner: usize,
     binary: &Binary,
 ) -> Result<(), AllocError>
     ensures { OnOk result (found.new.items ≡ found.old.items
-        ++ named_by selection.now on.now place 0 binary.now) }
+        ++ named_by selection.now on.now owner 0 binary.now) }
 {
     if asks_binary(selection, &binary.name) && all_on(on, binary.required_features.as_slice()) {
         let name = binary.name.copy(alloc)?;
-        found.push(Named { owner: place, name })?;
+        found.push(Named { owner, name })?;
     }
     Ok(())
 }
@@ -86,23 +86,23 @@ fn add_binaries(
     found: &mut Vec<Named>,
     selection: &Selection,
     on: &[Text],
-    place: usize,
+    owner: usize,
     binaries: &[Binary],
 ) -> Result<(), AllocError>
     ensures { OnOk result (found.new.items ≡ found.old.items
-        ++ placed (named_by selection.now on.now place) 0 binaries.now) }
+        ++ placed (named_by selection.now on.now owner) 0 binaries.now) }
 {
     for index in 0..binaries.len() {
-        add_binary(alloc, found, selection, on, place, &binaries[index])?;
+        add_binary(alloc, found, selection, on, owner, &binaries[index])?;
     }
     Ok(())
 }
 
 /// Returns the binaries of the package at an index.
-fn binaries_at(workspace: &Workspace, place: usize) -> &[Binary]
-    ensures { result.now ≡ binaries_of (slice_get workspace.now.packages place) }
+fn binaries_at(workspace: &Workspace, index: usize) -> &[Binary]
+    ensures { result.now ≡ binaries_of (slice_get workspace.now.packages index) }
 {
-    match workspace.packages.as_slice().get(place) {
+    match workspace.packages.as_slice().get(index) {
         Some(owner) => owner.binaries.as_slice(),
         None => &[],
     }
@@ -115,19 +115,19 @@ fn add_selected(
     workspace: &Workspace,
     features: &Features,
     selection: &Selection,
-    place: usize,
+    owner: usize,
 ) -> Result<(), AllocError>
     ensures { OnOk result (found.new.items ≡ found.old.items
-        ++ named_at workspace.now features.now selection.now 0 place) }
+        ++ named_at workspace.now features.now selection.now 0 owner) }
 {
-    let on = features.features_of(place, Side::Target);
+    let on = features.features_of(owner, Side::Target);
     add_binaries(
         alloc,
         found,
         selection,
         on,
-        place,
-        binaries_at(workspace, place),
+        owner,
+        binaries_at(workspace, owner),
     )
 }
 
@@ -142,15 +142,15 @@ fn all_named(
         ≡ all_named workspace.now features.now selection.now) }
 {
     let mut found = Vec::new(alloc);
-    let places = selection.packages.as_slice();
-    for index in 0..places.len() {
+    let selected = selection.packages.as_slice();
+    for index in 0..selected.len() {
         add_selected(
             alloc,
             &mut found,
             workspace,
             features,
             selection,
-            places[index],
+            selected[index],
         )?;
     }
     Ok(found)
@@ -185,15 +185,15 @@ fn add_unit(units: &mut Vec<Unit>, owner: usize, side: Side, what: What) -> Resu
 }
 
 /// Adds those units of a package that are not binaries.
-fn add_fixed(units: &mut Vec<Unit>, place: usize, owner: &Package) -> Result<(), AllocError>
-    ensures { OnOk result (units.new.items ≡ units.old.items ++ six place owner.now) }
+fn add_fixed(units: &mut Vec<Unit>, index: usize, owner: &Package) -> Result<(), AllocError>
+    ensures { OnOk result (units.new.items ≡ units.old.items ++ six index owner.now) }
 {
-    add_unit(units, place, Side::Target, What::Lib)?;
-    add_unit(units, place, Side::Host, What::Lib)?;
-    add_unit(units, place, Side::Target, What::Script)?;
-    add_unit(units, place, Side::Host, What::Script)?;
-    add_unit(units, place, Side::Target, What::Run)?;
-    add_unit(units, place, Side::Host, What::Run)?;
+    add_unit(units, index, Side::Target, What::Lib)?;
+    add_unit(units, index, Side::Host, What::Lib)?;
+    add_unit(units, index, Side::Target, What::Script)?;
+    add_unit(units, index, Side::Host, What::Script)?;
+    add_unit(units, index, Side::Target, What::Run)?;
+    add_unit(units, index, Side::Host, What::Run)?;
     Ok(())
 }
 
@@ -202,8 +202,8 @@ fn units_without_binaries(alloc: Global, packages: &[Package]) -> Result<Vec<Uni
     ensures { IfOk result (λ units. units.items ≡ fixed packages.now) }
 {
     let mut units = Vec::new(alloc);
-    for place in 0..packages.len() {
-        add_fixed(&mut units, place, &packages[place])?;
+    for index in 0..packages.len() {
+        add_fixed(&mut units, index, &packages[index])?;
     }
     Ok(units)
 }

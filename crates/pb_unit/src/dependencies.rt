@@ -22,30 +22,30 @@ pub(crate) enum Need {
 }
 
 /// Returns whether the package at an index has a library.
-pub(crate) fn has_library(workspace: &Workspace, place: usize) -> bool
-    ensures { result ≡ has_library (slice_get workspace.now.packages place) }
+pub(crate) fn has_library(workspace: &Workspace, index: usize) -> bool
+    ensures { result ≡ has_library (slice_get workspace.now.packages index) }
 {
-    match workspace.packages.as_slice().get(place) {
+    match workspace.packages.as_slice().get(index) {
         Some(owner) => owner.library.is_some(),
         None => false,
     }
 }
 
 /// Returns whether the package at an index has a script.
-fn has_script(workspace: &Workspace, place: usize) -> bool
-    ensures { result ≡ has_script (slice_get workspace.now.packages place) }
+fn has_script(workspace: &Workspace, index: usize) -> bool
+    ensures { result ≡ has_script (slice_get workspace.now.packages index) }
 {
-    match workspace.packages.as_slice().get(place) {
+    match workspace.packages.as_slice().get(index) {
         Some(owner) => owner.script.is_some(),
         None => false,
     }
 }
 
 /// Returns whether the package at an index has a library, `links` and a script.
-fn hands_on(workspace: &Workspace, place: usize) -> bool
-    ensures { result ≡ hands_on (slice_get workspace.now.packages place) }
+fn hands_on(workspace: &Workspace, index: usize) -> bool
+    ensures { result ≡ hands_on (slice_get workspace.now.packages index) }
 {
-    match workspace.packages.as_slice().get(place) {
+    match workspace.packages.as_slice().get(index) {
         Some(owner) => owner.library.is_some() && owner.links.is_some() && owner.script.is_some(),
         None => false,
     }
@@ -53,11 +53,11 @@ fn hands_on(workspace: &Workspace, place: usize) -> bool
 
 /// Returns the entries of the package at an index.
 #[tactic(auto, using(crate::proofs::Graphs::entries_few))]
-fn entries_at(workspace: &SettledWorkspace, place: usize) -> &[Entry]
-    ensures entries { result.now ≡ entries_at workspace.now place }
+fn entries_at(workspace: &SettledWorkspace, index: usize) -> &[Entry]
+    ensures entries { result.now ≡ entries_at workspace.now index }
     ensures few { All (λ e. e.to < 256) result.now }
 {
-    match workspace.get().packages.as_slice().get(place) {
+    match workspace.get().packages.as_slice().get(index) {
         Some(owner) => owner.entries.as_slice(),
         None => &[],
     }
@@ -140,17 +140,17 @@ pub(crate) fn add_needed(
     numbers: &mut Vec<usize>,
     workspace: &SettledWorkspace,
     features: &Features,
-    place: usize,
+    owner: usize,
     side: Side,
     need: Need,
 ) -> Result<(), AllocError>
     ensures { OnOk result (numbers.new.items ≡ numbers.old.items
-        ++ all_numbers need workspace.now features.now place side) }
+        ++ all_numbers need workspace.now features.now owner side) }
 {
-    let entries = entries_at(workspace, place);
+    let entries = entries_at(workspace, owner);
     for index in 0..entries.len() {
         let entry = &entries[index];
-        if features.enabled(place, side, index) && leads(workspace, need, entry) {
+        if features.enabled(owner, side, index) && leads(workspace, need, entry) {
             numbers.push(needed_number(need, entry.to, side))?;
         }
     }
@@ -161,15 +161,15 @@ pub(crate) fn add_needed(
 pub(crate) fn add_own_library(
     numbers: &mut Vec<usize>,
     workspace: &SettledWorkspace,
-    place: usize,
+    owner: usize,
     side: Side,
 ) -> Result<(), AllocError>
-    requires { place < 256 }
+    requires { owner < 256 }
     ensures { OnOk result (numbers.new.items ≡ numbers.old.items
-        ++ map number (own_library workspace.now place side)) }
+        ++ map number (own_library workspace.now owner side)) }
 {
-    if has_library(workspace.get(), place) {
-        numbers.push(library_number(place, side))?;
+    if has_library(workspace.get(), owner) {
+        numbers.push(library_number(owner, side))?;
     }
     Ok(())
 }
@@ -178,15 +178,15 @@ pub(crate) fn add_own_library(
 pub(crate) fn add_own_run(
     numbers: &mut Vec<usize>,
     workspace: &SettledWorkspace,
-    place: usize,
+    owner: usize,
     side: Side,
 ) -> Result<(), AllocError>
-    requires { place < 256 }
+    requires { owner < 256 }
     ensures { OnOk result (numbers.new.items ≡ numbers.old.items
-        ++ map number (own_run workspace.now place side)) }
+        ++ map number (own_run workspace.now owner side)) }
 {
-    if has_script(workspace.get(), place) {
-        numbers.push(run_number(place, side))?;
+    if has_script(workspace.get(), owner) {
+        numbers.push(run_number(owner, side))?;
     }
     Ok(())
 }

@@ -31,15 +31,15 @@ fn add_missing(
     names: &mut Vec<Text>,
     workspace: &Workspace,
     features: &Features,
-    place: usize,
+    owner: usize,
     index: usize,
     entry: &Entry,
 ) -> Result<(), AllocError>
     ensures { OnOk result (names.new.items ≡ names.old.items
-        ++ missing_by workspace.now features.now place index entry.now) }
+        ++ missing_by workspace.now features.now owner index entry.now) }
 {
-    let enabled = features.enabled(place, Side::Target, index)
-        || features.enabled(place, Side::Host, index);
+    let enabled = features.enabled(owner, Side::Target, index)
+        || features.enabled(owner, Side::Host, index);
     if enabled && !has_library(workspace, entry.to) {
         names.push(Text::from_str(alloc, name_at(workspace, entry.to))?)?;
     }
@@ -52,11 +52,11 @@ fn add_all_missing(
     names: &mut Vec<Text>,
     workspace: &Workspace,
     features: &Features,
-    place: usize,
+    owner: usize,
     entries: &[Entry],
 ) -> Result<(), AllocError>
     ensures { OnOk result (names.new.items ≡ names.old.items
-        ++ placed (missing_by workspace.now features.now place) 0 entries.now) }
+        ++ placed (missing_by workspace.now features.now owner) 0 entries.now) }
 {
     for index in 0..entries.len() {
         add_missing(
@@ -64,7 +64,7 @@ fn add_all_missing(
             names,
             workspace,
             features,
-            place,
+            owner,
             index,
             &entries[index],
         )?;
@@ -83,9 +83,9 @@ fn all_missing(
 {
     let mut names = Vec::new(alloc);
     let packages = workspace.packages.as_slice();
-    for place in 0..packages.len() {
-        let entries = packages[place].entries.as_slice();
-        add_all_missing(alloc, &mut names, workspace, features, place, entries)?;
+    for index in 0..packages.len() {
+        let entries = packages[index].entries.as_slice();
+        add_all_missing(alloc, &mut names, workspace, features, index, entries)?;
     }
     Ok(names)
 }

@@ -16,16 +16,16 @@ fn by_library(
     alloc: Global,
     workspace: &SettledWorkspace,
     features: &Features,
-    place: usize,
+    owner: usize,
     side: Side,
 ) -> Result<Vec<usize>, AllocError>
-    requires { place < 256 }
+    requires { owner < 256 }
     ensures { IfOk result (λ numbers. numbers.items
-        ≡ map number (needs_of workspace.now features.now place side Lib)) }
+        ≡ map number (needs_of workspace.now features.now owner side Lib)) }
 {
     let mut numbers = Vec::new(alloc);
-    add_needed(&mut numbers, workspace, features, place, side, Need::Lib)?;
-    add_own_run(&mut numbers, workspace, place, side)?;
+    add_needed(&mut numbers, workspace, features, owner, side, Need::Lib)?;
+    add_own_run(&mut numbers, workspace, owner, side)?;
     Ok(numbers)
 }
 
@@ -34,18 +34,18 @@ fn by_binary(
     alloc: Global,
     workspace: &SettledWorkspace,
     features: &Features,
-    place: usize,
+    owner: usize,
     side: Side,
     name: &str,
 ) -> Result<Vec<usize>, AllocError>
-    requires { place < 256 }
+    requires { owner < 256 }
     ensures { IfOk result (λ numbers. numbers.items
-        ≡ map number (needs_of workspace.now features.now place side (Bin name.now))) }
+        ≡ map number (needs_of workspace.now features.now owner side (Bin name.now))) }
 {
     let mut numbers = Vec::new(alloc);
-    add_own_library(&mut numbers, workspace, place, side)?;
-    add_needed(&mut numbers, workspace, features, place, side, Need::Lib)?;
-    add_own_run(&mut numbers, workspace, place, side)?;
+    add_own_library(&mut numbers, workspace, owner, side)?;
+    add_needed(&mut numbers, workspace, features, owner, side, Need::Lib)?;
+    add_own_run(&mut numbers, workspace, owner, side)?;
     Ok(numbers)
 }
 
@@ -54,14 +54,14 @@ fn by_script(
     alloc: Global,
     workspace: &SettledWorkspace,
     features: &Features,
-    place: usize,
+    owner: usize,
     side: Side,
 ) -> Result<Vec<usize>, AllocError>
     ensures { IfOk result (λ numbers. numbers.items
-        ≡ map number (needs_of workspace.now features.now place side Script)) }
+        ≡ map number (needs_of workspace.now features.now owner side Script)) }
 {
     let mut numbers = Vec::new(alloc);
-    add_needed(&mut numbers, workspace, features, place, side, Need::Tool)?;
+    add_needed(&mut numbers, workspace, features, owner, side, Need::Tool)?;
     Ok(numbers)
 }
 
@@ -70,16 +70,16 @@ fn by_run(
     alloc: Global,
     workspace: &SettledWorkspace,
     features: &Features,
-    place: usize,
+    owner: usize,
     side: Side,
 ) -> Result<Vec<usize>, AllocError>
-    requires { place < 256 }
+    requires { owner < 256 }
     ensures { IfOk result (λ numbers. numbers.items
-        ≡ map number (needs_of workspace.now features.now place side Run)) }
+        ≡ map number (needs_of workspace.now features.now owner side Run)) }
 {
     let mut numbers = Vec::new(alloc);
-    numbers.push(script_number(place, side))?;
-    add_needed(&mut numbers, workspace, features, place, side, Need::Run)?;
+    numbers.push(script_number(owner, side))?;
+    add_needed(&mut numbers, workspace, features, owner, side, Need::Run)?;
     Ok(numbers)
 }
 

@@ -320,10 +320,10 @@ impl Plan {
 
     /// Returns the indices of the units that the unit at this index needs, in plan order. If there
     /// is no unit at this index, the result is empty. No memory is used.
-    pub fn needs(&self, place: usize) -> &[usize]
-        ensures { result.now ≡ needs_in (slice_get self.now.planned place) }
+    pub fn needs(&self, index: usize) -> &[usize]
+        ensures { result.now ≡ needs_in (slice_get self.now.planned index) }
     {
-        match self.planned.as_slice().get(place) {
+        match self.planned.as_slice().get(index) {
             Some(planned) => planned.needs.as_slice(),
             None => &[],
         }
@@ -332,10 +332,10 @@ impl Plan {
     /// Returns the level of the unit at this index. The level is 0 if the unit needs nothing or
     /// does not exist. Otherwise it is one more than the greatest level of the units that this unit
     /// needs. No memory is used.
-    pub fn level(&self, place: usize) -> usize
-        ensures { result ≡ level_at self.now.planned place }
+    pub fn level(&self, index: usize) -> usize
+        ensures { result ≡ level_at self.now.planned index }
     {
-        match self.planned.as_slice().get(place) {
+        match self.planned.as_slice().get(index) {
             Some(planned) => planned.level,
             None => 0,
         }
@@ -343,10 +343,10 @@ impl Plan {
 
     /// Returns the indices of all units that the unit at this index reaches, in plan order. If
     /// there is no unit at this index, the result is empty. No memory is used.
-    pub fn reaches(&self, place: usize) -> &[usize]
-        ensures { result.now ≡ reaches_in (slice_get self.now.planned place) }
+    pub fn reaches(&self, index: usize) -> &[usize]
+        ensures { result.now ≡ reaches_in (slice_get self.now.planned index) }
     {
-        match self.planned.as_slice().get(place) {
+        match self.planned.as_slice().get(index) {
             Some(planned) => planned.reaches.as_slice(),
             None => &[],
         }

@@ -23,20 +23,20 @@ fn is_target(side: Side) -> bool
 }
 
 /// Returns a mark for each package: whether the package is selected.
-fn selected_marks(alloc: Global, count: usize, places: &[usize]) -> Result<Vec<bool>, AllocError>
-    requires { All (λ p. p < count) places.now }
+fn selected_marks(alloc: Global, count: usize, indices: &[usize]) -> Result<Vec<bool>, AllocError>
+    requires { All (λ p. p < count) indices.now }
     ensures { IfOk result (λ marks. (p : ℕ) →
-        (is_on marks.items p ≡ true) ↔ Contains places.now p) }
+        (is_on marks.items p ≡ true) ↔ Contains indices.now p) }
 {
-    let marks = derive(alloc, count, places, &[])?;
+    let marks = derive(alloc, count, indices, &[])?;
     Ok(marks)
 }
 
 /// Returns whether an index is marked.
-fn is_marked(marks: &[bool], place: usize) -> bool
-    ensures { result ≡ is_on marks.now place }
+fn is_marked(marks: &[bool], index: usize) -> bool
+    ensures { result ≡ is_on marks.now index }
 {
-    match marks.get(place) {
+    match marks.get(index) {
         Some(mark) => *mark,
         None => false,
     }

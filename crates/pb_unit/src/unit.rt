@@ -66,10 +66,10 @@ fn side_name(side: Side) -> &'static str
 }
 
 /// Returns the name of the package at an index, or the empty text if there is no package.
-pub(crate) fn name_at(workspace: &Workspace, place: usize) -> &str
-    ensures { result.now ≡ name_at workspace.now place }
+pub(crate) fn name_at(workspace: &Workspace, index: usize) -> &str
+    ensures { result.now ≡ name_at workspace.now index }
 {
-    match workspace.packages.as_slice().get(place) {
+    match workspace.packages.as_slice().get(index) {
         Some(owner) => owner.name.as_str(),
         None => "",
     }

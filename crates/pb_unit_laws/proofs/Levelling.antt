@@ -12,16 +12,16 @@ one_more : (p : Option Planned) → level_of p + 1 ≡ option_map_or (λ (p : Pl
 one_more None = refl
 one_more (Some p) = refl
 
-greatest_is : (units : List Planned) (places : List ℕ) (greatest : ℕ) → max greatest (above (map (level_at units) places)) ≡ fold max greatest (map (λ place. option_map_or (λ (p : Planned). p.level + 1) (slice_get units place) 1) places)
+greatest_is : (units : List Planned) (indices : List ℕ) (greatest : ℕ) → max greatest (above (map (level_at units) indices)) ≡ fold max greatest (map (λ index. option_map_or (λ (p : Planned). p.level + 1) (slice_get units index) 1) indices)
 greatest_is units [] greatest = omega arith
-greatest_is units (place ∷ places) greatest =
-    let here : ℕ = option_map_or (λ (p : Planned). p.level + 1) (slice_get units place) 1 in
-    let rest : ℕ = above (map (level_at units) places) in
+greatest_is units (index ∷ indices) greatest =
+    let here : ℕ = option_map_or (λ (p : Planned). p.level + 1) (slice_get units index) 1 in
+    let rest : ℕ = above (map (level_at units) indices) in
     let joined : max greatest (max here rest) ≡ max (max greatest here) rest = omega arith in
-    ap (λ n. max greatest (max n rest)) (one_more (slice_get units place)) ∙ joined ∙ greatest_is units places (max greatest here)
+    ap (λ n. max greatest (max n rest)) (one_more (slice_get units index)) ∙ joined ∙ greatest_is units indices (max greatest here)
 
 pub levels_are : LevelsAreThese
-levels_are units places = let least : above (map (level_at units) places) ≡ max 0 (above (map (level_at units) places)) = omega arith in least ∙ greatest_is units places 0
+levels_are units indices = let least : above (map (level_at units) indices) ≡ max 0 (above (map (level_at units) indices)) = omega arith in least ∙ greatest_is units indices 0
 
 name_is : (p : Option Package) → name_of p ≡ option_map_or (λ (p : Package). p.name) p []
 name_is None = refl
@@ -32,4 +32,4 @@ library_is None = refl
 library_is (Some p) = refl
 
 pub packages_have_names : PackagesHaveNames
-packages_have_names ws place = (name_is (slice_get ws.packages place), library_is (slice_get ws.packages place))
+packages_have_names ws index = (name_is (slice_get ws.packages index), library_is (slice_get ws.packages index))

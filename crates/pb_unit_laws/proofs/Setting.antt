@@ -13,7 +13,7 @@ use Rattle.pb_workspace_types.specs.declared.package.Package.{Package}
 use Rattle.pb_workspace_types.specs.declared.package.Side.{Side}
 use Rattle.pb_workspace_types.specs.declared.package.Side.TheVariants.{Target, Host}
 use Rattle.pb_profile.specs.Line.{Seen}
-use Rattle.pb_profile.specs.Settings.{Place, along, built_in, fixed, in_build_override, in_package, looked_up, of_hosts, of_others, of_role, override_named, own, places_of, said_by, setting_of}
+use Rattle.pb_profile.specs.Settings.{Lookup, along, built_in, fixed, in_build_override, in_package, looked_up, of_hosts, of_others, of_role, override_named, own, lookups_of, said_by, setting_of}
 use Rattle.pb_unit_laws.proofs.Faulting.{found_joined, head_here, head_joined}
 use Rattle.pb_unit_laws.specs.Settings.{Set, SettingsAreThese, built_in_set, first_value, set_for, set_for_role, sets_for}
 
@@ -28,32 +28,32 @@ module _ (k : ProfileKey) where
   abbrev value_in : Set → Option Setting
   value_in set = set k
 
-  -- places one for one
-  data AreSame : List Place → List Sets → Type 0 where
+  -- indices one for one
+  data AreSame : List Lookup → List Sets → Type 0 where
     none : AreSame [] []
-    more : (place : Place) (sets : Sets) (places : List Place) (all : List Sets) (same : (s : Seen) → place s k ≡ in_set (sets s)) (rest : AreSame places all) → AreSame (place ∷ places) (sets ∷ all)
+    more : (lookup : Lookup) (sets : Sets) (lookups : List Lookup) (all : List Sets) (same : (s : Seen) → lookup s k ≡ in_set (sets s)) (rest : AreSame lookups all) → AreSame (lookup ∷ lookups) (sets ∷ all)
 
   here_is : (o : Option Set) (rest : List Set) → option_or (in_set o) (slice_get (filter_map value_in rest) 0) ≡ slice_get (filter_map value_in (cons_option o rest)) 0
   here_is None rest = refl
   here_is (Some set) rest = sym (head_here (set k) (filter_map value_in rest))
 
-  along_is : (place : Place) (sets : Sets) → ((s : Seen) → place s k ≡ in_set (sets s)) → (line : List Seen) → along k place line ≡ slice_get (filter_map value_in (filter_map sets line)) 0
-  along_is place sets same [] = refl
-  along_is place sets same (s ∷ line) =
-      ap (λ o. option_or o (along k place line)) (same s)
-      ∙ ap (option_or (in_set (sets s))) (along_is place sets same line)
+  along_is : (lookup : Lookup) (sets : Sets) → ((s : Seen) → lookup s k ≡ in_set (sets s)) → (line : List Seen) → along k lookup line ≡ slice_get (filter_map value_in (filter_map sets line)) 0
+  along_is lookup sets same [] = refl
+  along_is lookup sets same (s ∷ line) =
+      ap (λ o. option_or o (along k lookup line)) (same s)
+      ∙ ap (option_or (in_set (sets s))) (along_is lookup sets same line)
       ∙ here_is (sets s) (filter_map sets line)
 
-  looked_is : (places : List Place) (all : List Sets) → AreSame places all → (line : List Seen) → looked_up k places line ≡ slice_get (filter_map value_in (flat_map (λ sets. filter_map sets line) all)) 0
+  looked_is : (lookups : List Lookup) (all : List Sets) → AreSame lookups all → (line : List Seen) → looked_up k lookups line ≡ slice_get (filter_map value_in (flat_map (λ sets. filter_map sets line) all)) 0
   looked_is _ _ none line = refl
-  looked_is _ _ (more place sets places all same rest) line =
+  looked_is _ _ (more lookup sets lookups all same rest) line =
       let others = flat_map (λ (sets : Sets). filter_map sets line) all in
-      ap (λ o. option_or o (looked_up k places line)) (along_is place sets same line)
-      ∙ ap (option_or (slice_get (filter_map value_in (filter_map sets line)) 0)) (looked_is places all rest line)
+      ap (λ o. option_or o (looked_up k lookups line)) (along_is lookup sets same line)
+      ∙ ap (option_or (slice_get (filter_map value_in (filter_map sets line)) 0)) (looked_is lookups all rest line)
       ∙ sym (head_joined (filter_map value_in (filter_map sets line)) (filter_map value_in others))
       ∙ ap (λ found. slice_get found 0) (sym (found_joined value_in (filter_map sets line) others))
 
-  -- place for place
+  -- index by index
 
   said_is : (values : Option Said) → said_by values k ≡ in_set (option_map says values)
   said_is None = refl
@@ -85,9 +85,9 @@ module _ (k : ProfileKey) where
   abbrev host_sets : Sets
   host_sets s = Some (λ k. (defaults k).beside_override)
 
-  joined : (places : List Place) (all : List Sets) → AreSame places all → (others : List Place) (also : List Sets) → AreSame others also → AreSame (places ++ others) (all ++ also)
+  joined : (lookups : List Lookup) (all : List Sets) → AreSame lookups all → (others : List Lookup) (also : List Sets) → AreSame others also → AreSame (lookups ++ others) (all ++ also)
   joined _ _ none others also rest = rest
-  joined _ _ (more place sets places all same first) others also rest = more place sets (places ++ others) (all ++ also) same (joined places all first others also rest)
+  joined _ _ (more lookup sets lookups all same first) others also rest = more lookup sets (lookups ++ others) (all ++ also) same (joined lookups all first others also rest)
 
   role_are : (role : Side) → AreSame (of_role role) (set_for_role role)
   role_are Target = none
@@ -107,13 +107,13 @@ module _ (k : ProfileKey) where
     between : AreSame (of_others p.is_member ++ of_role role) (other_sets p.is_member ++ set_for_role role)
     between = joined (of_others p.is_member) (other_sets p.is_member) (others_are p.is_member) (of_role role) (set_for_role role) (role_are role)
 
-    places_are : AreSame (places_of p role) all_sets
-    places_are =
+    indices_are : AreSame (lookups_of p role) all_sets
+    indices_are =
         more (in_package p.name) (set_for p.name) (of_others p.is_member ++ of_role role ++ own ∷ built_in ∷ []) (other_sets p.is_member ++ set_for_role role ++ last_sets) (package_is p.name)
         (joined (of_others p.is_member ++ of_role role) (other_sets p.is_member ++ set_for_role role) between (own ∷ built_in ∷ []) last_sets last_are)
 
     setting_is : setting_of p role line k ≡ fixed role k (first_value k (sets_for p role line) (defaults k).dev)
-    setting_is = ap (λ o. fixed role k (unwrap_or o (defaults k).dev)) (looked_is (places_of p role) all_sets places_are line)
+    setting_is = ap (λ o. fixed role k (unwrap_or o (defaults k).dev)) (looked_is (lookups_of p role) all_sets indices_are line)
 
 each_same : {A B : Type 0} (f g : A → B) → ((x : A) → f x ≡ g x) → (xs : List A) → map f xs ≡ map g xs
 each_same f g same [] = refl

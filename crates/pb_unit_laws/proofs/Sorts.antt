@@ -39,4 +39,4 @@ said_is (Some None) = refl
 said_is (Some (Some directives)) = refl
 
 pub runs_say : RunsSay
-runs_say done place = said_is (slice_get done place)
+runs_say done index = said_is (slice_get done index)

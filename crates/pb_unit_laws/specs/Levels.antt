@@ -10,8 +10,8 @@ use Rattle.pb_unit.specs.declared.plan.Planned.{Planned}
 -- For the levels at some indices, `above` is one more than the greatest of these levels, or 0 if
 -- there are no indices. An index without a unit has the level 0.
 abbrev pub LevelsAreThese : Type 0
-LevelsAreThese = (units : List Planned) (places : List ℕ)
-    → above (map (level_at units) places) ≡ fold max 0 (map (λ index. option_map_or (λ (p : Planned). p.level + 1) (slice_get units index) 1) places)
+LevelsAreThese = (units : List Planned) (indices : List ℕ)
+    → above (map (level_at units) indices) ≡ fold max 0 (map (λ index. option_map_or (λ (p : Planned). p.level + 1) (slice_get units index) 1) indices)
 
 -- What `name_at` and `has_library` say about the package at an index. If there is no package, the
 -- name is empty and there is no library.

@@ -15,7 +15,7 @@ use Rattle.pb_workspace.specs.Checks.{fault_of, has_same_names}
 use Rattle.pb_workspace.specs.Frames.{frame_of}
 use Rattle.pb_workspace.specs.Laws.{NamesDiffer, HasTargetFolder, HasRoot, LooksAtSources}
 use Rattle.pb_workspace.specs.Loaded.{packages_read, root_parts, unless, workspace_from, workspace_in, workspace_of}
-use Rattle.pb_workspace.specs.Places.{places_of}
+use Rattle.pb_workspace.specs.Indices.{indices_of}
 use Rattle.pb_workspace_package.specs.declared.unresolved_package.UnresolvedPackage.{UnresolvedPackage}
 use Rattle.pb_workspace_types.specs.declared.fault.LoadFault.{LoadFault}
 use Rattle.pb_workspace_types.specs.declared.fault.LoadFault.TheVariants.{SameName}
@@ -33,7 +33,7 @@ bound (Err e) next y is = let no : Err e ≡ Ok y = is in cc
 names_of_drafts : (target : List ℕ) (f : WorkspaceRoot) (profiles : List Profile) (drafts : List UnresolvedPackage) → has_same_names drafts ≡ false → IsDistinct bytes_eq (map (λ (p : Package). p.name) (assembled target f profiles drafts).packages)
 unfolding assembled
 names_of_drafts target f profiles drafts apart =
-    subst (IsDistinct bytes_eq) (sym (map_twice (λ (p : Package). p.name) (package_at (places_of drafts)) drafts)) (none_again [] (map (λ (d : UnresolvedPackage). d.name) drafts) apart).1
+    subst (IsDistinct bytes_eq) (sym (map_twice (λ (p : Package). p.name) (package_at (indices_of drafts)) drafts)) (none_again [] (map (λ (d : UnresolvedPackage). d.name) drafts) apart).1
 
 no_fault : (drafts : List UnresolvedPackage) → fault_of drafts ≡ None → has_same_names drafts ≡ false
 unfolding fault_of

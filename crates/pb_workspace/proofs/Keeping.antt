@@ -25,14 +25,14 @@ use Rattle.pb_workspace.specs.declared.rounds.LoadState.{LoadState}
 use Rattle.pb_workspace_package.specs.declared.wanted.Wanted.{Wanted}
 use Rattle.pb_workspace_types.specs.declared.workspace.DefaultMembers.TheVariants.{Named, Unknown}
 use Rattle.pb_workspace_types.specs.declared.workspace.Workspace.{Workspace}
-use Rattle.pb_workspace.specs.Selected.{places_where}
+use Rattle.pb_workspace.specs.Selected.{indices_where}
 use Rattle.pb_workspace.specs.Assembled.{assembled, default_members_of, entry_at, is_default, is_known, package_at}
 use Rattle.pb_workspace.specs.ByFolder.{folders_of, value_of, values_of}
 use Rattle.pb_workspace.specs.Checks.{fault_of, has_same_names}
 use Rattle.pb_workspace_package.specs.Drafted.{IsDraft}
 use Rattle.pb_workspace.specs.Readings.{IsStoredAt, IsReading}
 use Rattle.pb_workspace.specs.Loaded.{unless, workspace_from}
-use Rattle.pb_workspace.specs.Places.{numbered, places_of}
+use Rattle.pb_workspace.specs.Indices.{numbered, indices_of}
 use Rattle.pb_workspace.specs.Rounds.{with_draft}
 use Rattle.pb_workspace_types.specs.Settled.{IfNamed, IsAscending, IsPackage, IsSettled}
 use Rattle.pb_workspace_package.specs.Settling.{comes_again}
@@ -70,15 +70,15 @@ none_again before (name ∷ names) is = by (is_mentioned before name) refl is (n
     by false at h rest = let more = rest h in
         ((at, all_given _ _ (λ y out. (fresh before name y out).0) names more.0), (all_given _ _ (λ y out. (fresh before name y out).1) names more.0, more.1))
 
--- places of folders
+-- indices of folders
 abbrev Below : ℕ → List ℕ × ℕ → Type 0
 Below count e = e.1 < count
 
-numbered_below : (count : ℕ) (places : List (List ℕ × ℕ)) (n : ℕ) (ds : List UnresolvedPackage) → AllByRecursion (Below count) places → n + length ds ≤ count → AllByRecursion (Below count) (numbered places n ds)
-numbered_below count places n [] all fits = all
-numbered_below count places n (d ∷ ds) all fits = numbered_below count (with_entry places d.folder n) (n + 1) ds (with_entry_all (Below count) places d.folder n all (omega arith)) (omega arith)
+numbered_below : (count : ℕ) (indices : List (List ℕ × ℕ)) (n : ℕ) (ds : List UnresolvedPackage) → AllByRecursion (Below count) indices → n + length ds ≤ count → AllByRecursion (Below count) (numbered indices n ds)
+numbered_below count indices n [] all fits = all
+numbered_below count indices n (d ∷ ds) all fits = numbered_below count (with_entry indices d.folder n) (n + 1) ds (with_entry_all (Below count) indices d.folder n all (omega arith)) (omega arith)
 
-value_below : (count : ℕ) (test : List ℕ → Bool) (places : List (List ℕ × ℕ)) → 0 < count → AllByRecursion (Below count) places → unwrap_or (lookup test places) 0 < count
+value_below : (count : ℕ) (test : List ℕ → Bool) (indices : List (List ℕ × ℕ)) → 0 < count → AllByRecursion (Below count) indices → unwrap_or (lookup test indices) 0 < count
 value_below count test [] some all = some
 value_below count test (e ∷ es) some all = by (test e.0) (value_below count test es some all.1)
   where
@@ -87,21 +87,21 @@ value_below count test (e ∷ es) some all = by (test e.0) (value_below count te
     by false rest = rest
 
 -- a package of a workspace
-pub package_kept : (count : ℕ) (places : List (List ℕ × ℕ)) (d : UnresolvedPackage) → 0 < count → AllByRecursion (Below count) places → IsDraft d → IsPackage count (package_at places d)
-package_kept count places d some below is = record {
+pub package_kept : (count : ℕ) (indices : List (List ℕ × ℕ)) (d : UnresolvedPackage) → 0 < count → AllByRecursion (Below count) indices → IsDraft d → IsPackage count (package_at indices d)
+package_kept count indices d some below is = record {
   name = is.0;
   crate_name = is.1;
   binary_names = All-from_recursion _ d.binaries is.2.named;
   binaries = is.2.order;
   feature_names = All-from_recursion _ d.features is.3.named;
   features = is.3.order;
-  leads = All-from_recursion _ _ (all_map (λ (entry : Entry). entry.to < count) (entry_at places) d.wanted (each d.wanted));
-  entry_keys = All-from_recursion _ _ (all_map (λ (entry : Entry). is_name entry.key ≡ true) (entry_at places) d.wanted is.4);
+  leads = All-from_recursion _ _ (all_map (λ (entry : Entry). entry.to < count) (entry_at indices) d.wanted (each d.wanted));
+  entry_keys = All-from_recursion _ _ (all_map (λ (entry : Entry). is_name entry.key ≡ true) (entry_at indices) d.wanted is.4);
 }
   where
-    each : (ws : List Wanted) → AllByRecursion (λ (w : Wanted). unwrap_or (value_of w.folder places) 0 < count) ws
+    each : (ws : List Wanted) → AllByRecursion (λ (w : Wanted). unwrap_or (value_of w.folder indices) 0 < count) ws
     each [] = tt
-    each (w ∷ ws) = (value_below count (is_at (slice_cmp nat_cmp w.folder)) places some below, each ws)
+    each (w ∷ ws) = (value_below count (is_at (slice_cmp nat_cmp w.folder)) indices some below, each ws)
 
 abbrev draft_of_entry : List ℕ × UnresolvedPackage → UnresolvedPackage
 draft_of_entry e = e.1
@@ -114,11 +114,11 @@ some_there : {A : Type 0} (P : A → Type 0) (xs : List A) → (0 < length xs �
 some_there P [] made = tt
 some_there P (x ∷ xs) made = made (omega arith)
 
-defaults_below : (root : List ℕ) (packages : List Package) (texts : Option (List (List ℕ))) → IfNamed (default_members_of root packages texts) (All (λ place. place < length packages))
+defaults_below : (root : List ℕ) (packages : List Package) (texts : Option (List (List ℕ))) → IfNamed (default_members_of root packages texts) (All (λ index. index < length packages))
 defaults_below root packages None = tt
 defaults_below root packages (Some texts) = by (list_all (is_known root packages) texts)
   where
-    by : (b : Bool) → IfNamed (if b then Named (places_where (is_default root texts) packages) else Unknown) (All (λ place. place < length packages))
+    by : (b : Bool) → IfNamed (if b then Named (indices_where (is_default root texts) packages) else Unknown) (All (λ index. index < length packages))
     by true = All-from_recursion _ _ (places_below (is_default root texts) 0 (length packages) packages (omega arith))
     by false = tt
 
@@ -127,20 +127,20 @@ pub assembled_settled : (target : List ℕ) (f : WorkspaceRoot) (profiles : List
 unfolding assembled
 assembled_settled target f profiles es few all order names =
     let drafts : List UnresolvedPackage = values_of es in
-    let places = places_of drafts in
-    let long : length (map (package_at places) drafts) ≡ length drafts = length-map drafts (package_at places) in
+    let indices = indices_of drafts in
+    let long : length (map (package_at indices) drafts) ≡ length drafts = length-map drafts (package_at indices) in
     let same : length drafts ≡ length es = length-map es draft_of_entry in
     record {
       few = omega arith;
-      folders = subst IsAscending (sym (map_twice (λ (p : Package). p.folder) (package_at places) drafts ∙ map_twice (λ (d : UnresolvedPackage). d.folder) draft_of_entry es ∙ own_folders es all)) order;
-      names = subst (IsDistinct bytes_eq) (sym (map_twice (λ (p : Package). p.name) (package_at places) drafts)) (none_again [] (map (λ (d : UnresolvedPackage). d.name) drafts) names).1;
-      packages = subst (λ n. All (IsPackage n) (map (package_at places) drafts)) (sym long)
-          (All-from_recursion _ _ (all_map (IsPackage (length drafts)) (package_at places) drafts
-          (some_there _ drafts (λ some. all_map (λ d. IsPackage (length drafts) (package_at places d)) draft_of_entry es
-          (all_given IsStoredAt _ (λ e put. package_kept (length drafts) places e.1 some (numbered_below (length drafts) [] 0 drafts tt (omega arith)) put.1) es all)))));
-      root = subst (λ n. IfSome (value_of f.root places) (λ place. place < n)) (sym long)
-          (All-lookup (λ place. place < length drafts) (is_at (slice_cmp nat_cmp f.root)) places (All-from_recursion _ places (numbered_below (length drafts) [] 0 drafts tt (omega arith))));
-      defaults = defaults_below f.root (map (package_at places) drafts) f.default_members;
+      folders = subst IsAscending (sym (map_twice (λ (p : Package). p.folder) (package_at indices) drafts ∙ map_twice (λ (d : UnresolvedPackage). d.folder) draft_of_entry es ∙ own_folders es all)) order;
+      names = subst (IsDistinct bytes_eq) (sym (map_twice (λ (p : Package). p.name) (package_at indices) drafts)) (none_again [] (map (λ (d : UnresolvedPackage). d.name) drafts) names).1;
+      packages = subst (λ n. All (IsPackage n) (map (package_at indices) drafts)) (sym long)
+          (All-from_recursion _ _ (all_map (IsPackage (length drafts)) (package_at indices) drafts
+          (some_there _ drafts (λ some. all_map (λ d. IsPackage (length drafts) (package_at indices d)) draft_of_entry es
+          (all_given IsStoredAt _ (λ e put. package_kept (length drafts) indices e.1 some (numbered_below (length drafts) [] 0 drafts tt (omega arith)) put.1) es all)))));
+      root = subst (λ n. IfSome (value_of f.root indices) (λ index. index < n)) (sym long)
+          (All-lookup (λ index. index < length drafts) (is_at (slice_cmp nat_cmp f.root)) indices (All-from_recursion _ indices (numbered_below (length drafts) [] 0 drafts tt (omega arith))));
+      defaults = defaults_below f.root (map (package_at indices) drafts) f.default_members;
     }
 
 no_fault : (drafts : List UnresolvedPackage) → fault_of drafts ≡ None → has_same_names drafts ≡ false

@@ -4,7 +4,7 @@ use Rattle.std.proofs.Math.Seq.{drop-cons}
 use Rattle.std.specs.List.{list_any}
 use Rattle.pb_workspace_package.specs.declared.unresolved_package.UnresolvedPackage.{UnresolvedPackage}
 use Rattle.pb_workspace_package.specs.declared.wanted.Wanted.{Wanted}
-use Rattle.pb_workspace.specs.Places.{draft_in}
+use Rattle.pb_workspace.specs.Indices.{draft_in}
 
 module _ (test : Wanted → Option UnresolvedPackage → Bool) (drafts : List UnresolvedPackage) where
   abbrev leads : UnresolvedPackage → Bool

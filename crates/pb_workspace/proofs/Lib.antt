@@ -9,7 +9,7 @@ pub mod RoundSteps
 pub mod Keeping
 pub mod FoldersPut
 pub mod FoldersFound
-pub mod FoldersPlaced
+pub mod FoldersNumbered
 pub mod Fuel
 pub mod WholeWorkspace
 pub mod GlobRelation

@@ -84,7 +84,7 @@ pub parts_lead_on : (text : List ℕ) → has_zero text ≡ false → list_all l
 unfolding has_zero
 parts_lead_on text clean = all_lead_on (parts_of text) (parts_plain text clean)
 
--- what holds of all of some holds of the one at a place
+-- what holds of all of some holds of the one at an index
 pub one_of_all : {A : Type 0} (f : A → List ℕ) (p : List ℕ → Bool) (xs : List A) (i : ℕ) (x : A) → list_all p (map f xs) ≡ true → i < length xs → p (f (get_or xs i x)) ≡ true
 one_of_all f p [] i x all lt = absurd (omega arith)
 one_of_all f p (y ∷ ys) zero x all lt = and_left _ _ all

@@ -32,7 +32,7 @@ use Rattle.pb_workspace.specs.Frames.{frame_of, given_to, is_member}
 use Rattle.pb_workspace_package.specs.Keys.{keys_of}
 use Rattle.pb_workspace.specs.Loaded.{at_root, nothing_read, others_read, packages_read, root_parts, root_read, unless, workspace_from, workspace_in, workspace_of}
 use Rattle.pb_workspace.specs.MemberFolders.{folders_meant, is_manifest, member_folders}
-use Rattle.pb_workspace.specs.Places.{places_of}
+use Rattle.pb_workspace.specs.Indices.{indices_of}
 use Rattle.pb_workspace.specs.Rounds.{all_read, draft_at, draft_if, draft_in_file, leads_to, no_package, parts_at, rounds, standing_in, with_draft}
 use Rattle.pb_workspace_package.proofs.Puttings.{map_twice}
 use Rattle.pb_workspace.specs.PackageFolders.{package_in, LeadsTo, IsRootOrMember, root, member, IsPackageFolder, frame_at}
@@ -236,9 +236,9 @@ manifest_there sources manifest parts path is = by (is_manifest manifest) refl i
 -- what was read of a package
 pub record IsOfItsFolder (sources : World) (f : WorkspaceRoot) (p : Package) : Type 0 where
   pub owner : UnresolvedPackage
-  pub places : List (List ℕ × ℕ)
+  pub indices : List (List ℕ × ℕ)
   pub read : package_in sources f p.folder ≡ Ok owner
-  pub same : p ≡ package_at places owner
+  pub same : p ≡ package_at indices owner
 
 all_at : {A : Type 0} (P : A → Type 0) (xs : List A) (x : A) → AllByRecursion P xs → Contains xs x → P x
 all_at P [] x all is = absurd (none x is)
@@ -252,10 +252,10 @@ module _ (sources : World) (f : WorkspaceRoot) where
   own_folders [] all = refl
   own_folders (e ∷ es) all = ap (λ p. p ∷ map (λ (d : UnresolvedPackage). d.folder) (values_of es)) (package_there e.0 e.1 all.0) ∙ ap (λ ps. e.0 ∷ ps) (own_folders es all.1)
 
-  pub each_theirs : (es : List (Path × UnresolvedPackage)) (places : List (Path × ℕ)) (p : Package) → AllByRecursion (λ e. package_in sources f e.0 ≡ Ok e.1) es → Contains (map (package_at places) (values_of es)) p
-      → (d : UnresolvedPackage) × (package_in sources f p.folder ≡ Ok d) × (p ≡ package_at places d)
-  each_theirs es places p all is =
-      let m = map_only (package_at places) (values_of es) p is in
+  pub each_theirs : (es : List (Path × UnresolvedPackage)) (indices : List (Path × ℕ)) (p : Package) → AllByRecursion (λ e. package_in sources f e.0 ≡ Ok e.1) es → Contains (map (package_at indices) (values_of es)) p
+      → (d : UnresolvedPackage) × (package_in sources f p.folder ≡ Ok d) × (p ≡ package_at indices d)
+  each_theirs es indices p all is =
+      let m = map_only (package_at indices) (values_of es) p is in
       let v = map_only (λ (e : Path × UnresolvedPackage). e.1) es m.0 m.1 in
       let whole : package_in sources f v.0.0 ≡ Ok v.0.1 = all_at (λ e. package_in sources f e.0 ≡ Ok e.1) es v.0 all v.1 in
       let own : package_in sources f v.0.0 ≡ Ok m.0 = whole ∙ ap (λ d. Ok d) v.2 in
@@ -297,12 +297,12 @@ module _ (manifest target : Path) (w : World) (parts : Parts) (ws : Workspace) (
       let m = made_of in
       let all = all_found sources f parts stands there m.0 m.1.packages in
       let drafts : List UnresolvedPackage = values_of m.0.found in
-      let same : map (λ (p : Package). p.folder) ws.packages ≡ folders_of m.0.found = ap (map (λ (p : Package). p.folder)) m.1.whole ∙ map_twice (λ (p : Package). p.folder) (package_at (places_of drafts)) drafts ∙ own_folders sources f m.0.found all.1 in
+      let same : map (λ (p : Package). p.folder) ws.packages ≡ folders_of m.0.found = ap (map (λ (p : Package). p.folder)) m.1.whole ∙ map_twice (λ (p : Package). p.folder) (package_at (indices_of drafts)) drafts ∙ own_folders sources f m.0.found all.1 in
       (λ is. (all.0 folder).0 (subst (λ xs. Contains xs folder) same is), λ is. subst (λ xs. Contains xs folder) (sym same) ((all.0 folder).1 is))
 
   pub theirs : (p : Package) → Contains ws.packages p → IsOfItsFolder sources f p
   theirs p is =
       let m = made_of in
       let all = all_found sources f parts stands there m.0 m.1.packages in
-      let e = each_theirs sources f m.0.found (places_of (values_of m.0.found)) p all.1 (subst (λ ps. Contains ps p) m.1.whole is) in
-      record { owner = e.0; places = places_of (values_of m.0.found); read = e.1; same = e.2 }
+      let e = each_theirs sources f m.0.found (indices_of (values_of m.0.found)) p all.1 (subst (λ ps. Contains ps p) m.1.whole is) in
+      record { owner = e.0; indices = indices_of (values_of m.0.found); read = e.1; same = e.2 }

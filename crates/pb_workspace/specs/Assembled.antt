@@ -13,15 +13,15 @@ use Rattle.pb_workspace_types.specs.declared.workspace.Workspace.{Workspace}
 use Rattle.pb_workspace.specs.ByFolder.{value_of}
 use Rattle.pb_workspace.specs.Globs.{is_glob}
 use Rattle.pb_workspace.specs.Members.{means}
-use Rattle.pb_workspace.specs.Places.{places_of}
-use Rattle.pb_workspace.specs.Selected.{places_where}
+use Rattle.pb_workspace.specs.Indices.{indices_of}
+use Rattle.pb_workspace.specs.Selected.{indices_where}
 
 -- the workspace's entry for an entry that was read, with the index of the package to which it leads
 abbrev pub entry_at : List (List ℕ × ℕ) → Wanted → Entry
-entry_at places w = record {
+entry_at indices w = record {
   key = w.key;
   kind = w.kind;
-  to = unwrap_or (value_of w.folder places) 0;
+  to = unwrap_or (value_of w.folder indices) 0;
   renamed = w.renamed;
   optional = w.optional;
   default_features = w.default_features;
@@ -30,7 +30,7 @@ entry_at places w = record {
 
 -- a package that was read; its entries have the indices of the packages to which they lead
 abbrev pub package_at : List (List ℕ × ℕ) → UnresolvedPackage → Package
-package_at places d = record {
+package_at indices d = record {
   name = d.name;
   version = d.version;
   edition = d.edition;
@@ -42,13 +42,13 @@ package_at places d = record {
   library = d.library;
   binaries = d.binaries;
   script = d.script;
-  entries = map (entry_at places) d.wanted;
+  entries = map (entry_at indices) d.wanted;
   features = d.features;
   development = d.development;
 }
 
 abbrev pub packages_of : List UnresolvedPackage → List Package
-packages_of drafts = map (package_at (places_of drafts)) drafts
+packages_of drafts = map (package_at (indices_of drafts)) drafts
 
 -- the package is a member, and the text means its folder
 abbrev pub is_meant_member : List ℕ → Package → List ℕ → Bool
@@ -68,7 +68,7 @@ is_default root texts p = list_any (is_meant_member root p) texts
 abbrev pub default_members_of : List ℕ → List Package → Option (List (List ℕ)) → DefaultMembers
 default_members_of root packages None = Unwritten
 default_members_of root packages (Some texts) =
-    if list_all (is_known root packages) texts then Named (places_where (is_default root texts) packages) else Unknown
+    if list_all (is_known root packages) texts then Named (indices_where (is_default root texts) packages) else Unknown
 
 -- the workspace that consists of these packages
 unfoldable pub assembled : List ℕ → WorkspaceRoot → List Profile → List UnresolvedPackage → Workspace
@@ -76,7 +76,7 @@ assembled target f profiles drafts = record {
   root = f.root;
   target = target;
   packages = packages_of drafts;
-  root_package = value_of f.root (places_of drafts);
+  root_package = value_of f.root (indices_of drafts);
   default_members = default_members_of f.root (packages_of drafts) f.default_members;
   profiles = profiles;
 }

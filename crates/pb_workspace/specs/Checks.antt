@@ -8,7 +8,7 @@ use Rattle.pb_workspace_package.specs.declared.unresolved_package.UnresolvedPack
 use Rattle.pb_workspace_types.specs.declared.fault.LoadFault.{LoadFault}
 use Rattle.pb_workspace_types.specs.declared.fault.LoadFault.TheVariants.{SameName, NameMismatch, VersionMismatch, LinksTwice, LinksWithoutScript, SameBinary}
 use Rattle.pb_workspace_package.specs.declared.wanted.Wanted.{Wanted}
-use Rattle.pb_workspace.specs.Places.{draft_in}
+use Rattle.pb_workspace.specs.Indices.{draft_in}
 use Rattle.pb_workspace_package.specs.Settling.{comes_again}
 
 -- two packages have the same name

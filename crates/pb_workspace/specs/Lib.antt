@@ -7,7 +7,7 @@ pub mod Frames
 pub mod MemberFolders
 pub mod Rounds
 pub mod Readings
-pub mod Places
+pub mod Indices
 pub mod Checks
 pub mod Assembled
 pub mod Loaded

@@ -17,16 +17,16 @@ use Rattle.pb_workspace_types.specs.declared.workspace.DefaultMembers.TheVariant
 use Rattle.pb_workspace_types.specs.declared.workspace.Workspace.{Workspace}
 
 -- the indices of the packages that pass a test; the first package of the list has the given index
-abbrev pub places_from : (Package → Bool) → ℕ → List Package → List ℕ
-places_from test index [] = []
-places_from test index (p ∷ ps) = if test p then index ∷ places_from test (index + 1) ps else places_from test (index + 1) ps
+abbrev pub indices_from : (Package → Bool) → ℕ → List Package → List ℕ
+indices_from test index [] = []
+indices_from test index (p ∷ ps) = if test p then index ∷ indices_from test (index + 1) ps else indices_from test (index + 1) ps
 
-abbrev pub places_where : (Package → Bool) → List Package → List ℕ
-places_where test packages = places_from test 0 packages
+abbrev pub indices_where : (Package → Bool) → List Package → List ℕ
+indices_where test packages = indices_from test 0 packages
 
 -- the indices of all members
 abbrev pub members_of : List Package → List ℕ
-members_of packages = places_where (λ p. p.is_member) packages
+members_of packages = indices_where (λ p. p.is_member) packages
 
 -- the package is a member with this name
 abbrev pub is_member_named : List ℕ → Package → Bool
@@ -42,7 +42,7 @@ name_members names packages = list_all (λ name. list_any (is_member_named name)
 
 -- The indices of the members that `-p` names. Each name must be that of a member.
 abbrev pub named_members : List (List ℕ) → List Package → Result (List ℕ) LoadFault
-named_members names packages = if name_members names packages then Ok (places_where (is_named_member names) packages) else Err NoSuchPackage
+named_members names packages = if name_members names packages then Ok (indices_where (is_named_member names) packages) else Err NoSuchPackage
 
 -- the index of the root package if there is one, and otherwise the indices of all members
 abbrev pub root_or_members : Option ℕ → List Package → List ℕ
@@ -53,7 +53,7 @@ root_or_members None packages = members_of packages
 -- this case must each folder in `default-members` be the folder of a member.
 abbrev pub by_default : DefaultMembers → Option ℕ → List Package → Result (List ℕ) LoadFault
 by_default Unwritten root packages = Ok (root_or_members root packages)
-by_default (Named places) root packages = Ok places
+by_default (Named indices) root packages = Ok indices
 by_default Unknown root packages = Err NoSuchPackage
 
 -- The indices of the packages to build. With `--workspace` these are all members. Otherwise `-p`
@@ -73,8 +73,8 @@ abbrev pub feature_words : List ℕ → List (List ℕ)
 feature_words text = flat_map spaced_words (slice_split (λ b. b == comma) text)
 
 abbrev pub selection_of : Options → List ℕ → Selection
-selection_of o places = record {
-  packages = places;
+selection_of o indices = record {
+  packages = indices;
   features = flat_map feature_words o.features;
   all_features = o.all_features;
   no_default_features = o.no_default_features;
@@ -85,4 +85,4 @@ selection_of o places = record {
 
 -- what the options select in the workspace, or the fault for which they are refused
 abbrev pub selected : Workspace → Options → Result Selection LoadFault
-selected ws o = selected_packages ws o.workspace o.packages >>= (λ places. Ok (selection_of o places))
+selected ws o = selected_packages ws o.workspace o.packages >>= (λ indices. Ok (selection_of o indices))

@@ -6,8 +6,8 @@ ghost use Rattle.pb_workspace.specs.Assembled.{entry_at, package_at, packages_of
 ghost use Rattle.pb_workspace.specs.Members.{means, parts_match, parts_meant};
 ghost use Rattle.pb_workspace_package.specs.Between.{names_in};
 ghost use Rattle.pb_workspace.specs.ByFolder.{value_of};
-ghost use Rattle.pb_workspace.specs.Places.{places_of};
-ghost use Rattle.pb_workspace.specs.Selected.{places_where};
+ghost use Rattle.pb_workspace.specs.Indices.{indices_of};
+ghost use Rattle.pb_workspace.specs.Selected.{indices_where};
 
 use crate::by_folder::ByFolder;
 use crate::glob::is_glob;
@@ -21,20 +21,20 @@ use pb_workspace_types::{DefaultMembers, EntriesByKey, Entry, Package, Workspace
 use std::alloc::{AllocError, Global};
 
 /// Returns the index of the package of a folder.
-fn place_in(places: &ByFolder<usize>, folder: &PathText) -> Option<usize>
-    ensures { result ≡ value_of folder.now places.now }
+fn index_in(indices: &ByFolder<usize>, folder: &PathText) -> Option<usize>
+    ensures { result ≡ value_of folder.now indices.now }
 {
-    match places.get(folder) {
-        Some(place) => Some(*place),
+    match indices.get(folder) {
+        Some(index) => Some(*index),
         None => None,
     }
 }
 
 /// Returns an entry with the index of its package.
-fn entry_at(places: &ByFolder<usize>, wanted: Wanted) -> Entry
-    ensures { result ≡ entry_at places.now wanted }
+fn entry_at(indices: &ByFolder<usize>, wanted: Wanted) -> Entry
+    ensures { result ≡ entry_at indices.now wanted }
 {
-    let to = place_in(places, &wanted.folder).unwrap_or(0);
+    let to = index_in(indices, &wanted.folder).unwrap_or(0);
     Entry {
         key: wanted.key,
         kind: wanted.kind,
@@ -49,14 +49,14 @@ fn entry_at(places: &ByFolder<usize>, wanted: Wanted) -> Entry
 /// Returns entries with the indices of their packages.
 fn entries_of(
     alloc: Global,
-    places: &ByFolder<usize>,
+    indices: &ByFolder<usize>,
     wanted: Items<Wanted>,
 ) -> Result<Items<Entry>, AllocError>
-    ensures { IfOk result (λ entries. entries ≡ map (entry_at places.now) wanted) }
+    ensures { IfOk result (λ entries. entries ≡ map (entry_at indices.now) wanted) }
 {
     let mut entries = Items::new(alloc);
     for one in wanted.into_vec() {
-        entries.push(entry_at(places, one))?;
+        entries.push(entry_at(indices, one))?;
     }
     Ok(entries)
 }
@@ -65,23 +65,23 @@ fn entries_of(
 /// are written.
 fn entries_in_order(
     alloc: Global,
-    places: &ByFolder<usize>,
+    indices: &ByFolder<usize>,
     wanted: WantedByKey,
 ) -> Result<EntriesByKey, AllocError>
-    ensures { IfOk result (λ entries. entries ≡ map (entry_at places.now) wanted) }
+    ensures { IfOk result (λ entries. entries ≡ map (entry_at indices.now) wanted) }
 {
     let wanted = wanted.into_items();
-    let entries = entries_of(alloc, places, wanted)?;
+    let entries = entries_of(alloc, indices, wanted)?;
     Ok(EntriesByKey::from_items(entries))
 }
 
 /// Returns a package whose entries have the indices of the packages to which they lead.
 fn package_at(
     alloc: Global,
-    places: &ByFolder<usize>,
+    indices: &ByFolder<usize>,
     draft: UnresolvedPackage,
 ) -> Result<Package, AllocError>
-    ensures { IfOk result (λ made. made ≡ package_at places.now draft) }
+    ensures { IfOk result (λ made. made ≡ package_at indices.now draft) }
 {
     let UnresolvedPackage {
         folder,
@@ -100,7 +100,7 @@ fn package_at(
         development,
         has_same_binaries: _,
     } = draft;
-    entries_in_order(alloc, places, wanted).map(|entries| Package {
+    entries_in_order(alloc, indices, wanted).map(|entries| Package {
         name,
         version,
         edition,
@@ -121,14 +121,14 @@ fn package_at(
 /// Returns packages whose entries have the indices of the packages to which they lead.
 fn packages_of(
     alloc: Global,
-    places: &ByFolder<usize>,
+    indices: &ByFolder<usize>,
     drafts: Items<UnresolvedPackage>,
 ) -> Result<Items<Package>, AllocError>
-    ensures { IfOk result (λ made. made ≡ map (package_at places.now) drafts) }
+    ensures { IfOk result (λ made. made ≡ map (package_at indices.now) drafts) }
 {
     let mut made = Items::new(alloc);
     for draft in drafts.into_vec() {
-        made.push(package_at(alloc, places, draft)?)?;
+        made.push(package_at(alloc, indices, draft)?)?;
     }
     Ok(made)
 }
@@ -202,22 +202,22 @@ fn is_default(
 }
 
 /// Returns the indices of the members that the texts mean.
-fn default_places(
+fn default_indices(
     alloc: Global,
     root: &PathText,
     packages: &[Package],
     texts: &[WrittenPath],
 ) -> Result<Items<usize>, AllocError>
     ensures { IfOk result
-        (λ places. places ≡ places_where (is_default root.now texts.now) packages.now) }
+        (λ indices. indices ≡ indices_where (is_default root.now texts.now) packages.now) }
 {
-    let mut places = Items::new(alloc);
-    for (place, member) in packages.iter().enumerate() {
+    let mut indices = Items::new(alloc);
+    for (index, member) in packages.iter().enumerate() {
         if is_default(alloc, root, texts, member)? {
-            places.push(place)?;
+            indices.push(index)?;
         }
     }
-    Ok(places)
+    Ok(indices)
 }
 
 /// Returns the default members of these packages, as `default-members` lists them.
@@ -237,8 +237,8 @@ fn default_members_of(
     if !all_known(alloc, root, packages, texts)? {
         return Ok(DefaultMembers::Unknown);
     }
-    let places = default_places(alloc, root, packages, texts)?;
-    Ok(DefaultMembers::Named(places))
+    let indices = default_indices(alloc, root, packages, texts)?;
+    Ok(DefaultMembers::Named(indices))
 }
 
 /// Returns these packages, with the indices of the packages to which their entries lead, and their
@@ -246,15 +246,15 @@ fn default_members_of(
 fn members_of(
     alloc: Global,
     frame: &WorkspaceRoot,
-    places: &ByFolder<usize>,
+    indices: &ByFolder<usize>,
     drafts: Items<UnresolvedPackage>,
 ) -> Result<(Items<Package>, DefaultMembers), AllocError>
-    requires { places.now ≡ places_of drafts }
+    requires { indices.now ≡ indices_of drafts }
     ensures packages { IfOk result (λ made. made.0 ≡ packages_of drafts) }
     ensures defaults { IfOk result (λ made. made.1
         ≡ default_members_of frame.now.root (packages_of drafts) frame.now.default_members) }
 {
-    let packages = packages_of(alloc, places, drafts)?;
+    let packages = packages_of(alloc, indices, drafts)?;
     let default_members = default_members_of(
         alloc,
         &frame.root,
@@ -282,15 +282,15 @@ pub fn assemble(
     target: &PathText,
     frame: &WorkspaceRoot,
     profiles: Items<Profile>,
-    places: &ByFolder<usize>,
+    indices: &ByFolder<usize>,
     drafts: Items<UnresolvedPackage>,
 ) -> Result<Workspace, AllocError>
-    requires { places.now ≡ places_of drafts }
+    requires { indices.now ≡ indices_of drafts }
     ensures { IfOk result (λ made. made ≡ assembled target.now frame.now profiles drafts) }
 {
-    let root_package = place_in(places, &frame.root);
+    let root_package = index_in(indices, &frame.root);
     let (root, target) = both(alloc, &frame.root, target)?;
-    let (packages, default_members) = members_of(alloc, frame, places, drafts)?;
+    let (packages, default_members) = members_of(alloc, frame, indices, drafts)?;
     Ok(Workspace {
         root,
         target,

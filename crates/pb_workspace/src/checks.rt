@@ -5,12 +5,12 @@ ghost use Rattle.std.specs.List.{filter_map, list_any};
 ghost use Rattle.pb_workspace_package.specs.Causes.{is_failure};
 ghost use Rattle.pb_workspace_package.specs.declared.unresolved_package.UnresolvedPackage.{UnresolvedPackage};
 ghost use Rattle.pb_workspace.specs.Checks.{has_same_names, has_other_name, matches_if, has_other_version, some_leads, links_twice, links_without_script, fault_of};
-ghost use Rattle.pb_workspace.specs.Places.{places_of, draft_in};
+ghost use Rattle.pb_workspace.specs.Indices.{indices_of, draft_in};
 ghost use Rattle.pb_workspace_package.specs.Settling.{comes_again};
 ghost use Rattle.pb_workspace_package.specs.declared.wanted.Wanted.{Wanted};
 
 use crate::by_folder::ByFolder;
-use crate::places::draft_in;
+use crate::indices::draft_in;
 use pb_data::OrderedSet;
 use pb_manifest_types::{Requirement, Version};
 use pb_workspace_package::{UnresolvedPackage, Wanted, was_mentioned};
@@ -90,13 +90,13 @@ fn matches_if(requirement: &Option<Requirement>, version: &Version) -> bool
 /// Returns whether an entry leads to a package that does not have the requested name.
 fn leads_to_other_name(
     drafts: &[UnresolvedPackage],
-    places: &ByFolder<usize>,
+    indices: &ByFolder<usize>,
     wanted: &Wanted,
 ) -> bool
-    requires { places.now ≡ places_of drafts.now }
+    requires { indices.now ≡ indices_of drafts.now }
     ensures { result ≡ has_other_name wanted.now (draft_in drafts.now wanted.now.folder) }
 {
-    match draft_in(drafts, places, &wanted.folder) {
+    match draft_in(drafts, indices, &wanted.folder) {
         Some(draft) => wanted.name != draft.name,
         None => true,
     }
@@ -106,26 +106,30 @@ fn leads_to_other_name(
 /// requirement.
 fn leads_to_other_version(
     drafts: &[UnresolvedPackage],
-    places: &ByFolder<usize>,
+    indices: &ByFolder<usize>,
     wanted: &Wanted,
 ) -> bool
-    requires { places.now ≡ places_of drafts.now }
+    requires { indices.now ≡ indices_of drafts.now }
     ensures { result ≡ has_other_version wanted.now (draft_in drafts.now wanted.now.folder) }
 {
-    match draft_in(drafts, places, &wanted.folder) {
+    match draft_in(drafts, indices, &wanted.folder) {
         Some(draft) => !matches_if(&wanted.version, &draft.version),
         None => true,
     }
 }
 
 /// Returns whether one of these entries leads to a package that does not have the requested name.
-fn one_other_name(drafts: &[UnresolvedPackage], places: &ByFolder<usize>, wanted: &[Wanted]) -> bool
-    requires { places.now ≡ places_of drafts.now }
+fn one_other_name(
+    drafts: &[UnresolvedPackage],
+    indices: &ByFolder<usize>,
+    wanted: &[Wanted],
+) -> bool
+    requires { indices.now ≡ indices_of drafts.now }
     ensures { result
         ≡ list_any (λ (w : Wanted). has_other_name w (draft_in drafts.now w.folder)) wanted.now }
 {
     for one in wanted {
-        if leads_to_other_name(drafts, places, one) {
+        if leads_to_other_name(drafts, indices, one) {
             return true;
         }
     }
@@ -134,12 +138,12 @@ fn one_other_name(drafts: &[UnresolvedPackage], places: &ByFolder<usize>, wanted
 
 /// Returns whether an entry of some package leads to a package that does not have the requested
 /// name.
-fn some_other_name(drafts: &[UnresolvedPackage], places: &ByFolder<usize>) -> bool
-    requires { places.now ≡ places_of drafts.now }
+fn some_other_name(drafts: &[UnresolvedPackage], indices: &ByFolder<usize>) -> bool
+    requires { indices.now ≡ indices_of drafts.now }
     ensures { result ≡ some_leads has_other_name drafts.now }
 {
     for draft in drafts {
-        if one_other_name(drafts, places, draft.wanted.as_slice()) {
+        if one_other_name(drafts, indices, draft.wanted.as_slice()) {
             return true;
         }
     }
@@ -150,15 +154,15 @@ fn some_other_name(drafts: &[UnresolvedPackage], places: &ByFolder<usize>) -> bo
 /// requirement.
 fn one_other_version(
     drafts: &[UnresolvedPackage],
-    places: &ByFolder<usize>,
+    indices: &ByFolder<usize>,
     wanted: &[Wanted],
 ) -> bool
-    requires { places.now ≡ places_of drafts.now }
+    requires { indices.now ≡ indices_of drafts.now }
     ensures { result
         ≡ list_any (λ (w : Wanted). has_other_version w (draft_in drafts.now w.folder)) wanted.now }
 {
     for one in wanted {
-        if leads_to_other_version(drafts, places, one) {
+        if leads_to_other_version(drafts, indices, one) {
             return true;
         }
     }
@@ -167,12 +171,12 @@ fn one_other_version(
 
 /// Returns whether an entry of some package leads to a package whose version does not match the
 /// entry's requirement.
-fn some_other_version(drafts: &[UnresolvedPackage], places: &ByFolder<usize>) -> bool
-    requires { places.now ≡ places_of drafts.now }
+fn some_other_version(drafts: &[UnresolvedPackage], indices: &ByFolder<usize>) -> bool
+    requires { indices.now ≡ indices_of drafts.now }
     ensures { result ≡ some_leads has_other_version drafts.now }
 {
     for draft in drafts {
-        if one_other_version(drafts, places, draft.wanted.as_slice()) {
+        if one_other_version(drafts, indices, draft.wanted.as_slice()) {
             return true;
         }
     }
@@ -208,19 +212,19 @@ fn some_same_binaries(drafts: &[UnresolvedPackage]) -> bool
 pub fn fault_of(
     alloc: Global,
     drafts: &[UnresolvedPackage],
-    places: &ByFolder<usize>,
+    indices: &ByFolder<usize>,
 ) -> Result<Option<LoadFault>, AllocError>
-    requires { places.now ≡ places_of drafts.now }
+    requires { indices.now ≡ indices_of drafts.now }
     ensures fault { IfOk result (λ fault. fault ≡ fault_of drafts.now) }
     ensures here { IfOk result (λ fault. IfSome fault (λ e. is_failure e ≡ false)) }
 {
     if has_same_names(alloc, drafts)? {
         return Ok(Some(LoadFault::SameName));
     }
-    if some_other_name(drafts, places) {
+    if some_other_name(drafts, indices) {
         return Ok(Some(LoadFault::NameMismatch));
     }
-    if some_other_version(drafts, places) {
+    if some_other_version(drafts, indices) {
         return Ok(Some(LoadFault::VersionMismatch));
     }
     if links_twice(alloc, drafts)? {

@@ -145,8 +145,8 @@ fn row_of(alloc: Global, pattern: &[u8], name: &[u8]) -> Result<Row, AllocError>
     let before = backwards(alloc, name)?;
     let mut row = last_row(alloc, before.as_slice())?;
     for done in 0..pattern.len() {
-        let place = pattern.len() - 1 - done;
-        row = next_row(alloc, pattern[place], &row)?;
+        let index = pattern.len() - 1 - done;
+        row = next_row(alloc, pattern[index], &row)?;
     }
     Ok(row)
 }

@@ -18,9 +18,9 @@ ghost use Rattle.pb_workspace.specs.NormalPaths.{HasNormalPaths};
 use crate::assembled::assemble;
 use crate::by_folder::ByFolder;
 use crate::checks::fault_of;
+use crate::indices::indices_of;
 use crate::member_folders::{is_manifest, member_folders};
 use crate::normal_paths::workspace_has_paths;
-use crate::places::places_of;
 use crate::rounds::{
     LoadState, MAX_ROUNDS, Parts, all_read, no_manifest, parts_at, rounds, with_draft,
 };
@@ -211,11 +211,11 @@ fn workspace_from(
         (workspace_from target.now frame.now profiles drafts) }
     ensures here { IfErr result (λ e. is_failure e ≡ false) }
 {
-    let places = places_of(alloc, drafts.as_slice())?;
-    if let Some(fault) = fault_of(alloc, drafts.as_slice(), &places)? {
+    let indices = indices_of(alloc, drafts.as_slice())?;
+    if let Some(fault) = fault_of(alloc, drafts.as_slice(), &indices)? {
         return Err(fault);
     }
-    let made = assemble(alloc, target, frame, profiles, &places, drafts)?;
+    let made = assemble(alloc, target, frame, profiles, &indices, drafts)?;
     Ok(made)
 }
 

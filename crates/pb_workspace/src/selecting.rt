@@ -4,7 +4,7 @@ ghost use Rattle.std.specs.Prelude.{◌≡◌, ◌++◌, ◌==◌, IfOk, OnOk, m
 ghost use Rattle.std.specs.List.{flat_map, list_any, slice_split};
 ghost use Rattle.pb_data.specs.UnlessOom.{UnlessOom};
 ghost use Rattle.pb_data.specs.OrderedSet.{is_mentioned};
-ghost use Rattle.pb_workspace.specs.Selected.{places_where, members_of, is_member_named, is_named_member, name_members, named_members, root_or_members, by_default, selected_packages, spaced_words, feature_words, selection_of, selected};
+ghost use Rattle.pb_workspace.specs.Selected.{indices_where, members_of, is_member_named, is_named_member, name_members, named_members, root_or_members, by_default, selected_packages, spaced_words, feature_words, selection_of, selected};
 ghost use Rattle.pb_workspace_package.specs.Between.{is_word};
 ghost use Rattle.pb_workspace_types.specs.declared.fault.LoadFault.TheVariants as load_fault;
 
@@ -17,15 +17,15 @@ use std::alloc::{AllocError, Global};
 
 /// Returns the indices of all members.
 fn members_of(alloc: Global, packages: &[Package]) -> Result<Items<usize>, AllocError>
-    ensures { IfOk result (λ places. places ≡ members_of packages.now) }
+    ensures { IfOk result (λ indices. indices ≡ members_of packages.now) }
 {
-    let mut places = Items::new(alloc);
-    for (place, found) in packages.iter().enumerate() {
+    let mut indices = Items::new(alloc);
+    for (index, found) in packages.iter().enumerate() {
         if found.is_member {
-            places.push(place)?;
+            indices.push(index)?;
         }
     }
-    Ok(places)
+    Ok(indices)
 }
 
 /// Returns whether a package is a member with this name.
@@ -70,15 +70,15 @@ fn members_named(
     packages: &[Package],
 ) -> Result<Items<usize>, AllocError>
     ensures { IfOk result
-        (λ places. places ≡ places_where (is_named_member names.now) packages.now) }
+        (λ indices. indices ≡ indices_where (is_named_member names.now) packages.now) }
 {
-    let mut places = Items::new(alloc);
-    for (place, found) in packages.iter().enumerate() {
+    let mut indices = Items::new(alloc);
+    for (index, found) in packages.iter().enumerate() {
         if is_named_member(names, found) {
-            places.push(place)?;
+            indices.push(index)?;
         }
     }
-    Ok(places)
+    Ok(indices)
 }
 
 /// Returns the indices of the members with these names. Each name must be the name of a member.
@@ -87,14 +87,14 @@ fn named_members(
     names: &[Text],
     packages: &[Package],
 ) -> Result<Items<usize>, LoadFault>
-    ensures { UnlessOom load_fault.OutOfMemory (λ places. places) result
+    ensures { UnlessOom load_fault.OutOfMemory (λ indices. indices) result
         (named_members names.now packages.now) }
 {
     if !name_members(names, packages) {
         return Err(LoadFault::NoSuchPackage);
     }
-    let places = members_named(alloc, names, packages)?;
-    Ok(places)
+    let indices = members_named(alloc, names, packages)?;
+    Ok(indices)
 }
 
 /// Returns the index of the root package, or the indices of all members if there is no root
@@ -104,43 +104,43 @@ fn root_or_members(
     root: Option<usize>,
     packages: &[Package],
 ) -> Result<Items<usize>, AllocError>
-    ensures { IfOk result (λ places. places ≡ root_or_members root packages.now) }
+    ensures { IfOk result (λ indices. indices ≡ root_or_members root packages.now) }
 {
     match root {
         None => members_of(alloc, packages),
-        Some(place) => {
-            let mut places = Items::new(alloc);
-            places.push(place)?;
-            Ok(places)
+        Some(index) => {
+            let mut indices = Items::new(alloc);
+            indices.push(index)?;
+            Ok(indices)
         }
     }
 }
 
 /// Returns the packages that are selected if the options name no package.
 fn by_default(alloc: Global, workspace: &Workspace) -> Result<Items<usize>, LoadFault>
-    ensures { UnlessOom load_fault.OutOfMemory (λ places. places) result
+    ensures { UnlessOom load_fault.OutOfMemory (λ indices. indices) result
         (by_default workspace.now.default_members workspace.now.root_package
         workspace.now.packages) }
 {
     match &workspace.default_members {
         DefaultMembers::Unwritten => {
             let packages = workspace.packages.as_slice();
-            let places = root_or_members(alloc, workspace.root_package, packages)?;
-            Ok(places)
+            let indices = root_or_members(alloc, workspace.root_package, packages)?;
+            Ok(indices)
         }
-        DefaultMembers::Named(places) => {
-            let places = copy_indices(alloc, places.as_slice())?;
-            Ok(places)
+        DefaultMembers::Named(indices) => {
+            let indices = copy_indices(alloc, indices.as_slice())?;
+            Ok(indices)
         }
         DefaultMembers::Unknown => Err(LoadFault::NoSuchPackage),
     }
 }
 
 /// Returns a copy of these indices.
-fn copy_indices(alloc: Global, places: &[usize]) -> Result<Items<usize>, AllocError>
-    ensures { IfOk result (λ made. made ≡ places.now) }
+fn copy_indices(alloc: Global, indices: &[usize]) -> Result<Items<usize>, AllocError>
+    ensures { IfOk result (λ made. made ≡ indices.now) }
 {
-    Ok(Items::from_vec(places.to_vec(alloc)?))
+    Ok(Items::from_vec(indices.to_vec(alloc)?))
 }
 
 /// Returns the indices of the selected packages.
@@ -149,13 +149,13 @@ fn selected_packages(
     workspace: &Workspace,
     options: &Options,
 ) -> Result<Items<usize>, LoadFault>
-    ensures { UnlessOom load_fault.OutOfMemory (λ places. places) result
+    ensures { UnlessOom load_fault.OutOfMemory (λ indices. indices) result
         (selected_packages workspace.now options.now.workspace options.now.packages) }
 {
     let packages = workspace.packages.as_slice();
     if options.workspace {
-        let places = members_of(alloc, packages)?;
-        return Ok(places);
+        let indices = members_of(alloc, packages)?;
+        return Ok(indices);
     }
     if !options.packages.is_empty() {
         return named_members(alloc, options.packages.as_slice(), packages);

@@ -17,9 +17,9 @@ use Rattle.pb_workspace_package.specs.Settling.{discovered, has_same_binaries}
 use Rattle.pb_workspace.proofs.Keeping.{none_again}
 use Rattle.pb_workspace_package.proofs.Puttings.{map_twice}
 use Rattle.pb_workspace.proofs.WholeWorkspace.{map_only, map_each}
-use Rattle.pb_workspace_laws.specs.Binaries.{in_bin, places, source_of, IsBinary, written, found}
+use Rattle.pb_workspace_laws.specs.Binaries.{in_bin, source_paths, source_of, IsBinary, written, found}
 use Rattle.pb_workspace_laws.specs.Files.{is_file, first_file}
-use Rattle.pb_workspace_laws.proofs.BinPlaces.{place_in}
+use Rattle.pb_workspace_laws.proofs.BinPaths.{path_in}
 use Rattle.pb_workspace_laws.proofs.Binaries.{Bins, rises_on, put_or_old, stays, stands, nothing_rises, IsFirst, found_so, found_first, first_found}
 use Rattle.pb_workspace_laws.proofs.Sorting.{Name, Rises, names}
 
@@ -28,25 +28,25 @@ module _ (sources : World) (folder : List ℕ) where
   abbrev at_path : Bool → List ℕ → Option (List ℕ)
   at_path b name = if b then Some (below folder name) else None
 
-  with_main : (name : List ℕ) (a b c : Bool) → unwrap_or (first_some (at_path a main_source) (first_some (at_path b (place_in false name)) (at_path c (place_in true name)))) (below folder main_source)
-      ≡ below folder (unwrap_or (cond a (Some main_source) (cond b (Some (place_in false name)) (cond c (Some (place_in true name)) None))) main_source)
+  with_main : (name : List ℕ) (a b c : Bool) → unwrap_or (first_some (at_path a main_source) (first_some (at_path b (path_in false name)) (at_path c (path_in true name)))) (below folder main_source)
+      ≡ below folder (unwrap_or (cond a (Some main_source) (cond b (Some (path_in false name)) (cond c (Some (path_in true name)) None))) main_source)
   with_main name true b c = refl
   with_main name false true c = refl
   with_main name false false true = refl
   with_main name false false false = refl
 
-  without_main : (name : List ℕ) (b c : Bool) → unwrap_or (first_some (at_path b (place_in false name)) (at_path c (place_in true name))) (below folder (place_in false name))
-      ≡ below folder (unwrap_or (cond b (Some (place_in false name)) (cond c (Some (place_in true name)) None)) (place_in false name))
+  without_main : (name : List ℕ) (b c : Bool) → unwrap_or (first_some (at_path b (path_in false name)) (at_path c (path_in true name))) (below folder (path_in false name))
+      ≡ below folder (unwrap_or (cond b (Some (path_in false name)) (cond c (Some (path_in true name)) None)) (path_in false name))
   without_main name true c = refl
   without_main name false true = refl
   without_main name false false = refl
 
   looked_so : (name : List ℕ) (own : Bool) → looked_for folder sources own name
       ≡ below folder (unwrap_or (first_file sources folder (if own then codes "src/main.rs" ∷ in_bin name else in_bin name)) (get_or (if own then codes "src/main.rs" ∷ in_bin name else in_bin name) 0 []))
-  looked_so name true = with_main name (is_file sources folder main_source) (is_file sources folder (place_in false name)) (is_file sources folder (place_in true name))
-  looked_so name false = without_main name (is_file sources folder (place_in false name)) (is_file sources folder (place_in true name))
+  looked_so name true = with_main name (is_file sources folder main_source) (is_file sources folder (path_in false name)) (is_file sources folder (path_in true name))
+  looked_so name false = without_main name (is_file sources folder (path_in false name)) (is_file sources folder (path_in true name))
 
-  source_so : (package_name name : List ℕ) (path : Option (List ℕ)) → binary_source folder sources package_name name path ≡ source_of sources folder (places package_name name) path
+  source_so : (package_name name : List ℕ) (path : Option (List ℕ)) → binary_source folder sources package_name name path ≡ source_of sources folder (source_paths package_name name) path
   source_so package_name name (Some path) = refl
   source_so package_name name None = looked_so name (bytes_eq name package_name)
 
@@ -96,7 +96,7 @@ module _ (sources : World) (folder : List ℕ) (paths : FilesHavePaths sources) 
   is_found e false at there unwritten = absurd (none e there)
   is_found e true at there unwritten =
       let f = found_first sources folder paths w.name letters_are e (subst (λ (es : Bins). Contains es e) (found_so sources folder paths w.name letters_are) there) in
-      found at (ap letters.is_name (sym f.0) ∙ f.1.letters_of) unwritten f.1.place (ap (λ n. first_file sources folder (places w.name n)) (sym f.0) ∙ f.1.is) f.1.source f.1.features
+      found at (ap letters.is_name (sym f.0) ∙ f.1.letters_of) unwritten f.1.relative (ap (λ n. first_file sources folder (source_paths w.name n)) (sym f.0) ∙ f.1.is) f.1.source f.1.features
 
   all_from : (b : Binary) → Contains all b → IsBinary sources folder m w b
   all_from b there =
@@ -122,8 +122,8 @@ module _ (sources : World) (folder : List ℕ) (paths : FilesHavePaths sources) 
       one c is same =
           let u = map_only (written_binary folder sources w.name) m.binaries c is in
           sym u.2 ∙ ap (written_binary folder sources w.name) (one_table m.binaries u.0 t distinct u.1 table (ap (λ (y : Binary). y.name) u.2 ∙ same))
-  all_to b (found wanted letters_of unwritten place first source features) =
-      let f : IsFirst sources folder paths w.name letters_are b = record { letters_of = letters_of; place = place; is = first; source = source; features = features } in
+  all_to b (found wanted letters_of unwritten relative first source features) =
+      let f : IsFirst sources folder paths w.name letters_are b = record { letters_of = letters_of; relative = relative; is = first; source = source; features = features } in
       let there : Contains (with_binaries [] (found_binaries folder sources w.name)) (b.name, b) = subst (λ (es : Bins). Contains es (b.name, b)) (sym (found_so sources folder paths w.name letters_are)) (first_found sources folder paths w.name letters_are b f) in
       let here : Contains before (b.name, b) = subst (λ r. Contains (with_binaries [] (discovered folder sources w.name r)) (b.name, b)) (sym wanted) there in
       map_each binary_of (with_binaries before table_list) (b.name, b) (stays before table_list b.name b here none_written)

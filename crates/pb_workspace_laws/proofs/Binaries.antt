@@ -11,9 +11,9 @@ use Rattle.pb_place_types.specs.World.{World, FilesHavePaths}
 use Rattle.pb_workspace_package.specs.Binaries.{main_source, with_binaries}
 use Rattle.pb_workspace_package.specs.FoundBinaries.{main_binary, found_binaries}
 use Rattle.pb_workspace_package.specs.Sources.{own_source}
-use Rattle.pb_workspace_laws.specs.Binaries.{in_bin, places}
+use Rattle.pb_workspace_laws.specs.Binaries.{in_bin, source_paths}
 use Rattle.pb_workspace_laws.specs.Files.{is_file, first_file}
-use Rattle.pb_workspace_laws.proofs.BinPlaces.{place_in, list_in, found_to, found_from}
+use Rattle.pb_workspace_laws.proofs.BinPaths.{path_in, list_in, found_to, found_from}
 use Rattle.pb_workspace_laws.proofs.Sorting.{Name, Rises, names, put, put_rises, put_new, put_old, put_from}
 
 abbrev pub Bins : Type 0
@@ -76,7 +76,7 @@ nothing_rises = tt
 
 module _ (sources : World) (folder : List ℕ) (paths : FilesHavePaths sources) (package_name : List ℕ) (letters_are : letters.is_name package_name ≡ true) where
   abbrev pub is_one : Bool → Name → Bool
-  is_one nested name = is_file sources folder (place_in nested name)
+  is_one nested name = is_file sources folder (path_in nested name)
 
   abbrev pub has_main : Bool
   has_main = is_file sources folder (codes "src/main.rs")
@@ -91,11 +91,11 @@ module _ (sources : World) (folder : List ℕ) (paths : FilesHavePaths sources) 
   main_list = main_binary package_name (own_source folder sources main_source)
 
   abbrev pub first : Name → Option (List ℕ)
-  first name = first_file sources folder (places package_name name)
+  first name = first_file sources folder (source_paths package_name name)
 
-  -- which place is the first
+  -- which index is the first
   abbrev chosen : Bool → Bool → Bool → Bool → Name → Option (List ℕ)
-  chosen own a b c name = (if own then cond a (Some (codes "src/main.rs")) (cond b (Some (place_in false name)) (cond c (Some (place_in true name)) None)) else cond b (Some (place_in false name)) (cond c (Some (place_in true name)) None))
+  chosen own a b c name = (if own then cond a (Some (codes "src/main.rs")) (cond b (Some (path_in false name)) (cond c (Some (path_in true name)) None)) else cond b (Some (path_in false name)) (cond c (Some (path_in true name)) None))
 
   first_is : (name : Name) → first name ≡ chosen (bytes_eq name package_name) has_main (is_one false name) (is_one true name) name
   first_is name = by (bytes_eq name package_name)
@@ -104,12 +104,12 @@ module _ (sources : World) (folder : List ℕ) (paths : FilesHavePaths sources) 
       by true = refl
       by false = refl
 
-  -- a binary that is found in its first place
+  -- a binary that is found in its first index
   pub record IsFirst (b : Binary) : Type 0 where
     pub letters_of : letters.is_name b.name ≡ true
-    pub place : List ℕ
-    pub is : first b.name ≡ Some place
-    pub source : b.source ≡ below folder place
+    pub relative : List ℕ
+    pub is : first b.name ≡ Some relative
+    pub source : b.source ≡ below folder relative
     pub features : b.required_features ≡ []
 
   main_is : (b : Binary) → Contains main_list b → (has_main ≡ true) × (b.name ≡ package_name) × (b.source ≡ below folder (codes "src/main.rs")) × (b.required_features ≡ [])
@@ -133,7 +133,7 @@ module _ (sources : World) (folder : List ℕ) (paths : FilesHavePaths sources) 
   one_found nested b c there other same =
       let f = found_from sources folder nested b paths there in
       let g = found_from sources folder nested c paths other in
-      let source : b.source ≡ c.source = f.source ∙ ap (λ n. below folder (place_in nested n)) same ∙ sym g.source in
+      let source : b.source ≡ c.source = f.source ∙ ap (λ n. below folder (path_in nested n)) same ∙ sym g.source in
       let features : b.required_features ≡ c.required_features = f.features ∙ sym g.features in
       λ i. record { name = same i; source = source i; required_features = features i }
 
@@ -158,7 +158,7 @@ module _ (sources : World) (folder : List ℕ) (paths : FilesHavePaths sources) 
   found_rises : Rises (names found_all)
   found_rises = rises_on (with_binaries (with_binaries [] nested_list) flat_list) main_list two_rise
 
-  -- no other place comes before
+  -- no other index comes before
   no_main : (name : Name) → Unnamed name main_list → bytes_eq name package_name ≡ true → has_main ≡ false
   no_main name unnamed own = by has_main refl
     where
@@ -170,14 +170,14 @@ module _ (sources : World) (folder : List ℕ) (paths : FilesHavePaths sources) 
   no_flat name named unnamed = by (is_one false name) refl
     where
       by : (r : Bool) → is_one false name ≡ r → r ≡ false
-      by true at = absurd (unnamed (record { name = name; source = below folder (place_in false name); required_features = [] })
-          (found_to sources folder false (record { name = name; source = below folder (place_in false name); required_features = [] }) (record { letters_are = named; file = at; source = refl; features = refl })) refl)
+      by true at = absurd (unnamed (record { name = name; source = below folder (path_in false name); required_features = [] })
+          (found_to sources folder false (record { name = name; source = below folder (path_in false name); required_features = [] }) (record { letters_are = named; file = at; source = refl; features = refl })) refl)
       by false at = refl
 
-  after_main : (name : Name) (own a b c : Bool) (place : List ℕ) → (own ≡ true → a ≡ false) → cond b (Some (place_in false name)) (cond c (Some (place_in true name)) None) ≡ Some place → chosen own a b c name ≡ Some place
-  after_main name true true b c place off is = let clash : true ≡ false = off refl in cc
-  after_main name true false b c place off is = is
-  after_main name false a b c place off is = is
+  after_main : (name : Name) (own a b c : Bool) (relative : List ℕ) → (own ≡ true → a ≡ false) → cond b (Some (path_in false name)) (cond c (Some (path_in true name)) None) ≡ Some relative → chosen own a b c name ≡ Some relative
+  after_main name true true b c relative off is = let clash : true ≡ false = off refl in cc
+  after_main name true false b c relative off is = is
+  after_main name false a b c relative off is = is
 
   pub found_first : (e : Name × Binary) → Contains found_all e → (e.1.name ≡ e.0) × IsFirst e.1
   found_first e there = elim (put_or_old (with_binaries (with_binaries [] nested_list) flat_list) main_list e two_rise there) [
@@ -197,7 +197,7 @@ module _ (sources : World) (folder : List ℕ) (paths : FilesHavePaths sources) 
           let own : bytes_eq e.1.name package_name ≡ true = (bytes_eq-Decides e.1.name package_name).1 m.1 in
           record {
             letters_of = ap letters.is_name m.1 ∙ letters_are;
-            place = codes "src/main.rs";
+            relative = codes "src/main.rs";
             is = first_is e.1.name ∙ (λ i. chosen (own i) (m.0 i) (is_one false e.1.name) (is_one true e.1.name) e.1.name);
             source = m.2;
             features = m.3;
@@ -208,9 +208,9 @@ module _ (sources : World) (folder : List ℕ) (paths : FilesHavePaths sources) 
           let f = found_from sources folder false e.1 paths is in
           record {
             letters_of = f.letters_are;
-            place = place_in false e.1.name;
-            is = first_is e.1.name ∙ after_main e.1.name (bytes_eq e.1.name package_name) has_main (is_one false e.1.name) (is_one true e.1.name) (place_in false e.1.name) (no_main e.1.name none_main)
-                (ap (λ b. cond b (Some (place_in false e.1.name)) (cond (is_one true e.1.name) (Some (place_in true e.1.name)) None)) f.file);
+            relative = path_in false e.1.name;
+            is = first_is e.1.name ∙ after_main e.1.name (bytes_eq e.1.name package_name) has_main (is_one false e.1.name) (is_one true e.1.name) (path_in false e.1.name) (no_main e.1.name none_main)
+                (ap (λ b. cond b (Some (path_in false e.1.name)) (cond (is_one true e.1.name) (Some (path_in true e.1.name)) None)) f.file);
             source = f.source;
             features = f.features;
           }
@@ -220,19 +220,19 @@ module _ (sources : World) (folder : List ℕ) (paths : FilesHavePaths sources) 
           let f = found_from sources folder true e.1 paths is in
           record {
             letters_of = f.letters_are;
-            place = place_in true e.1.name;
-            is = first_is e.1.name ∙ after_main e.1.name (bytes_eq e.1.name package_name) has_main (is_one false e.1.name) (is_one true e.1.name) (place_in true e.1.name) (no_main e.1.name none_main)
-                (λ i. cond (no_flat e.1.name f.letters_are none_flat i) (Some (place_in false e.1.name)) (cond (f.file i) (Some (place_in true e.1.name)) None));
+            relative = path_in true e.1.name;
+            is = first_is e.1.name ∙ after_main e.1.name (bytes_eq e.1.name package_name) has_main (is_one false e.1.name) (is_one true e.1.name) (path_in true e.1.name) (no_main e.1.name none_main)
+                (λ i. cond (no_flat e.1.name f.letters_are none_flat i) (Some (path_in false e.1.name)) (cond (f.file i) (Some (path_in true e.1.name)) None));
             source = f.source;
             features = f.features;
           }
 
-  -- and each that is in its first place is found
+  -- and each that is in its first index is found
   pub first_found : (b : Binary) → IsFirst b → Contains found_all (b.name, b)
   first_found b f = by (bytes_eq b.name package_name) has_main (is_one false b.name) (is_one true b.name) refl refl refl refl (sym (first_is b.name) ∙ f.is)
     where
-      at_place : (place : List ℕ) → place ≡ f.place → b.source ≡ below folder place
-      at_place place same = f.source ∙ ap (below folder) (sym same)
+      at_index : (relative : List ℕ) → relative ≡ f.relative → b.source ≡ below folder relative
+      at_index relative same = f.source ∙ ap (below folder) (sym same)
 
       none_main : bytes_eq b.name package_name ≡ true → has_main ≡ false → (c : Binary) → Contains main_list c → c.name ≡ b.name → c ≡ b
       none_main own off c is same = let m = main_is c is in let clash : true ≡ false = sym m.0 ∙ off in cc
@@ -240,22 +240,22 @@ module _ (sources : World) (folder : List ℕ) (paths : FilesHavePaths sources) 
       other_main : bytes_eq b.name package_name ≡ false → (c : Binary) → Contains main_list c → c.name ≡ b.name → c ≡ b
       other_main other c is same = let m = main_is c is in let clash : true ≡ false = sym ((bytes_eq-Decides b.name package_name).1 (sym same ∙ m.1)) ∙ other in cc
 
-      of_main : bytes_eq b.name package_name ≡ true → has_main ≡ true → codes "src/main.rs" ≡ f.place → Contains found_all (b.name, b)
+      of_main : bytes_eq b.name package_name ≡ true → has_main ≡ true → codes "src/main.rs" ≡ f.relative → Contains found_all (b.name, b)
       of_main own on same =
           let named : b.name ≡ package_name = (bytes_eq-Decides b.name package_name).0 own in
-          let source : b.source ≡ below folder (codes "src/main.rs") = at_place (codes "src/main.rs") same in
+          let source : b.source ≡ below folder (codes "src/main.rs") = at_index (codes "src/main.rs") same in
           let made : record { name = package_name; source = below folder (codes "src/main.rs"); required_features = [] } ≡ b = λ i. record { name = sym named i; source = sym source i; required_features = sym f.features i } in
           let there : Contains main_list b = subst (Contains main_list) made (main_to on) in
           stands (with_binaries (with_binaries [] nested_list) flat_list) main_list b there (λ c is also. one_main c b is there)
 
-      of_flat : is_one false b.name ≡ true → place_in false b.name ≡ f.place → ((c : Binary) → Contains main_list c → c.name ≡ b.name → c ≡ b) → Contains found_all (b.name, b)
+      of_flat : is_one false b.name ≡ true → path_in false b.name ≡ f.relative → ((c : Binary) → Contains main_list c → c.name ≡ b.name → c ≡ b) → Contains found_all (b.name, b)
       of_flat on same rest =
-          let there : Contains flat_list b = found_to sources folder false b (record { letters_are = f.letters_of; file = on; source = at_place (place_in false b.name) same; features = f.features }) in
+          let there : Contains flat_list b = found_to sources folder false b (record { letters_are = f.letters_of; file = on; source = at_index (path_in false b.name) same; features = f.features }) in
           stays (with_binaries (with_binaries [] nested_list) flat_list) main_list b.name b (stands (with_binaries [] nested_list) flat_list b there (λ c is also. one_found false c b is there also)) rest
 
-      of_nested : is_one false b.name ≡ false → is_one true b.name ≡ true → place_in true b.name ≡ f.place → ((c : Binary) → Contains main_list c → c.name ≡ b.name → c ≡ b) → Contains found_all (b.name, b)
+      of_nested : is_one false b.name ≡ false → is_one true b.name ≡ true → path_in true b.name ≡ f.relative → ((c : Binary) → Contains main_list c → c.name ≡ b.name → c ≡ b) → Contains found_all (b.name, b)
       of_nested off on same rest =
-          let there : Contains nested_list b = found_to sources folder true b (record { letters_are = f.letters_of; file = on; source = at_place (place_in true b.name) same; features = f.features }) in
+          let there : Contains nested_list b = found_to sources folder true b (record { letters_are = f.letters_of; file = on; source = at_index (path_in true b.name) same; features = f.features }) in
           stays (with_binaries (with_binaries [] nested_list) flat_list) main_list b.name b
           (stays (with_binaries [] nested_list) flat_list b.name b (stands [] nested_list b there (λ c is also. one_found true c b is there also)) none_flat) rest
         where
@@ -265,13 +265,13 @@ module _ (sources : World) (folder : List ℕ) (paths : FilesHavePaths sources) 
               let clash : true ≡ false = sym g.file ∙ ap (is_one false) also ∙ off in
               cc
 
-      rest_of : (x y : Bool) → is_one false b.name ≡ x → is_one true b.name ≡ y → cond x (Some (place_in false b.name)) (cond y (Some (place_in true b.name)) None) ≡ Some f.place
+      rest_of : (x y : Bool) → is_one false b.name ≡ x → is_one true b.name ≡ y → cond x (Some (path_in false b.name)) (cond y (Some (path_in true b.name)) None) ≡ Some f.relative
           → ((c : Binary) → Contains main_list c → c.name ≡ b.name → c ≡ b) → Contains found_all (b.name, b)
       rest_of true y one two h rest = of_flat one (cc) rest
       rest_of false true one two h rest = of_nested one two (cc) rest
       rest_of false false one two h rest = cc
 
-      by : (own a x y : Bool) → bytes_eq b.name package_name ≡ own → has_main ≡ a → is_one false b.name ≡ x → is_one true b.name ≡ y → chosen own a x y b.name ≡ Some f.place → Contains found_all (b.name, b)
+      by : (own a x y : Bool) → bytes_eq b.name package_name ≡ own → has_main ≡ a → is_one false b.name ≡ x → is_one true b.name ≡ y → chosen own a x y b.name ≡ Some f.relative → Contains found_all (b.name, b)
       by true true x y own on one two h = of_main own on (cc)
       by true false x y own on one two h = rest_of x y one two h (none_main own on)
       by false a x y own on one two h = rest_of x y one two h (other_main own)

@@ -26,9 +26,9 @@ use Rattle.pb_workspace.proofs.FoldersPut.{opened}
 use Rattle.pb_workspace_laws.specs.Packages.{RequestsPackage, path, workspace, IsEntry}
 
 -- the package to which an entry leads
-pub record Leads (places : List (List ℕ × ℕ)) (ws : Workspace) (w : Wanted) : Type 0 where
+pub record Leads (indices : List (List ℕ × ℕ)) (ws : Workspace) (w : Wanted) : Type 0 where
   pub found : Package
-  pub there : slice_get ws.packages (unwrap_or (value_of w.folder places) 0) ≡ Some found
+  pub there : slice_get ws.packages (unwrap_or (value_of w.folder indices) 0) ≡ Some found
   pub folder : found.folder ≡ w.folder
   pub name : found.name ≡ w.name
   pub version : IfSome w.version (λ requirement. matches requirement found.version ≡ true)
@@ -140,12 +140,12 @@ module _ (root folder manifest : List ℕ) (given : List WorkspaceDependency) (k
         | inr later ↦ (let r = each_has ds b.0 b.1 d later in (r.0, subst (λ (xs : List Wanted). Contains xs r.0) same (tail a.0 b.0 r.0 r.1), r.2))
       ]
 
-  module _ (places : List (List ℕ × ℕ)) (ws : Workspace) where
+  module _ (indices : List (List ℕ × ℕ)) (ws : Workspace) where
     abbrev Is : Dependency → Entry → Type 0
     Is = IsEntry root folder given ws kind
 
     -- one entry
-    entry_is : (d : Dependency) (w : Wanted) → IsAsked d w → Leads places ws w → Is d (entry_at places w)
+    entry_is : (d : Dependency) (w : Wanted) → IsAsked d w → Leads indices ws w → Is d (entry_at indices w)
     entry_is d w is leads = record {
       key_is = is.key_is;
       kind_is = is.kind_is;
@@ -160,13 +160,13 @@ module _ (root folder manifest : List ℕ) (given : List WorkspaceDependency) (k
     }
 
     -- all entries of a table
-    pub entries_are : (ds : List Dependency) (wanted : List Wanted) → each_wanted (wanted_of root folder manifest given kind) ds ≡ Ok wanted → ((w : Wanted) → Contains wanted w → Leads places ws w)
-        → AllZip Is ds (map (entry_at places) wanted)
-    entries_are [] wanted is leads = let same : [] ≡ wanted = cc in subst (λ (xs : List Wanted). AllZip Is [] (map (entry_at places) xs)) same tt
+    pub entries_are : (ds : List Dependency) (wanted : List Wanted) → each_wanted (wanted_of root folder manifest given kind) ds ≡ Ok wanted → ((w : Wanted) → Contains wanted w → Leads indices ws w)
+        → AllZip Is ds (map (entry_at indices) wanted)
+    entries_are [] wanted is leads = let same : [] ≡ wanted = cc in subst (λ (xs : List Wanted). AllZip Is [] (map (entry_at indices) xs)) same tt
     entries_are (d ∷ ds) wanted is leads =
         let a = opened (wanted_of root folder manifest given kind d) (λ (w : Wanted). each_wanted (wanted_of root folder manifest given kind) ds >>= (λ rest. Ok (w ∷ rest))) wanted is in
         let b = opened (each_wanted (wanted_of root folder manifest given kind) ds) (λ (rest : List Wanted). Ok (a.0 ∷ rest)) wanted a.2 in
         let same : a.0 ∷ b.0 ≡ wanted = cc (b.2) in
-        let all = subst (λ (xs : List Wanted). (w : Wanted) → Contains xs w → Leads places ws w) (sym same) leads in
-        subst (λ (xs : List Wanted). AllZip Is (d ∷ ds) (map (entry_at places) xs)) same
+        let all = subst (λ (xs : List Wanted). (w : Wanted) → Contains xs w → Leads indices ws w) (sym same) leads in
+        subst (λ (xs : List Wanted). AllZip Is (d ∷ ds) (map (entry_at indices) xs)) same
         (entry_is d a.0 (asked_so d a.0 a.1) (all a.0 (head a.0 b.0)), entries_are ds b.0 b.1 (λ w there. all w (tail a.0 b.0 w there)))

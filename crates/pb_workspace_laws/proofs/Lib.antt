@@ -3,7 +3,7 @@ pub mod Position
 pub mod Features
 pub mod Entries
 pub mod Keys
-pub mod BinPlaces
+pub mod BinPaths
 pub mod Binaries
 pub mod AllBinaries
 pub mod Fine

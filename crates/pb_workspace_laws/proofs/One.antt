@@ -40,7 +40,7 @@ use Rattle.pb_workspace_laws.specs.Packages.{IsOwnOrTaken, IsText, IsPlainText, 
 use Rattle.pb_workspace_laws.proofs.Folders.{Keyed, keyed_so, asks_one}
 use Rattle.pb_workspace_laws.proofs.Keys.{IsAbout, own_readme, taken_readme}
 use Rattle.pb_workspace_laws.proofs.Reading.{one_manifest}
-use Rattle.pb_workspace_laws.proofs.Sorting.{Rises, below_apart, below_through, cmp, in_all, same_place}
+use Rattle.pb_workspace_laws.proofs.Sorting.{Rises, below_apart, below_through, cmp, in_all, same_index}
 
 -- lists in byte order of their keys with the same elements are one
 ahead : {A : Type 0} (of : A → List ℕ) (x y : A) (xs ys : List A) → Rises (map of (x ∷ xs)) → Rises (map of (y ∷ ys)) → Contains (y ∷ ys) x → Contains (x ∷ xs) y → x ≡ y
@@ -118,7 +118,7 @@ module _ (root folder : List ℕ) (entries : List WorkspaceDependency) (up : Key
       let at_other : slice_get (map (λ (p : Package). p.folder) v.packages) y.to ≡ Some other.found.folder =
       ap (λ xs. slice_get xs y.to) folders ∙ slice_get-map (λ (p : Package). p.folder) w.packages y.to ∙ ap (option_map (λ (p : Package). p.folder)) other.there in
       let rises : Rises (map (λ z. z) (map (λ (p : Package). p.folder) v.packages)) = subst Rises (sym (map-id (map (λ (p : Package). p.folder) v.packages))) v_up in
-      let to_same : x.to ≡ y.to = same_place (λ z. z) (map (λ (p : Package). p.folder) v.packages) x.to y.to one.found.folder other.found.folder rises at_one at_other asked.to_is in
+      let to_same : x.to ≡ y.to = same_index (λ z. z) (map (λ (p : Package). p.folder) v.packages) x.to y.to one.found.folder other.found.folder rises at_one at_other asked.to_is in
       let kind_same : x.kind ≡ y.kind = one.kind_is ∙ sym other.kind_is in
       let renamed_same : x.renamed ≡ y.renamed = one.renamed ∙ ap (λ n. not (bytes_eq n x.key)) name_same ∙ ap (λ k. not (bytes_eq other.found.name k)) key_same ∙ sym other.renamed in
       let optional_same : x.optional ≡ y.optional = one.optional ∙ sym other.optional in
@@ -265,8 +265,8 @@ module _ (sources : World) (manifest : List ℕ) (r : Manifest) (v w : Workspace
   root_so : v.root ≡ w.root
   root_so = one.root ∙ sym other.root
 
-  place_so : v.root_package ≡ w.root_package
-  place_so = one.root_package ∙ (λ i. position (λ (p : Package). bytes_eq p.folder (root_so i)) (packages_so i)) ∙ sym other.root_package
+  index_so : v.root_package ≡ w.root_package
+  index_so = one.root_package ∙ (λ i. position (λ (p : Package). bytes_eq p.folder (root_so i)) (packages_so i)) ∙ sym other.root_package
 
   members_so : v.default_members ≡ w.default_members
   members_so = one.default_members ∙ ap (λ x. default_members_of x v.packages f.default_members) root_so ∙ ap (λ ps. default_members_of w.root ps f.default_members) packages_so ∙ sym other.default_members
@@ -274,7 +274,7 @@ module _ (sources : World) (manifest : List ℕ) (r : Manifest) (v w : Workspace
   whole_so : v.target ≡ w.target → v ≡ w
   whole_so target =
       let profiles : v.profiles ≡ w.profiles = one.profiles ∙ sym other.profiles in
-      λ i. record { root = root_so i; target = target i; packages = packages_so i; root_package = place_so i; default_members = members_so i; profiles = profiles i }
+      λ i. record { root = root_so i; target = target i; packages = packages_so i; root_package = index_so i; default_members = members_so i; profiles = profiles i }
 
 pub workspaces_are_one : WorkspacesAreOne
 workspaces_are_one sources manifest r s v w paths one other target =

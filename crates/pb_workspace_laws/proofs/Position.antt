@@ -1,16 +1,16 @@
--- The first place of a list at which a test passes, where it is known by what stands there.
+-- The first index of a list at which a test passes, where it is known by what stands there.
 use Rattle.std.proofs.Common.{◌≡◌, ◌↔◌, ◌∙◌, ◌+◌, ℕ, zero, suc, Bool, true, false, cond, List, [], ◌∷◌, Option, Some, None, slice_get, refl, sym, ap, subst, arith}
 use Rattle.std.proofs.lemmas.Iterator.Adapters.{position_from-zero}
 use Rattle.std.specs.List.{position, position_from}
 
--- two places that are the same wherever one is
-one_place : (a b : Option ℕ) → ((n : ℕ) → (a ≡ Some n) → (b ≡ Some n)) → ((n : ℕ) → (b ≡ Some n) → (a ≡ Some n)) → a ≡ b
-one_place None None onto back = refl
-one_place None (Some n) onto back = back n refl
-one_place (Some n) b onto back = sym (onto n refl)
+-- two indices that are the same wherever one is
+one_index : (a b : Option ℕ) → ((n : ℕ) → (a ≡ Some n) → (b ≡ Some n)) → ((n : ℕ) → (b ≡ Some n) → (a ≡ Some n)) → a ≡ b
+one_index None None onto back = refl
+one_index None (Some n) onto back = back n refl
+one_index (Some n) b onto back = sym (onto n refl)
 
 module _ {A : Type 0} (test : A → Bool) where
-  -- what passes at a place
+  -- what passes at an index
   abbrev Passes : List A → ℕ → Type 0
   Passes xs n = (x : A) × (slice_get xs n ≡ Some x) × (test x ≡ true)
 
@@ -35,9 +35,9 @@ module _ {A : Type 0} (test : A → Bool) where
       by true later = (i, refl)
       by false later = later
 
-  -- a place that is one where the test passes, and is there where one is
+  -- an index that is one where the test passes, and is there where one is
   pub position_is : (o : Option ℕ) (xs : List A) → ((n : ℕ) → (o ≡ Some n) ↔ Passes xs n) → o ≡ position test xs
-  position_is o xs is = one_place o (position_from test 0 xs) onto back ∙ sym (position_from-zero test xs)
+  position_is o xs is = one_index o (position_from test 0 xs) onto back ∙ sym (position_from-zero test xs)
     where
       back : (n : ℕ) → position_from test 0 xs ≡ Some n → o ≡ Some n
       back n at = let r = passes 0 xs n at in let same : n ≡ r.0 = r.1 ∙ (omega arith) in (is n).1 (subst (Passes xs) (sym same) r.2)

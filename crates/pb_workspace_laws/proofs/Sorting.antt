@@ -44,7 +44,7 @@ beyond k x (y ∷ ys) less all = (nat_list_cmp_total.trans k x y less all.0, bey
 pub below_through : (a b c : Name) → cmp a b ≡ Less → cmp b c ≡ Less → cmp a c ≡ Less
 below_through a b c first second = nat_list_cmp_total.trans a b c first second
 
--- of things in byte order of their keys, those of one key are one, and stand at one place
+-- of things in byte order of their keys, those of one key are one, and stand at one index
 pub in_all : {A : Type 0} (key : A → Name) (P : Name → Type 0) (xs : List A) (x : A) → AllByRecursion P (map key xs) → Contains xs x → P (key x)
 in_all key P [] x all there = absurd (none x there)
 in_all key P (y ∷ xs) x all there = elim (cases y xs x there) [ inl here ↦ subst (λ z. P (key z)) here all.0 | inr later ↦ in_all key P xs x all.1 later ]
@@ -66,17 +66,17 @@ one_of_key {A} key (x ∷ xs) a b up first second same = elim (cases x xs a firs
   ])
 ]
 
-pub same_place : {A : Type 0} (key : A → Name) (xs : List A) (i j : ℕ) (a b : A) → Rises (map key xs) → slice_get xs i ≡ Some a → slice_get xs j ≡ Some b → key a ≡ key b → i ≡ j
+pub same_index : {A : Type 0} (key : A → Name) (xs : List A) (i j : ℕ) (a b : A) → Rises (map key xs) → slice_get xs i ≡ Some a → slice_get xs j ≡ Some b → key a ≡ key b → i ≡ j
 unfolding IsStrictlySortedBy
-same_place key [] i j a b up one other same = absurd (none a (contained [] i a one))
-same_place key (x ∷ xs) zero zero a b up one other same = refl
-same_place key (x ∷ xs) zero (suc j) a b up one other same =
+same_index key [] i j a b up one other same = absurd (none a (contained [] i a one))
+same_index key (x ∷ xs) zero zero a b up one other same = refl
+same_index key (x ∷ xs) zero (suc j) a b up one other same =
     let here : x ≡ a = cc in
     absurd (below_apart (key x) (key b) (in_all key (λ y. cmp (key x) y ≡ Less) xs b up.0 (contained xs j b other)) (sym same ∙ ap key (sym here)))
-same_place key (x ∷ xs) (suc i) zero a b up one other same =
+same_index key (x ∷ xs) (suc i) zero a b up one other same =
     let here : x ≡ b = cc in
     absurd (below_apart (key x) (key a) (in_all key (λ y. cmp (key x) y ≡ Less) xs a up.0 (contained xs i a one)) (same ∙ ap key (sym here)))
-same_place key (x ∷ xs) (suc i) (suc j) a b up one other same = ap suc (same_place key xs i j a b up.1 one other same)
+same_index key (x ∷ xs) (suc i) (suc j) a b up one other same = ap suc (same_index key xs i j a b up.1 one other same)
 
 module _ {V : Type 0} where
   abbrev pub names : List (Name × V) → List Name

@@ -34,7 +34,7 @@ use Rattle.pb_workspace_package.specs.Keys.{keys_of}
 use Rattle.pb_workspace.specs.Loaded.{others_read, packages_read, root_parts, root_read, unless, workspace_from, workspace_in, workspace_of}
 use Rattle.pb_workspace.specs.MemberFolders.{member_folders}
 use Rattle.pb_workspace.specs.PackageFolders.{package_in, LeadsTo, IsPackageFolder, frame_at}
-use Rattle.pb_workspace.specs.Places.{at_place, draft_in, places_of}
+use Rattle.pb_workspace.specs.Indices.{at_index, draft_in, indices_of}
 use Rattle.pb_workspace.specs.Rounds.{all_read, draft_at, parts_at, parts_in, rounds, standing_in, tables_in}
 use Rattle.pb_workspace_package.specs.Settling.{discovered, has_same_binaries, readme_found, targets_of, wanted_in}
 use Rattle.pb_workspace_package.specs.Sources.{library_of}
@@ -50,7 +50,7 @@ use Rattle.pb_workspace_package.specs.declared.settling.Given.{Given}
 use Rattle.pb_workspace_package.specs.declared.wanted.PackageLocation.{PackageLocation}
 use Rattle.pb_workspace_package.specs.declared.wanted.Wanted.{Wanted}
 use Rattle.pb_workspace.proofs.Accepted.{root_kept, target_kept}
-use Rattle.pb_workspace.proofs.FoldersPlaced.{place_there, places_are}
+use Rattle.pb_workspace.proofs.FoldersNumbered.{index_there, indices_are}
 use Rattle.pb_workspace.proofs.FoldersPut.{opened}
 use Rattle.pb_workspace.proofs.Fuel.{all_grow, ends_or_grows}
 use Rattle.pb_workspace.proofs.Keeping.{assembled_settled}
@@ -76,7 +76,7 @@ use Rattle.pb_workspace_laws.proofs.Folders.{keyed_so, folders_are}
 use Rattle.pb_workspace_laws.proofs.Order.{packages_up}
 use Rattle.pb_workspace_laws.proofs.Reading.{all_at, drafted, parts_read, wanted_so}
 use Rattle.pb_workspace_laws.proofs.Settling.{draft_kept}
-use Rattle.pb_workspace_laws.proofs.Sorting.{Rises, contained, same_place}
+use Rattle.pb_workspace_laws.proofs.Sorting.{Rises, contained, same_index}
 use Rattle.pb_workspace_laws.proofs.Keys.{own_or_taken, about_is, IsAbout, script_so, library_so}
 use Rattle.pb_workspace_laws.proofs.Position.{position_is}
 
@@ -109,9 +109,9 @@ keys_are sources at given w k h =
     })
 
 -- the package of a manifest
-module _ (sources : World) (at : PackageLocation) (member : Bool) (given : Given) (ws : Workspace) (places : List (List ℕ × ℕ)) (m : Manifest) (kept : IsManifest m) (w : Written) where
+module _ (sources : World) (at : PackageLocation) (member : Bool) (given : Given) (ws : Workspace) (indices : List (List ℕ × ℕ)) (m : Manifest) (kept : IsManifest m) (w : Written) where
   abbrev Says : UnresolvedPackage → Type 0
-  Says d = IsPackageOf sources at.root given ws m w (package_at places d)
+  Says d = IsPackageOf sources at.root given ws m w (package_at indices d)
 
   abbrev Is : DependencyKind → Dependency → Entry → Type 0
   Is kind d e = IsEntry at.root at.folder given.dependencies ws kind d e
@@ -119,7 +119,7 @@ module _ (sources : World) (at : PackageLocation) (member : Bool) (given : Given
   abbrev Asked : DependencyKind × Dependency → Entry → Type 0
   Asked asked e = Is asked.0 asked.1 e
 
-  draft_says : (d : UnresolvedPackage) → draft_of sources at member given w (tables_in m) ≡ Ok d → ((x : Wanted) → Contains d.wanted x → Leads places ws x) → Says d
+  draft_says : (d : UnresolvedPackage) → draft_of sources at member given w (tables_in m) ≡ Ok d → ((x : Wanted) → Contains d.wanted x → Leads indices ws x) → Says d
   unfolding draft_of draft_with
   draft_says d h leads =
       let k = opened (keys_of sources at given.package w) (λ k. draft_with sources at member given (tables_in m) k) d h in
@@ -135,7 +135,7 @@ module _ (sources : World) (at : PackageLocation) (member : Bool) (given : Given
       let lists : made ≡ l.0 = (λ i. record { wanted = both i; features = features_of m.features m.dependencies m.build_dependencies; has_same_binaries = has_same_binaries m.binaries }) ∙ cc (o.2) in
       let same : draft_from at member k.0 made m.dev_dependencies (targets_of at.folder sources k.0.name k.0.autobins k.0.build m.library m.binaries) ≡ d =
       (λ i. draft_from at member k.0 (lists i) m.dev_dependencies (targets_of at.folder sources k.0.name k.0.autobins k.0.build m.library m.binaries)) ∙ cc (l.2) in
-      let all = subst (λ (x : UnresolvedPackage). (y : Wanted) → Contains x.wanted y → Leads places ws y) (sym same) leads in
+      let all = subst (λ (x : UnresolvedPackage). (y : Wanted) → Contains x.wanted y → Leads indices ws y) (sym same) leads in
       subst Says same (record {
         name = keys.name;
         version = keys.version;
@@ -153,11 +153,11 @@ module _ (sources : World) (at : PackageLocation) (member : Bool) (given : Given
         script_is = script_so sources at.folder k.0.build ∙ ap (script sources at.folder) keys.build;
         features_order = features_rise m kept.features.order;
         features = features_are m kept.features.order;
-        entries = subst (AllZip Asked (map (λ d. (Normal, d)) m.dependencies ++ map (λ d. (ForScript, d)) m.build_dependencies)) (sym (map-append (entry_at places) n.0 s.0))
-            (beside Is Normal m.dependencies (map (entry_at places) n.0) (map (entry_at places) s.0) (map (λ d. (ForScript, d)) m.build_dependencies)
-            (entries_are at.root at.folder at.manifest given.dependencies Normal places ws m.dependencies n.0 n.1 (λ x there. all x (Contains-append_left n.0 s.0 x there)))
-            (beside_one Is ForScript m.build_dependencies (map (entry_at places) s.0)
-            (entries_are at.root at.folder at.manifest given.dependencies ForScript places ws m.build_dependencies s.0 s.1 (λ x there. all x (Contains-append_right n.0 s.0 x there)))));
+        entries = subst (AllZip Asked (map (λ d. (Normal, d)) m.dependencies ++ map (λ d. (ForScript, d)) m.build_dependencies)) (sym (map-append (entry_at indices) n.0 s.0))
+            (beside Is Normal m.dependencies (map (entry_at indices) n.0) (map (entry_at indices) s.0) (map (λ d. (ForScript, d)) m.build_dependencies)
+            (entries_are at.root at.folder at.manifest given.dependencies Normal indices ws m.dependencies n.0 n.1 (λ x there. all x (Contains-append_left n.0 s.0 x there)))
+            (beside_one Is ForScript m.build_dependencies (map (entry_at indices) s.0)
+            (entries_are at.root at.folder at.manifest given.dependencies ForScript indices ws m.build_dependencies s.0 s.1 (λ x there. all x (Contains-append_right n.0 s.0 x there)))));
         development = refl;
       })
 
@@ -194,17 +194,17 @@ stands_so sources at member given w m d h =
     })
 
 -- a package that was read
-record IsMade (sources : World) (f : WorkspaceRoot) (ws : Workspace) (places : List (List ℕ × ℕ)) (folder : List ℕ) (d : UnresolvedPackage) : Type 0 where
+record IsMade (sources : World) (f : WorkspaceRoot) (ws : Workspace) (indices : List (List ℕ × ℕ)) (folder : List ℕ) (d : UnresolvedPackage) : Type 0 where
   own : Manifest
   read : IsManifestAt sources (below folder (codes "Cargo.toml")) own
   written : Written
   is_package : own.package ≡ Some written
   stands : Stands sources (standing_in f folder) (is_member f (member_folders sources f) folder) written own d
-  says : IsPackageOf sources f.root (given_to f d.is_member) ws own written (package_at places d)
+  says : IsPackageOf sources f.root (given_to f d.is_member) ws own written (package_at indices d)
 
-package_says : (sources : World) (f : WorkspaceRoot) (ws : Workspace) (places : List (List ℕ × ℕ)) (folder : List ℕ) (d : UnresolvedPackage) → package_in sources f folder ≡ Ok d → ((x : Wanted) → Contains d.wanted x → Leads places ws x)
-    → IsMade sources f ws places folder d
-package_says sources f ws places folder d h leads =
+package_says : (sources : World) (f : WorkspaceRoot) (ws : Workspace) (indices : List (List ℕ × ℕ)) (folder : List ℕ) (d : UnresolvedPackage) → package_in sources f folder ≡ Ok d → ((x : Wanted) → Contains d.wanted x → Leads indices ws x)
+    → IsMade sources f ws indices folder d
+package_says sources f ws indices folder d h leads =
     let b : Bool = is_member f (member_folders sources f) folder in
     let own = drafted sources f folder d h in
     let stands = stands_so sources (standing_in f folder) b (given_to f b) own.written own.own d own.made in
@@ -214,8 +214,8 @@ package_says sources f ws places folder d h leads =
       written = own.written;
       is_package = own.is_package;
       stands = stands;
-      says = subst (λ c. IsPackageOf sources f.root (given_to f c) ws own.own own.written (package_at places d)) (sym stands.is_member)
-          (draft_says sources (standing_in f folder) b (given_to f b) ws places own.own (manifest_is own.read.bytes own.own own.read.says) own.written d own.made leads);
+      says = subst (λ c. IsPackageOf sources f.root (given_to f c) ws own.own own.written (package_at indices d)) (sym stands.is_member)
+          (draft_says sources (standing_in f folder) b (given_to f b) ws indices own.own (manifest_is own.read.bytes own.own own.read.says) own.written d own.made leads);
     }
 
 module _ (sources : World) (f : WorkspaceRoot) (parts : Parts) (ws : Workspace) (r : LoadState) (drafts_are : ws.packages ≡ packages_of (values_of r.found)) (fine : AreFine (values_of r.found))
@@ -223,18 +223,18 @@ module _ (sources : World) (f : WorkspaceRoot) (parts : Parts) (ws : Workspace) 
   abbrev drafts : List UnresolvedPackage
   drafts = values_of r.found
 
-  abbrev places : List (List ℕ × ℕ)
-  places = places_of drafts
+  abbrev indices : List (List ℕ × ℕ)
+  indices = indices_of drafts
 
-  leads_so : (e : List ℕ × UnresolvedPackage) → Contains r.found e → (x : Wanted) → Contains e.1.wanted x → Leads places ws x
+  leads_so : (e : List ℕ × UnresolvedPackage) → Contains r.found e → (x : Wanted) → Contains e.1.wanted x → Leads indices ws x
   leads_so e among x there =
       let own : package_in sources f e.0 ≡ Ok e.1 = all_at (λ (e : List ℕ × UnresolvedPackage). package_in sources f e.0 ≡ Ok e.1) r.found e packages among in
       let from : IsPackageFolder sources f parts.found e.0 = (folders e.0).0 (map_each (λ (e : List ℕ × UnresolvedPackage). e.0) r.found e among) in
       let onto : LeadsTo sources f e.0 x.folder = record { owner = e.1; entry = x; package_at = own; is_there = there; leads = refl } in
       let known : Contains (folders_of r.found) x.folder = (folders x.folder).1 (onward e.0 x.folder from onto) in
-      let h = place_there drafts x.folder (subst (λ xs. Contains xs x.folder) (sym (own_folders sources f r.found packages)) known) in
+      let h = index_there drafts x.folder (subst (λ xs. Contains xs x.folder) (sym (own_folders sources f r.found packages)) known) in
       let in_drafts : Contains drafts e.1 = map_each (λ (e : List ℕ × UnresolvedPackage). e.1) r.found e among in
-      let drafted : draft_in drafts x.folder ≡ Some h.1 = ap (at_place drafts) h.2 ∙ h.3 in
+      let drafted : draft_in drafts x.folder ≡ Some h.1 = ap (at_index drafts) h.2 ∙ h.3 in
       let same_name : has_other_name x (draft_in drafts x.folder) ≡ false =
       none_meets (λ (w : Wanted). has_other_name w (draft_in drafts w.folder)) e.1.wanted (none_meets (λ (d : UnresolvedPackage). list_any (λ (w : Wanted). has_other_name w (draft_in drafts w.folder)) d.wanted) drafts fine.names e.1 in_drafts) x there in
       let same_version : has_other_version x (draft_in drafts x.folder) ≡ false =
@@ -242,19 +242,19 @@ module _ (sources : World) (f : WorkspaceRoot) (parts : Parts) (ws : Workspace) 
       let named : bytes_eq x.name h.1.name ≡ true = not_off (bytes_eq x.name h.1.name) (sym (ap (has_other_name x) drafted) ∙ same_name) in
       let right : matches_if x.version h.1.version ≡ true = not_off (matches_if x.version h.1.version) (sym (ap (has_other_version x) drafted) ∙ same_version) in
       record {
-        found = package_at places h.1;
-        there = ap (λ o. slice_get ws.packages (unwrap_or o 0)) h.2 ∙ ap (λ ps. slice_get ps h.0) drafts_are ∙ slice_get-map (package_at places) drafts h.0 ∙ ap (λ o. option_map (package_at places) o) h.3;
+        found = package_at indices h.1;
+        there = ap (λ o. slice_get ws.packages (unwrap_or o 0)) h.2 ∙ ap (λ ps. slice_get ps h.0) drafts_are ∙ slice_get-map (package_at indices) drafts h.0 ∙ ap (λ o. option_map (package_at indices) o) h.3;
         folder = h.4;
         name = sym ((bytes_eq-Decides x.name h.1.name).0 named);
         version = matched x.version h.1.version right;
       }
 
-  all_made : (p : Package) → Contains ws.packages p → (folder : List ℕ) × (d : UnresolvedPackage) × IsMade sources f ws places folder d × (package_at places d ≡ p) × (d.has_same_binaries ≡ false)
+  all_made : (p : Package) → Contains ws.packages p → (folder : List ℕ) × (d : UnresolvedPackage) × IsMade sources f ws indices folder d × (package_at indices d ≡ p) × (d.has_same_binaries ≡ false)
   all_made p is =
-      let m = map_only (package_at places) drafts p (subst (λ ps. Contains ps p) drafts_are is) in
+      let m = map_only (package_at indices) drafts p (subst (λ ps. Contains ps p) drafts_are is) in
       let v = map_only (λ (e : List ℕ × UnresolvedPackage). e.1) r.found m.0 m.1 in
       let own : package_in sources f v.0.0 ≡ Ok v.0.1 = all_at (λ (e : List ℕ × UnresolvedPackage). package_in sources f e.0 ≡ Ok e.1) r.found v.0 packages v.1 in
-      (v.0.0, v.0.1, package_says sources f ws places v.0.0 v.0.1 own (leads_so v.0 v.1), ap (package_at places) v.2 ∙ m.2, none_meets (λ (d : UnresolvedPackage). d.has_same_binaries) drafts fine.binaries v.0.1 (map_each (λ (e : List ℕ × UnresolvedPackage). e.1) r.found v.0 v.1))
+      (v.0.0, v.0.1, package_says sources f ws indices v.0.0 v.0.1 own (leads_so v.0 v.1), ap (package_at indices) v.2 ∙ m.2, none_meets (λ (d : UnresolvedPackage). d.has_same_binaries) drafts fine.binaries v.0.1 (map_each (λ (e : List ℕ × UnresolvedPackage). e.1) r.found v.0 v.1))
 
 frame_root : (manifest : List ℕ) (o : Option WorkspaceTable) → ((frame_of (folder_of manifest) manifest o).root ≡ folder_of manifest) × ((frame_of (folder_of manifest) manifest o).manifest ≡ manifest)
 frame_root manifest None = (refl, refl)
@@ -305,9 +305,9 @@ module _ (manifest target : List ℕ) (w : World) (ws : Workspace) (path : is_pa
     unfolding assembled
     profiles_are = ap (λ (x : Workspace). x.profiles) (sym came.whole)
 
-    root_place : ws.root_package ≡ value_of f.root (places_of drafts_read)
+    root_index : ws.root_package ≡ value_of f.root (indices_of drafts_read)
     unfolding assembled
-    root_place = ap (λ (x : Workspace). x.root_package) (sym came.whole)
+    root_index = ap (λ (x : Workspace). x.root_package) (sym came.whole)
 
     stands_there : (f.root ≡ folder_of manifest) × (f.manifest ≡ manifest)
     stands_there = frame_root manifest root.workspace
@@ -332,7 +332,7 @@ module _ (manifest target : List ℕ) (w : World) (ws : Workspace) (path : is_pa
 
     -- the folders of the packages
     folders_so : map (λ (p : Package). p.folder) ws.packages ≡ folders_of r.found
-    folders_so = ap (map (λ (p : Package). p.folder)) drafts_are ∙ map_twice (λ (p : Package). p.folder) (package_at (places_of drafts_read)) drafts_read ∙ own_folders sources f r.found all_so.1
+    folders_so = ap (map (λ (p : Package). p.folder)) drafts_are ∙ map_twice (λ (p : Package). p.folder) (package_at (indices_of drafts_read)) drafts_read ∙ own_folders sources f r.found all_so.1
 
     rise_so : Rises (map (λ (p : Package). p.folder) ws.packages)
     rise_so = subst Rises (sym folders_so) (packages_up sources f (tables_in root) root.package r came.packages)
@@ -347,29 +347,29 @@ module _ (manifest target : List ℕ) (w : World) (ws : Workspace) (path : is_pa
     at_root p = bytes_eq p.folder ws.root
 
     abbrev IsRootPackage : ℕ → Type 0
-    IsRootPackage place = (p : Package) × (slice_get ws.packages place ≡ Some p) × (at_root p ≡ true)
+    IsRootPackage index = (p : Package) × (slice_get ws.packages index ≡ Some p) × (at_root p ≡ true)
 
-    at_root_so : (place : ℕ) → (ws.root_package ≡ Some place) ↔ IsRootPackage place
-    at_root_so place = (onto, back)
+    at_root_so : (index : ℕ) → (ws.root_package ≡ Some index) ↔ IsRootPackage index
+    at_root_so index = (onto, back)
       where
         root_is : ws.root ≡ f.root
         root_is = root_kept manifest target w ws made ∙ sym stands_there.0
 
-        package_so : (k : ℕ) (d : UnresolvedPackage) → slice_get drafts_read k ≡ Some d → slice_get ws.packages k ≡ Some (package_at (places_of drafts_read) d)
-        package_so k d at = ap (λ ps. slice_get ps k) drafts_are ∙ slice_get-map (package_at (places_of drafts_read)) drafts_read k ∙ ap (option_map (package_at (places_of drafts_read))) at
+        package_so : (k : ℕ) (d : UnresolvedPackage) → slice_get drafts_read k ≡ Some d → slice_get ws.packages k ≡ Some (package_at (indices_of drafts_read) d)
+        package_so k d at = ap (λ ps. slice_get ps k) drafts_are ∙ slice_get-map (package_at (indices_of drafts_read)) drafts_read k ∙ ap (option_map (package_at (indices_of drafts_read))) at
 
-        onto : ws.root_package ≡ Some place → IsRootPackage place
+        onto : ws.root_package ≡ Some index → IsRootPackage index
         onto h =
-            let a = places_are drafts_read f.root place (sym root_place ∙ h) in
-            (package_at (places_of drafts_read) a.0, package_so place a.0 a.1, (bytes_eq-Decides a.0.folder ws.root).1 (a.2 ∙ sym root_is))
+            let a = indices_are drafts_read f.root index (sym root_index ∙ h) in
+            (package_at (indices_of drafts_read) a.0, package_so index a.0 a.1, (bytes_eq-Decides a.0.folder ws.root).1 (a.2 ∙ sym root_is))
 
-        back : IsRootPackage place → ws.root_package ≡ Some place
+        back : IsRootPackage index → ws.root_package ≡ Some index
         back is =
             let in_folder : is.0.folder ≡ f.root = (bytes_eq-Decides is.0.folder ws.root).0 is.2 ∙ root_is in
-            let known : Contains (map (λ (p : Package). p.folder) ws.packages) f.root = subst (Contains (map (λ (p : Package). p.folder) ws.packages)) in_folder (map_each (λ (p : Package). p.folder) ws.packages is.0 (contained ws.packages place is.0 is.1)) in
-            let h = place_there drafts_read f.root (subst (λ xs. Contains xs f.root) (folders_so ∙ sym (own_folders sources f r.found all_so.1)) known) in
-            let same : h.0 ≡ place = same_place (λ (p : Package). p.folder) ws.packages h.0 place (package_at (places_of drafts_read) h.1) is.0 rise_so (package_so h.0 h.1 h.3) is.1 (h.4 ∙ sym in_folder) in
-            root_place ∙ h.2 ∙ ap (λ k. Some k) same
+            let known : Contains (map (λ (p : Package). p.folder) ws.packages) f.root = subst (Contains (map (λ (p : Package). p.folder) ws.packages)) in_folder (map_each (λ (p : Package). p.folder) ws.packages is.0 (contained ws.packages index is.0 is.1)) in
+            let h = index_there drafts_read f.root (subst (λ xs. Contains xs f.root) (folders_so ∙ sym (own_folders sources f r.found all_so.1)) known) in
+            let same : h.0 ≡ index = same_index (λ (p : Package). p.folder) ws.packages h.0 index (package_at (indices_of drafts_read) h.1) is.0 rise_so (package_so h.0 h.1 h.3) is.1 (h.4 ∙ sym in_folder) in
+            root_index ∙ h.2 ∙ ap (λ k. Some k) same
 
     -- what is promised of each package
     put_so : (es : List (List ℕ × UnresolvedPackage)) → AllByRecursion (λ (e : List ℕ × UnresolvedPackage). package_in sources f e.0 ≡ Ok e.1) es → AllByRecursion IsStoredAt es
@@ -392,12 +392,12 @@ module _ (manifest target : List ℕ) (w : World) (ws : Workspace) (path : is_pa
         subst IsSettled came.whole (assembled_settled target f root.profiles r.found few_so all (packages_up sources f (tables_in root) root.package r came.packages) came.fine.apart)
 
     abbrev Made : Package → Type 0
-    Made p = (places : List (List ℕ × ℕ)) × (folder : List ℕ) × (d : UnresolvedPackage) × IsMade sources f ws places folder d × (package_at places d ≡ p) × (d.has_same_binaries ≡ false)
+    Made p = (indices : List (List ℕ × ℕ)) × (folder : List ℕ) × (d : UnresolvedPackage) × IsMade sources f ws indices folder d × (package_at indices d ≡ p) × (d.has_same_binaries ≡ false)
 
     each_made : (p : Package) → Contains ws.packages p → Made p
     each_made p is =
         let a = all_made sources f (parts_in root) ws r drafts_are came.fine all_so.0 all_so.1 p is in
-        (places_of drafts_read, a.0, a.1, a.2, a.3, a.4)
+        (indices_of drafts_read, a.0, a.1, a.2, a.3, a.4)
 
     each_member : (p : Package) → Contains ws.packages p → (p.is_member ≡ true) ↔ IsMember sources f p.folder
     each_member p is =

@@ -22,8 +22,8 @@ in_bin name = (codes "src/bin/" ++ (name ++ codes ".rs")) ∷ (codes "src/bin/" 
 
 -- The paths at which the builder looks for a binary's source, in order. `src/main.rs` is the first
 -- if the binary has its package's name. The two paths in `src/bin` follow.
-abbrev pub places : List ℕ → List ℕ → List (List ℕ)
-places package_name name = if bytes_eq name package_name then codes "src/main.rs" ∷ in_bin name else in_bin name
+abbrev pub source_paths : List ℕ → List ℕ → List (List ℕ)
+source_paths package_name name = if bytes_eq name package_name then codes "src/main.rs" ∷ in_bin name else in_bin name
 
 -- The source of a `[[bin]]`: its written path, or the first of these names that is a file. If no
 -- name is that of a file, the source is the first name.
@@ -33,10 +33,10 @@ source_of sources folder names path = option_map_or (resolved folder) path (belo
 -- A binary is either written as a `[[bin]]`, or found. A found binary counts unless `autobins =
 -- false` is written, or a `[[bin]]` has the same name.
 pub data IsBinary (sources : World) (folder : List ℕ) (m : Manifest) (w : Written) (b : Binary) : Type 0 where
-  written : (t : WrittenBinary) (table : Contains m.binaries t) (name : b.name ≡ t.name) (source : b.source ≡ source_of sources folder (places w.name t.name) t.path) (features : b.required_features ≡ t.required_features)
+  written : (t : WrittenBinary) (table : Contains m.binaries t) (name : b.name ≡ t.name) (source : b.source ≡ source_of sources folder (source_paths w.name t.name) t.path) (features : b.required_features ≡ t.required_features)
       → IsBinary sources folder m w b
-  found : (wanted : w.autobins ≡ true) (letters : is_name b.name ≡ true) (unwritten : (t : WrittenBinary) → Contains m.binaries t → t.name ≢ b.name) (place : List ℕ) (first : first_file sources folder (places w.name b.name) ≡ Some place)
-      (source : b.source ≡ below folder place) (features : b.required_features ≡ []) → IsBinary sources folder m w b
+  found : (wanted : w.autobins ≡ true) (letters : is_name b.name ≡ true) (unwritten : (t : WrittenBinary) → Contains m.binaries t → t.name ≢ b.name) (relative : List ℕ) (first : first_file sources folder (source_paths w.name b.name) ≡ Some relative)
+      (source : b.source ≡ below folder relative) (features : b.required_features ≡ []) → IsBinary sources folder m w b
 
 -- the package has the binaries that its manifest `m` and its `[package]` table `w` describe
 pub record HasBinaries (sources : World) (m : Manifest) (w : Written) (p : Package) : Type 0 where

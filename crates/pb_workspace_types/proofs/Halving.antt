@@ -64,13 +64,13 @@ module _ {X : Type 0} (key : X → List ℕ) where
   rises : (xs : List X) (name : List ℕ) → Ascend xs → IsNonDecreasingBy (λ y. ordering_index (slice_cmp nat_cmp (key y) name)) xs
   rises xs name up = searchable_from_sorted nat_list_cmp_total key xs name (sorted xs up)
 
-  -- what stands at a place comes after the head
+  -- what stands at an index comes after the head
   behind : (a : List ℕ) (xs : List X) (i : ℕ) (x : X) → AllByRecursion (λ y. slice_cmp nat_cmp a y ≡ Less) (map key xs) → slice_get xs i ≡ Some x → slice_cmp nat_cmp a (key x) ≡ Less
   behind a [] i x all at = cc
   behind a (y ∷ xs) zero x all at = let same : y ≡ x = cc in subst (λ z. slice_cmp nat_cmp a (key z) ≡ Less) same all.0
   behind a (y ∷ xs) (suc i) x all at = behind a xs i x all.1 at
 
-  -- the first of a name stands at its one place
+  -- the first of a name stands at its one index
   first_at : (xs : List X) (name : List ℕ) (i : ℕ) (x : X) → Ascend xs → slice_get xs i ≡ Some x → key x ≡ name → position_or_len (has name) xs ≡ i
   unfolding IsStrictlySortedBy
   first_at [] name i x up at is = cc
@@ -151,8 +151,8 @@ module _ {X : Type 0} (key : X → List ℕ) where
     pub told_nowhere : (i : ℕ) → Parted items name ascends i → None ≡ find (has name) self
     told_nowhere i parted = sym (found_nowhere items name ascends i parted) ∙ there (find (has name))
 
-    pub place_there : (i : ℕ) → i < length items → HoldsAt (λ y. slice_cmp nat_cmp (key y) name ≡ Equal) items i → Some i ≡ position (has name) self
-    place_there i lt ties = sym (position_there items name ascends i lt ties) ∙ there (position (has name))
+    pub index_there : (i : ℕ) → i < length items → HoldsAt (λ y. slice_cmp nat_cmp (key y) name ≡ Equal) items i → Some i ≡ position (has name) self
+    index_there i lt ties = sym (position_there items name ascends i lt ties) ∙ there (position (has name))
 
-    pub place_nowhere : (i : ℕ) → Parted items name ascends i → None ≡ position (has name) self
-    place_nowhere i parted = sym (position_nowhere items name ascends i parted) ∙ there (position (has name))
+    pub index_nowhere : (i : ℕ) → Parted items name ascends i → None ≡ position (has name) self
+    index_nowhere i parted = sym (position_nowhere items name ascends i parted) ∙ there (position (has name))

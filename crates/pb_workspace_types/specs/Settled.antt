@@ -37,7 +37,7 @@ pub record IsPackage (count : ℕ) (p : Package) : Type 0 where
 -- if `default-members` names only members, `Holds` is true of their indices
 abbrev pub IfNamed : DefaultMembers → (List ℕ → Type 0) → Type 0
 IfNamed Unwritten Holds = Unit {0}
-IfNamed (Named places) Holds = Holds places
+IfNamed (Named indices) Holds = Holds indices
 IfNamed Unknown Holds = Unit {0}
 
 -- A workspace that was read has at most 256 packages, in byte order of their folders and with
@@ -47,8 +47,8 @@ pub record IsSettled (ws : Workspace) : Type 0 where
   pub folders : IsAscending (map (λ (p : Package). p.folder) ws.packages)
   pub names : IsDistinct bytes_eq (map (λ (p : Package). p.name) ws.packages)
   pub packages : All (IsPackage (length ws.packages)) ws.packages
-  pub root : IfSome ws.root_package (λ place. place < length ws.packages)
-  pub defaults : IfNamed ws.default_members (All (λ place. place < length ws.packages))
+  pub root : IfSome ws.root_package (λ index. index < length ws.packages)
+  pub defaults : IfNamed ws.default_members (All (λ index. index < length ws.packages))
 
 -- a workspace, with the selection in it
 pub record Selected : Type 0 where

@@ -79,15 +79,15 @@ impl EntriesByKey {
     }
 
     /// Returns the index of the entry with a key in a table, if there is such an entry.
-    pub fn place_of(&self, kind: DependencyKind, key: &[u8]) -> Option<usize>
-        ensures place { result ≡ position (λ entry.
+    pub fn index_of(&self, kind: DependencyKind, key: &[u8]) -> Option<usize>
+        ensures index { result ≡ position (λ entry.
             bytes_eq (table_key kind key.now) (table_key entry.kind entry.key)) self.now }
         ensures order { IsStrictlySortedBy (slice_cmp nat_cmp) (map (λ entry.
             table_key entry.kind entry.key) self.now) }
     {
         let entries = self.inside.as_slice();
         match entries.binary_search_by(|entry| compare_entry(entry, kind, key)) {
-            Ok(place) => Some(place),
+            Ok(index) => Some(index),
             Err(_) => None,
         }
     }

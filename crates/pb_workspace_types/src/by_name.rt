@@ -68,7 +68,7 @@ impl BinariesByName {
     {
         let binaries = self.inside.as_slice();
         match binaries.binary_search_by(|binary| binary.name.cmp(name)) {
-            Ok(place) => Some(&binaries[place]),
+            Ok(index) => Some(&binaries[index]),
             Err(_) => None,
         }
     }
@@ -122,12 +122,12 @@ impl FeaturesByName {
     }
 
     /// Returns the index of the feature with a name, if there is such a feature.
-    pub fn place_of(&self, name: &[u8]) -> Option<usize>
+    pub fn index_of(&self, name: &[u8]) -> Option<usize>
         ensures { result ≡ position (λ feature. bytes_eq name.now feature.name) self.now }
     {
         let features = self.inside.as_slice();
         match features.binary_search_by(|feature| feature.name.as_bytes().cmp(name)) {
-            Ok(place) => Some(place),
+            Ok(index) => Some(index),
             Err(_) => None,
         }
     }

@@ -70,7 +70,7 @@ impl<'a> Model for SelectedWorkspace<'a> {
 
     ghost view = { λ a. record { workspace = a.workspace.now; selection = a.selection } };
 
-    ghost invariant = { λ a. All (λ place. place < length a.workspace.now.packages) a.selection.packages };
+    ghost invariant = { λ a. All (λ index. index < length a.workspace.now.packages) a.selection.packages };
 }
 
 impl<'a> SelectedWorkspace<'a> {
@@ -79,7 +79,7 @@ impl<'a> SelectedWorkspace<'a> {
 
     /// Returns a selection of packages in a workspace.
     pub fn new(workspace: &'a SettledWorkspace, selection: Selection) -> SelectedWorkspace<'a>
-        requires { All (λ place. place < length workspace.now.packages) selection.packages }
+        requires { All (λ index. index < length workspace.now.packages) selection.packages }
         ensures workspace { result.workspace ≡ workspace.now }
         ensures selection { result.selection ≡ selection }
     {
@@ -102,8 +102,8 @@ impl<'a> SelectedWorkspace<'a> {
     /// Returns what is selected in the workspace.
     pub fn selection(&self) -> &Selection
         ensures value { result.now ≡ self.now.selection }
-        ensures within { All (λ place.
-            place < length self.now.workspace.packages) self.now.selection.packages }
+        ensures within { All (λ index.
+            index < length self.now.workspace.packages) self.now.selection.packages }
     {
         &self.selection
     }

@@ -5,7 +5,7 @@ use std::test::Fail;
 use std::{env, fs, process};
 
 /// Returns the path of a test's folder.
-fn place_of(rt: &HostRuntime, name: &str) -> Result<String, Fail> {
+fn path_of(rt: &HostRuntime, name: &str) -> Result<String, Fail> {
     let all = env::temp_dir(rt)?;
     let number = process::id(rt.process());
     Ok(format!(in rt.alloc(); "{}/pb_tests_place-{number}-{name}", all.as_str())?)
@@ -21,7 +21,7 @@ fn empty_folder(rt: &HostRuntime, text: &str) -> Result<PathText, Fail> {
 
 /// Returns an empty folder for a test.
 pub(crate) fn fresh(rt: &HostRuntime, name: &str) -> Result<PathText, Fail> {
-    let text = place_of(rt, name)?;
+    let text = path_of(rt, name)?;
     empty_folder(rt, text.as_str())
 }
 

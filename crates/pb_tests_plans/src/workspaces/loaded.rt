@@ -2,7 +2,7 @@
 
 use crate::asking::{assert_cases, options_of};
 use crate::workspaces::cases::CASES;
-use crate::workspaces::show::{put_answer, put_places};
+use crate::workspaces::show::{put_answer, put_indices};
 use pb_place::Memory;
 use pb_place_types::{PathFault, PathText, Place};
 use pb_tests_files::{Case, Shown, Silent, Trial, put_files, workspace_in};
@@ -14,7 +14,7 @@ use std::test::Fail;
 /// Puts what is selected: the places, or the refusal.
 fn put_selected(out: &mut Shown, answer: &Result<SelectedWorkspace<'_>, LoadFault>) {
     match answer {
-        Ok(chosen) => put_places(out, "", chosen.selection().packages.as_slice()),
+        Ok(chosen) => put_indices(out, "", chosen.selection().packages.as_slice()),
         Err(fault) => {
             out.put(&[" "]);
             out.put_value(fault);

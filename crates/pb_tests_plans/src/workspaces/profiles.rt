@@ -17,7 +17,7 @@ release a other host = Zero Nothing false false ThinLocal Unwind 256 false Nothi
 bench a member host = Zero Nothing false false ThinLocal Unwind 256 false Nothing
 debug a member target = NoSuchProfile
 nope a member target = NoSuchProfile
-=== [settings.places] what is set for a package
+=== [settings.locations] what is set for a package
 workspace = {}
 [profile.dev.package.a]
 opt-level = 1
@@ -33,7 +33,7 @@ dev a member host = One Limited false false ThinLocal Unwind 7 false DebugInfo
 test a other host = One Limited false false ThinLocal Unwind 7 false DebugInfo
 dev b member target = Zero Full true true ThinLocal Unwind 256 false Nothing
 release a member target = Three Nothing false false ThinLocal Unwind 16 false Nothing
-=== [settings.places] what is set for all packages that are no members
+=== [settings.locations] what is set for all packages that are no members
 workspace = {}
 [profile.dev.package."*"]
 opt-level = "s"
@@ -47,7 +47,7 @@ dev a other target = Size LineTablesOnly false false ThinLocal Unwind 9 false Sy
 dev a other host = Size LineTablesOnly false false ThinLocal Unwind 9 false Symbols
 dev a member target = Zero Full true true ThinLocal Unwind 256 false Nothing
 dev a member host = Zero Nothing true true ThinLocal Unwind 256 false Nothing
-=== [settings.places] what is set for the host
+=== [settings.locations] what is set for the host
 workspace = {}
 [profile.dev.build-override]
 opt-level = "z"
@@ -62,7 +62,7 @@ dev a other host = SmallestSize LineDirectivesOnly false false ThinLocal Unwind 
 test a member host = SmallestSize LineDirectivesOnly false false ThinLocal Unwind 3 false Symbols
 dev a member target = Zero Full true true ThinLocal Unwind 256 false Nothing
 release a member host = Zero Nothing false false ThinLocal Unwind 256 false Nothing
-=== [settings.places] what a profile sets
+=== [settings.locations] what a profile sets
 workspace = {}
 [profile.dev]
 opt-level = 2
@@ -80,7 +80,7 @@ dev a other target = Two Nothing false false Thin Abort 65536 true DebugInfo
 test a member target = Two Nothing false false Thin Abort 65536 true DebugInfo
 dev a member host = Zero Nothing false false Thin Unwind 256 true DebugInfo
 release a member target = Three Nothing false false ThinLocal Unwind 16 false Nothing
-=== [settings.places] each place comes before the next
+=== [settings.locations] each location comes before the next
 workspace = {}
 [profile.dev]
 codegen-units = 4
@@ -199,7 +199,7 @@ rpath = true
 ---
 dev a member target = Zero Full true true ThinLocal Unwind 256 false Nothing
 fast a member target = NotInOverride
-=== [settings.places] other packages come before the host
+=== [settings.locations] other packages come before the host
 workspace = {}
 [profile.dev.package."*"]
 opt-level = 2
@@ -210,7 +210,7 @@ dev e other target = Two Full true true ThinLocal Unwind 256 false Nothing
 dev e other host = Two Nothing true true ThinLocal Unwind 256 false Nothing
 dev a member host = One Nothing true true ThinLocal Unwind 256 false Nothing
 dev a member target = Zero Full true true ThinLocal Unwind 256 false Nothing
-=== [settings.places] a package by its name comes before other packages
+=== [settings.locations] a package by its name comes before other packages
 workspace = {}
 [profile.dev.package."*"]
 opt-level = 2

@@ -1,7 +1,7 @@
 //! Settings of packages under profiles, by a table of manifests with questions and answers.
 
 use crate::asking::assert_cases;
-use crate::workspaces::places::PLACES;
+use crate::workspaces::locations::LOCATIONS;
 use crate::workspaces::profiles::PROFILES;
 use pb_data::{Items, Text};
 use pb_manifest::read_manifest;
@@ -190,7 +190,7 @@ static FOLDERS: &[(&str, &str)] = &[
 #[test]
 fn settings_and_folders(rt: HostRuntime) -> Result<(), Fail> {
     assert_cases(&rt, rt.alloc(), PROFILES, &SettingCases {}, 14)?;
-    assert_cases(&rt, rt.alloc(), PLACES, &SettingCases {}, 8)?;
+    assert_cases(&rt, rt.alloc(), LOCATIONS, &SettingCases {}, 8)?;
     for case in FOLDERS {
         let (profile, wanted) = *case;
         assert!(rt; folder_of(profile) == wanted, "of {profile}");

@@ -33,11 +33,11 @@ fn put_fault(out: &mut Shown, fault: &LoadFault) {
 }
 
 /// Puts a line of a word and places.
-pub fn put_places(out: &mut Shown, word: &str, places: &[usize]) {
+pub fn put_indices(out: &mut Shown, word: &str, indices: &[usize]) {
     out.put(&[word]);
-    for place in places {
+    for index in indices {
         out.put(&[" "]);
-        out.put_number(*place as u64);
+        out.put_number(*index as u64);
     }
     out.put(&["\n"]);
 }
@@ -46,13 +46,13 @@ fn put_workspace(out: &mut Shown, workspace: &Workspace) {
     for found in workspace.packages.as_slice() {
         put_package(out, found);
     }
-    if let Some(place) = workspace.root_package {
-        put_places(out, "root", &[place]);
+    if let Some(index) = workspace.root_package {
+        put_indices(out, "root", &[index]);
     }
     match &workspace.default_members {
         DefaultMembers::Unwritten => {}
         DefaultMembers::Unknown => out.put(&["default unknown\n"]),
-        DefaultMembers::Named(places) => put_places(out, "default", places.as_slice()),
+        DefaultMembers::Named(indices) => put_indices(out, "default", indices.as_slice()),
     }
     for profile in workspace.profiles.as_slice() {
         out.put(&["profile ", profile.name.as_str(), "\n"]);

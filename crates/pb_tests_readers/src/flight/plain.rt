@@ -22,8 +22,8 @@ pub struct Unit {
 }
 
 /// Returns the state of the unit at an index.
-pub fn standing_at(units: &[Unit], place: usize) -> Standing {
-    match units.get(place) {
+pub fn standing_at(units: &[Unit], index: usize) -> Standing {
+    match units.get(index) {
         Some(unit) => unit.standing,
         None => Standing::Untouched,
     }
@@ -42,12 +42,12 @@ fn is_open(units: &[Unit], unit: &Unit) -> bool {
 /// Returns the units that may begin.
 pub fn ready(alloc: Global, units: &[Unit]) -> Result<Vec<usize>, Fail> {
     let mut found = Vec::new(alloc);
-    for (place, unit) in units.iter().enumerate() {
+    for (index, unit) in units.iter().enumerate() {
         if unit.standing == Standing::Bad {
             break;
         }
         if is_open(units, unit) {
-            found.push(place)?;
+            found.push(index)?;
         }
     }
     Ok(found)
@@ -56,9 +56,9 @@ pub fn ready(alloc: Global, units: &[Unit]) -> Result<Vec<usize>, Fail> {
 /// Returns the units in flight, in plan order.
 pub fn units_in_flight(alloc: Global, units: &[Unit]) -> Result<Vec<usize>, Fail> {
     let mut found = Vec::new(alloc);
-    for (place, unit) in units.iter().enumerate() {
+    for (index, unit) in units.iter().enumerate() {
         if unit.standing == Standing::Flying {
-            found.push(place)?;
+            found.push(index)?;
         }
     }
     Ok(found)
@@ -82,9 +82,9 @@ pub fn due(alloc: Global, units: &[Unit]) -> Result<Vec<u8>, AllocError> {
 /// Returns the index of the bad unit that is reported.
 pub fn first_bad(units: &[Unit]) -> Option<usize> {
     let mut told = None;
-    for (place, unit) in units.iter().enumerate() {
+    for (index, unit) in units.iter().enumerate() {
         if unit.standing == Standing::Bad {
-            told = Some(place);
+            told = Some(index);
         }
         if unit.standing != Standing::Good {
             break;

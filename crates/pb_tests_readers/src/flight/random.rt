@@ -81,11 +81,11 @@ fn answer(
 fn note(
     alloc: Global,
     units: &mut Vec<Unit>,
-    place: usize,
+    index: usize,
     is_bad: bool,
     line: &str,
 ) -> Result<(), AllocError> {
-    if let Some(unit) = units.get_mut(place) {
+    if let Some(unit) = units.get_mut(index) {
         unit.standing = if is_bad {
             Standing::Bad
         } else {

@@ -11,8 +11,8 @@ fn pick_ends() -> bool {
 /// Returns whether a step is this one.
 fn is_step(step: Step, begins: bool, wanted: usize) -> bool {
     match step {
-        Step::Begin(place) => begins && place == wanted,
-        Step::Answer(place) => !begins && place == wanted,
+        Step::Begin(index) => begins && index == wanted,
+        Step::Answer(index) => !begins && index == wanted,
     }
 }
 

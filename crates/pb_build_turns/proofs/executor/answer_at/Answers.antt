@@ -23,7 +23,7 @@ use Rattle.pb_store_soundness.specs.Apart.{is_of}
 use Rattle.pb_build_turns.specs.Calling.{FliesAnew}
 use Rattle.pb_store_soundness.specs.Records.{reading, records}
 use Rattle.pb_store.specs.Folder.{HasNumbers}
-use Rattle.pb_build_turns.specs.Executor.{IsOfPlan, WritesOwn, place_of_unit, places_of, needs_of, moment}
+use Rattle.pb_build_turns.specs.Executor.{IsOfPlan, WritesOwn, index_of_unit, indices_of, needs_of, moment}
 use Rattle.pb_build_turns.specs.Rows.{is_started}
 use Rattle.pb_build_turns.specs.History.{FliesBeside, FliesIn, IsUntold, KeepsChildless, KeepsNoneInFlight, LacksNumber, NamesUnit, NoneWritesTo, History, StoryEnds, states_in}
 use Rattle.pb_build_turns.proofs.Again.{answered_again}
@@ -51,14 +51,14 @@ use Rattle.pb_build_turns.proofs.executor.answer_at.Goals as goal
 pub answer_unit-requires-clause-unit : goal.answer_unit-requires-clause-unit
 answer_unit-requires-clause-unit g c =
     let at_index = slice_get_read c.args.crew.now.running.items (length c.args.crew.now.running.items) c.args.index c.remove-unit.result refl
-    (subst (λ n. c.args.index < n) (length-map c.args.crew.now.running.items place_of_unit) c.requires.within) c.remove-unit.ensures.value in
+    (subst (λ n. c.args.index < n) (length-map c.args.crew.now.running.items index_of_unit) c.requires.within) c.remove-unit.ensures.value in
     let of_plan = all_get (IsOfPlan c.args.crew.now.project) c.args.crew.now.running.items c.args.index c.remove-unit.result c.requires.consistent.units at_index in
     there_of c.args.crew.now.project.plan.planned c.units.result.now c.remove-unit.result.unit c.index-units-unit.result of_plan.unit of_plan.there c.units.ensures c.index-units-unit.is
 
 pub answer_unit-requires-clause-begun : goal.answer_unit-requires-clause-begun
 answer_unit-requires-clause-begun g c =
     let at_index = slice_get_read c.args.crew.now.running.items (length c.args.crew.now.running.items) c.args.index c.remove-unit.result refl
-    (subst (λ n. c.args.index < n) (length-map c.args.crew.now.running.items place_of_unit) c.requires.within) c.remove-unit.ensures.value in
+    (subst (λ n. c.args.index < n) (length-map c.args.crew.now.running.items index_of_unit) c.requires.within) c.remove-unit.ensures.value in
     let of_plan = all_get (IsOfPlan c.args.crew.now.project) c.args.crew.now.running.items c.args.index c.remove-unit.result c.requires.consistent.units at_index in
     let there = there_of c.args.crew.now.project.plan.planned c.units.result.now c.remove-unit.result.unit c.index-units-unit.result of_plan.unit of_plan.there c.units.ensures c.index-units-unit.is in
     record {
@@ -69,7 +69,7 @@ answer_unit-requires-clause-begun g c =
 pub answer_unit-requires-clause-writes : goal.answer_unit-requires-clause-writes
 answer_unit-requires-clause-writes g c =
     let at_index = slice_get_read c.args.crew.now.running.items (length c.args.crew.now.running.items) c.args.index c.remove-unit.result refl
-    (subst (λ n. c.args.index < n) (length-map c.args.crew.now.running.items place_of_unit) c.requires.within) c.remove-unit.ensures.value in
+    (subst (λ n. c.args.index < n) (length-map c.args.crew.now.running.items index_of_unit) c.requires.within) c.remove-unit.ensures.value in
     let of_plan = all_get (IsOfPlan c.args.crew.now.project) c.args.crew.now.running.items c.args.index c.remove-unit.result c.requires.consistent.units at_index in
     let there = there_of c.args.crew.now.project.plan.planned c.units.result.now c.remove-unit.result.unit c.index-units-unit.result of_plan.unit of_plan.there c.units.ensures c.index-units-unit.is in
     all_get (WritesOwn c.args.crew.now.project (g.P.Place.at c.args.place.now).counts.starts.flying) c.args.crew.now.running.items c.args.index c.remove-unit.result c.requires.able.writes at_index c.index-units-unit.result there
@@ -80,7 +80,7 @@ answer_unit-requires-clause-numbers g c = λ t. subst (λ (folder : List ℕ). H
 pub returns-clause-able : goal.returns-clause-able
 returns-clause-able g c =
     let at_index = slice_get_read c.args.crew.now.running.items (length c.args.crew.now.running.items) c.args.index c.remove-unit.result refl
-    (subst (λ n. c.args.index < n) (length-map c.args.crew.now.running.items place_of_unit) c.requires.within) c.remove-unit.ensures.value in
+    (subst (λ n. c.args.index < n) (length-map c.args.crew.now.running.items index_of_unit) c.requires.within) c.remove-unit.ensures.value in
     let of_plan = all_get (IsOfPlan c.args.crew.now.project) c.args.crew.now.running.items c.args.index c.remove-unit.result c.requires.consistent.units at_index in
     let there = there_of c.args.crew.now.project.plan.planned c.units.result.now c.remove-unit.result.unit c.index-units-unit.result of_plan.unit of_plan.there c.units.ensures c.index-units-unit.is in
     let (ran, answered, told) = told_well _ _ _ _ c.index-units-unit.result _ _ _ _ _ c.in-Ok.outcome c.in-Ok.ensures.told in
@@ -94,13 +94,13 @@ returns-clause-able g c =
 pub answer_unit-requires-clause-flies : goal.answer_unit-requires-clause-flies
 answer_unit-requires-clause-flies g c =
     let at_index = slice_get_read c.args.crew.now.running.items (length c.args.crew.now.running.items) c.args.index c.remove-unit.result refl
-    (subst (λ n. c.args.index < n) (length-map c.args.crew.now.running.items place_of_unit) c.requires.within) c.remove-unit.ensures.value in
+    (subst (λ n. c.args.index < n) (length-map c.args.crew.now.running.items index_of_unit) c.requires.within) c.remove-unit.ensures.value in
     flying_of c.args.crew.now (g.P.Place.at c.args.place.now).counts c.args.index c.remove-unit.result c.requires.consistent at_index
 
 pub note_answer-requires : goal.note_answer-requires
 note_answer-requires g c =
     let at_index = slice_get_read c.args.crew.now.running.items (length c.args.crew.now.running.items) c.args.index c.remove-unit.result refl
-    (subst (λ n. c.args.index < n) (length-map c.args.crew.now.running.items place_of_unit) c.requires.within) c.remove-unit.ensures.value in
+    (subst (λ n. c.args.index < n) (length-map c.args.crew.now.running.items index_of_unit) c.requires.within) c.remove-unit.ensures.value in
     let of_plan = all_get (IsOfPlan c.args.crew.now.project) c.args.crew.now.running.items c.args.index c.remove-unit.result c.requires.consistent.units at_index in
     let there = there_of c.args.crew.now.project.plan.planned c.units.result.now c.remove-unit.result.unit c.index-units-unit.result of_plan.unit of_plan.there c.units.ensures c.index-units-unit.is in
     record { within = subst (λ n. c.remove-unit.result.unit < n) (sym c.requires.consistent.long) (slice_get_within c.args.crew.now.project.plan.planned c.remove-unit.result.unit c.index-units-unit.result there) }
@@ -108,7 +108,7 @@ note_answer-requires g c =
 pub returns-in-Err-clause-consistent : goal.returns-in-Err-clause-consistent
 returns-in-Err-clause-consistent g c =
     let at_index = slice_get_read c.args.crew.now.running.items (length c.args.crew.now.running.items) c.args.index c.remove-unit.result refl
-    (subst (λ n. c.args.index < n) (length-map c.args.crew.now.running.items place_of_unit) c.requires.within) c.remove-unit.ensures.value in
+    (subst (λ n. c.args.index < n) (length-map c.args.crew.now.running.items index_of_unit) c.requires.within) c.remove-unit.ensures.value in
     elim (told_badly _ _ _ _ c.index-units-unit.result _ _ _ _ _ c.in-Err.fault c.in-Err.ensures.named c.in-Err.ensures.told) [
       | inl answered ↦
           manned_answered c.args.crew.now _ (g.P.Place.at c.args.place.now).counts (g.P.Place.at c.answer_unit.new.place).counts c.args.index c.remove-unit.result c.requires.consistent at_index refl answered.store.folder refl refl c.remove-unit.ensures.items answered.store.next
@@ -121,26 +121,26 @@ returns-in-Err-clause-consistent g c =
 pub returns-clause-consistent : goal.returns-clause-consistent
 returns-clause-consistent g c =
     let at_index = slice_get_read c.args.crew.now.running.items (length c.args.crew.now.running.items) c.args.index c.remove-unit.result refl
-    (subst (λ n. c.args.index < n) (length-map c.args.crew.now.running.items place_of_unit) c.requires.within) c.remove-unit.ensures.value in
+    (subst (λ n. c.args.index < n) (length-map c.args.crew.now.running.items index_of_unit) c.requires.within) c.remove-unit.ensures.value in
     let (ran, answered, told) = told_well _ _ _ _ c.index-units-unit.result _ _ _ _ _ c.in-Ok.outcome c.in-Ok.ensures.told in
     manned_answered c.args.crew.now _ (g.P.Place.at c.args.place.now).counts (g.P.Place.at c.answer_unit.new.place).counts c.args.index c.remove-unit.result c.requires.consistent at_index refl answered.store.folder
     (ap length c.note_answer.ensures.done ∙ length_set c.args.crew.now.done.items c.remove-unit.result.unit c.in-Ok.outcome.directives) refl c.remove-unit.ensures.items answered.store.next answered.changes.takes.1
 
 pub returns-in-Err-clause-flying : goal.returns-in-Err-clause-flying
-returns-in-Err-clause-flying g c = ap (λ items. map place_of_unit items) c.remove-unit.ensures.items ∙ map_removed place_of_unit c.args.crew.now.running.items c.args.index
+returns-in-Err-clause-flying g c = ap (λ items. map index_of_unit items) c.remove-unit.ensures.items ∙ map_removed index_of_unit c.args.crew.now.running.items c.args.index
 
 pub returns-clause-flying : goal.returns-clause-flying
-returns-clause-flying g c = ap (λ items. map place_of_unit items) c.remove-unit.ensures.items ∙ map_removed place_of_unit c.args.crew.now.running.items c.args.index
+returns-clause-flying g c = ap (λ items. map index_of_unit items) c.remove-unit.ensures.items ∙ map_removed index_of_unit c.args.crew.now.running.items c.args.index
 
 pub returns-in-Err-clause-story : goal.returns-in-Err-clause-story
 returns-in-Err-clause-story g c = λ first at heard es given unit s flying lawful is_given is_unit flies.
     let at_index = slice_get_read c.args.crew.now.running.items (length c.args.crew.now.running.items) c.args.index c.remove-unit.result refl
-    (subst (λ n. c.args.index < n) (length-map c.args.crew.now.running.items place_of_unit) c.requires.within) c.remove-unit.ensures.value in
+    (subst (λ n. c.args.index < n) (length-map c.args.crew.now.running.items index_of_unit) c.requires.within) c.remove-unit.ensures.value in
     let of_plan = all_get (IsOfPlan c.args.crew.now.project) c.args.crew.now.running.items c.args.index c.remove-unit.result c.requires.consistent.units at_index in
     let there = there_of c.args.crew.now.project.plan.planned c.units.result.now c.remove-unit.result.unit c.index-units-unit.result of_plan.unit of_plan.there c.units.ensures c.index-units-unit.is in
     let now = moment (g.P.Place.at c.args.place.now) heard in
     let new = moment (g.P.Place.at c.answer_unit.new.place) heard in
-    let its = injective (sym is_unit ∙ get_map place_of_unit c.args.crew.now.running.items c.args.index c.remove-unit.result at_index) in
+    let its = injective (sym is_unit ∙ get_map index_of_unit c.args.crew.now.running.items c.args.index c.remove-unit.result at_index) in
     let begun = subst (λ n. slice_get (states_in c.args.crew.now.project es) n ≡ Some Begun) its flies in
     let left : UnitExecutor = record { setup = c.args.crew.now.setup; project = c.args.crew.now.project; store = c.answer_unit.new.store; done = c.args.crew.now.done; running = c.remove-unit.new.self; started = c.args.crew.now.started; reasons = c.args.crew.now.reasons } in
     elim (told_badly _ _ _ _ c.index-units-unit.result _ _ _ _ _ c.in-Err.fault c.in-Err.ensures.named c.in-Err.ensures.told) [
@@ -155,8 +155,8 @@ returns-in-Err-clause-story g c = λ first at heard es given unit s flying lawfu
           c.args.index c.remove-unit.result at_index c.index-units-unit.result there c.requires.consistent.units_apart c.requires.consistent.tickets_apart
           (only t) answered.changes.stay c.remove-unit.new.self.items c.remove-unit.ensures.items)
           c.remove-unit.result.unit c.index-units-unit.result there
-          (λ has. apart_removed (places_of c.args.crew.now.running.items) c.args.index c.remove-unit.result.unit c.requires.consistent.units_apart (get_map place_of_unit c.args.crew.now.running.items c.args.index c.remove-unit.result at_index)
-          (subst (λ (ps : List ℕ). Contains ps c.remove-unit.result.unit) (ap (λ items. map place_of_unit items) c.remove-unit.ensures.items ∙ map_removed place_of_unit c.args.crew.now.running.items c.args.index) has)) in
+          (λ has. apart_removed (indices_of c.args.crew.now.running.items) c.args.index c.remove-unit.result.unit c.requires.consistent.units_apart (get_map index_of_unit c.args.crew.now.running.items c.args.index c.remove-unit.result at_index)
+          (subst (λ (ps : List ℕ). Contains ps c.remove-unit.result.unit) (ap (λ items. map index_of_unit items) c.remove-unit.ensures.items ∙ map_removed index_of_unit c.args.crew.now.running.items c.args.index) has)) in
           record {
             setup = s.setup;
             project = s.project;
@@ -235,12 +235,12 @@ returns-in-Err-clause-story g c = λ first at heard es given unit s flying lawfu
 pub returns-clause-story : goal.returns-clause-story
 returns-clause-story g c = λ first at heard es given unit s flying lawful is_given is_unit flies.
     let at_index = slice_get_read c.args.crew.now.running.items (length c.args.crew.now.running.items) c.args.index c.remove-unit.result refl
-    (subst (λ n. c.args.index < n) (length-map c.args.crew.now.running.items place_of_unit) c.requires.within) c.remove-unit.ensures.value in
+    (subst (λ n. c.args.index < n) (length-map c.args.crew.now.running.items index_of_unit) c.requires.within) c.remove-unit.ensures.value in
     let of_plan = all_get (IsOfPlan c.args.crew.now.project) c.args.crew.now.running.items c.args.index c.remove-unit.result c.requires.consistent.units at_index in
     let there = there_of c.args.crew.now.project.plan.planned c.units.result.now c.remove-unit.result.unit c.index-units-unit.result of_plan.unit of_plan.there c.units.ensures c.index-units-unit.is in
     let now = moment (g.P.Place.at c.args.place.now) heard in
     let new = moment (g.P.Place.at c.answer_unit.new.place) heard in
-    let its = injective (sym is_unit ∙ get_map place_of_unit c.args.crew.now.running.items c.args.index c.remove-unit.result at_index) in
+    let its = injective (sym is_unit ∙ get_map index_of_unit c.args.crew.now.running.items c.args.index c.remove-unit.result at_index) in
     let begun = subst (λ n. slice_get (states_in c.args.crew.now.project es) n ≡ Some Begun) its flies in
     let (ran, answered, told) = told_well _ _ _ _ c.index-units-unit.result _ _ _ _ _ c.in-Ok.outcome c.in-Ok.ensures.told in
     let lines = unit_lines c.args.crew.now.project c.index-units-unit.result ran.started ran.messages in

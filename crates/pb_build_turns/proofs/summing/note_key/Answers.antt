@@ -4,10 +4,10 @@ use Rattle.pb_run.specs.UnitSteps.{key_in}
 use Rattle.pb_unit.specs.declared.plan.Planned.{Planned}
 use Rattle.pb_build_turns.proofs.summing.note_key.Goals as goal
 
-pub returns-then-place-units : goal.returns-then-place-units
-returns-then-place-units c = sym (ap (λ o. c.args.keys.now ++ key_in o) (slice_get_past c.args.units.now c.args.place c.if-place-units.true) ∙ append-nil c.args.keys.now)
+pub returns-then-index-units : goal.returns-then-index-units
+returns-then-index-units c = sym (ap (λ o. c.args.keys.now ++ key_in o) (slice_get_past c.args.units.now c.args.index c.if-index-units.true) ∙ append-nil c.args.keys.now)
 
 pub returns : goal.returns
 returns c =
-    c.in_ok-push.ensures.ok ∙ ap (λ k. c.args.keys.now ++ k ∷ []) (c.in_ok-copy.ensures ∙ ap (λ (u : Planned). u.key) (sym c.index-units-place.is))
-    ∙ sym (ap (λ o. c.args.keys.now ++ key_in o) (slice_get_read c.args.units.now (length c.args.units.now) c.args.place c.index-units-place.result refl c.if-place-units.false c.index-units-place.is))
+    c.in_ok-push.ensures.ok ∙ ap (λ k. c.args.keys.now ++ k ∷ []) (c.in_ok-copy.ensures ∙ ap (λ (u : Planned). u.key) (sym c.index-units-index.is))
+    ∙ sym (ap (λ o. c.args.keys.now ++ key_in o) (slice_get_read c.args.units.now (length c.args.units.now) c.args.index c.index-units-index.result refl c.if-index-units.false c.index-units-index.is))

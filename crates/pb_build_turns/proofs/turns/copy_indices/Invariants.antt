@@ -1,5 +1,5 @@
 use Rattle.std.proofs.Common.{◌≡◌, ◌++◌, drop}
 use Rattle.pb_build_turns.proofs.turns.copy_indices.Given as goal
 
-abbrev pub invariant-loop-place : goal.invariant-loop-place
-invariant-loop-place l = l.items ++ drop l.place-index l.places ≡ l.places
+abbrev pub invariant-loop-index : goal.invariant-loop-index
+invariant-loop-index l = l.items ++ drop l.index-index l.indices ≡ l.indices

@@ -5,8 +5,8 @@ use Rattle.pb_command_environment.specs.Pairs.{passed_at}
 use Rattle.pb_command_types.proofs.NamedTexts.{set_flat}
 use Rattle.pb_command_environment.proofs.run_pairs.set_passed.Goals as goal
 
-pub loop-place-preserved : goal.loop-place-preserved
-loop-place-preserved c =
-    ap (λ m. all_set m (flat_map (passed_at c.args.project.now c.args.done.now) (drop (c.loop-place.place-index + 1) c.args.places.now))) c.in_ok-set_passed_at.ensures
-    ∙ sym (set_flat (passed_at c.args.project.now c.args.done.now) c.args.places.now c.loop-place.place-index 0 c.loop-place.all c.loop-place-test.true)
-    ∙ c.loop-place.invariant
+pub loop-index-preserved : goal.loop-index-preserved
+loop-index-preserved c =
+    ap (λ m. all_set m (flat_map (passed_at c.args.project.now c.args.done.now) (drop (c.loop-index.index-index + 1) c.args.indices.now))) c.in_ok-set_passed_at.ensures
+    ∙ sym (set_flat (passed_at c.args.project.now c.args.done.now) c.args.indices.now c.loop-index.index-index 0 c.loop-index.all c.loop-index-test.true)
+    ∙ c.loop-index.invariant

@@ -2,7 +2,7 @@ use Rattle.std.proofs.Common.{◌≡◌, ◌∙◌, Bool, true, false, Option, S
 use Rattle.pb_feature.specs.declared.fault.FeatureFault.{FeatureFault}
 use Rattle.pb_feature.specs.declared.fault.FeatureFault.TheVariants.{NotOptional}
 use Rattle.pb_feature.specs.Faults.{is_entry, is_optional_entry, absent_fault}
-use Rattle.pb_feature.proofs.Finding.{entry_places, optional_places}
+use Rattle.pb_feature.proofs.Finding.{entry_indices, optional_indices}
 use Rattle.pb_feature.proofs.items.optional_fault.Goals as goal
 
 abbrev told : Bool → Bool → Option FeatureFault → Option FeatureFault
@@ -17,26 +17,26 @@ an_entry entry optional found absent is same = sym (ap (λ b. told b optional ab
 pub returns-then-not-is_either : goal.returns-then-not-is_either
 returns-then-not-is_either c =
     let at : is_entry c.args.owner.now c.args.name.now ≡ false =
-    entry_places c.args.name.now c.args.owner.now.entries c.place_of-normal.result c.place_of-build.result c.place_of-normal.ensures.place c.place_of-build.ensures.place
+    entry_indices c.args.name.now c.args.owner.now.entries c.index_of-normal.result c.index_of-build.result c.index_of-normal.ensures.index c.index_of-build.ensures.index
     ∙ sym c.is_either.ensures ∙ c.if-not-is_either.true in
     c.absent_fault.ensures ∙ no_entry (is_entry c.args.owner.now c.args.name.now) (is_optional_entry c.args.owner.now c.args.name.now) (absent_fault c.args.owner.now c.args.name.now) at
 
 pub returns-then-is_either_optional : goal.returns-then-is_either_optional
 returns-then-is_either_optional c =
     let at : is_entry c.args.owner.now c.args.name.now ≡ true =
-    entry_places c.args.name.now c.args.owner.now.entries c.place_of-normal.result c.place_of-build.result c.place_of-normal.ensures.place c.place_of-build.ensures.place
+    entry_indices c.args.name.now c.args.owner.now.entries c.index_of-normal.result c.index_of-build.result c.index_of-normal.ensures.index c.index_of-build.ensures.index
     ∙ sym c.is_either.ensures ∙ c.if-not-is_either.false in
     let is : is_optional_entry c.args.owner.now c.args.name.now ≡ true =
-    optional_places c.args.name.now c.args.owner.now.entries c.place_of-normal.ensures.order c.place_of-normal.result c.place_of-build.result c.place_of-normal.ensures.place c.place_of-build.ensures.place
+    optional_indices c.args.name.now c.args.owner.now.entries c.index_of-normal.ensures.order c.index_of-normal.result c.index_of-build.result c.index_of-normal.ensures.index c.index_of-build.ensures.index
     ∙ sym c.is_either_optional.ensures ∙ c.if-is_either_optional.true in
     an_entry (is_entry c.args.owner.now c.args.name.now) (is_optional_entry c.args.owner.now c.args.name.now) true (absent_fault c.args.owner.now c.args.name.now) at is
 
 pub returns-else-is_either_optional : goal.returns-else-is_either_optional
 returns-else-is_either_optional c =
     let at : is_entry c.args.owner.now c.args.name.now ≡ true =
-    entry_places c.args.name.now c.args.owner.now.entries c.place_of-normal.result c.place_of-build.result c.place_of-normal.ensures.place c.place_of-build.ensures.place
+    entry_indices c.args.name.now c.args.owner.now.entries c.index_of-normal.result c.index_of-build.result c.index_of-normal.ensures.index c.index_of-build.ensures.index
     ∙ sym c.is_either.ensures ∙ c.if-not-is_either.false in
     let is : is_optional_entry c.args.owner.now c.args.name.now ≡ false =
-    optional_places c.args.name.now c.args.owner.now.entries c.place_of-normal.ensures.order c.place_of-normal.result c.place_of-build.result c.place_of-normal.ensures.place c.place_of-build.ensures.place
+    optional_indices c.args.name.now c.args.owner.now.entries c.index_of-normal.ensures.order c.index_of-normal.result c.index_of-build.result c.index_of-normal.ensures.index c.index_of-build.ensures.index
     ∙ sym c.is_either_optional.ensures ∙ c.if-is_either_optional.false in
     an_entry (is_entry c.args.owner.now c.args.name.now) (is_optional_entry c.args.owner.now c.args.name.now) false (absent_fault c.args.owner.now c.args.name.now) at is

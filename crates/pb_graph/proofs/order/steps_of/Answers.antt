@@ -9,7 +9,7 @@ use Rattle.pb_graph.proofs.order.steps_of.Goals as goal
 
 pub loop-rank-preserved : goal.loop-rank-preserved
 loop-rank-preserved c =
-    let R = IsPlaced c.args.nodes.now c.in_ok-places.places.items in
+    let R = IsPlaced c.args.nodes.now c.in_ok-indices.indices.items in
     let one = subst (λ (x : List ℕ). IsPlaced c.args.nodes.now x c.rank-item.result c.in_ok-item.item) c.deref.ensures.value c.in_ok-item.ensures.step in
     record {
       each = subst (λ (x : List Step). AllZip R (take (c.loop-rank.rank-index + 1) c.args.ranks.now) x) (sym c.in_ok-push.ensures.items)
@@ -20,8 +20,8 @@ loop-rank-preserved c =
 
 pub returns : goal.returns
 returns c = record {
-  places = c.in_ok-places.places.items;
-  told = c.in_ok-places.ensures;
-  each = subst (λ (x : List Rank). AllZip (IsPlaced c.args.nodes.now c.in_ok-places.places.items) x c.loop-rank.plan.items)
+  indices = c.in_ok-indices.indices.items;
+  told = c.in_ok-indices.ensures;
+  each = subst (λ (x : List Rank). AllZip (IsPlaced c.args.nodes.now c.in_ok-indices.indices.items) x c.loop-rank.plan.items)
       (take_all c.loop-rank.rank-index c.args.ranks.now c.loop-rank-test.false) c.loop-rank.invariant.each;
 }

@@ -5,7 +5,7 @@ use Rattle.pb_graph.proofs.order.steps_of.Given as goal
 
 abbrev pub invariant-loop-rank : goal.invariant-loop-rank
 invariant-loop-rank l = record {
-  each : AllZip (IsPlaced l.nodes l.places.items) (take l.rank-index l.ranks) l.plan.items;
+  each : AllZip (IsPlaced l.nodes l.indices.items) (take l.rank-index l.ranks) l.plan.items;
   long : length l.marks.items ≡ length l.nodes;
   clear : AreClear l.marks.items;
 }

@@ -14,7 +14,7 @@ use Rattle.pb_run.specs.declared.faults.StepFault.TheVariants as step
 use Rattle.pb_run.specs.declared.ran.Validated.{Validated}
 use Rattle.pb_run.proofs.Building.{land_bad, land_failed, land_kept, land_unkept}
 use Rattle.pb_run.proofs.Causing.{keep_told}
-use Rattle.pb_run.proofs.Changing.{at_place, changes_ended, changes_kept}
+use Rattle.pb_run.proofs.Changing.{at_record, changes_ended, changes_kept}
 use Rattle.pb_run.proofs.Ending.{landed_more, landed_told}
 use Rattle.pb_run.proofs.Halving.{out_lies, still_after}
 use Rattle.pb_run.proofs.Held.{numbers_landed}
@@ -25,7 +25,7 @@ use Rattle.pb_run.proofs.Settling.{Keeping, keeping_moved, stands_moved}
 use Rattle.pb_run.proofs.Stepping.{bad_made, ended_well, good_made, good_stops, kept_so, memory_last, stops_first, store_stops}
 use Rattle.pb_run.proofs.Writes.{ended_anyway, ended_only, none_changed}
 use Rattle.pb_run.proofs.landing.land.Goals as goal
-use Rattle.pb_store_soundness.specs.Records.{out_of, place_of}
+use Rattle.pb_store_soundness.specs.Records.{out_of, record_path}
 use Rattle.pb_store.specs.declared.fault.StoreFault.TheVariants as store
 
 -- The child gave no answer.
@@ -257,8 +257,8 @@ returns-in-Ok-keep-clause-build g c premise setup sources told =
     record { sound = (c.in-Ok-keep.ensures.record told).sound judge; ahead = (c.in-Ok-keep.ensures.record told).ahead; left = inr (inr (c.in-Ok-keep.ensures.record told).stands); only = c.in-Ok-keep.ensures.only.only } in
     land_kept (build_context premise g.P.Place.child setup c.args.project.now sources) c.is_in_order.ensures c.args.index c.args.unit.now c.requires.unit c.args.command.now c.args.launched.now c.args.store.now.next (g.P.Place.at c.args.place.now) (g.P.Place.at c.finish.new.place)
     c.in-Ok.ensures.only c.in-Ok.ensures.still c.in-Ok.ended c.in-Ok-judged_now.judgement (c.in-Ok.ensures.ended told).lands (c.in-Ok-judged_now.ensures.judged told) (sym c.is_some.ensures ∙ c.if-is_some.false) (g.P.Place.at c.keep.new.place) keeping (ap (λ (s : Starts). s.flying) (c.in-Ok-keep.ensures.only.takes.0 ∙ c.in-Ok-judged_now.ensures.quiet.takes.1 ∙ (c.in-Ok.ensures.takes c.args.store.now.next).1))
-    (still_after (is_at_or_below (place_of (records_folder c.args.project.now) c.args.unit.now.key)) (without c.args.launched.now.ticket (g.P.Place.at c.args.place.now).counts.starts.flying) (g.P.Place.at c.judged_now.new.place).counts.starts.flying (g.P.Place.at c.finish.new.place).still (g.P.Place.at c.judged_now.new.place).still (g.P.Place.at c.keep.new.place).still c.in-Ok-judged_now.ensures.quiet.still (ap (λ (s : Starts). s.flying) (c.in-Ok-judged_now.ensures.quiet.takes.1 ∙ (c.in-Ok.ensures.takes c.args.store.now.next).1))
-    (at_place (λ p. KeepsStillOutside (is_at_or_below p) (g.P.Place.at c.judged_now.new.place).counts.starts.flying (g.P.Place.at c.judged_now.new.place).still (g.P.Place.at c.keep.new.place).still) c.args.store.now.folder (records_folder c.args.project.now) c.args.key.now c.args.unit.now.key c.requires.folder c.requires.key c.in-Ok-keep.ensures.only.still)) c.keep.new.self.next c.in-Ok-keep.ensures.next
+    (still_after (is_at_or_below (record_path (records_folder c.args.project.now) c.args.unit.now.key)) (without c.args.launched.now.ticket (g.P.Place.at c.args.place.now).counts.starts.flying) (g.P.Place.at c.judged_now.new.place).counts.starts.flying (g.P.Place.at c.finish.new.place).still (g.P.Place.at c.judged_now.new.place).still (g.P.Place.at c.keep.new.place).still c.in-Ok-judged_now.ensures.quiet.still (ap (λ (s : Starts). s.flying) (c.in-Ok-judged_now.ensures.quiet.takes.1 ∙ (c.in-Ok.ensures.takes c.args.store.now.next).1))
+    (at_record (λ p. KeepsStillOutside (is_at_or_below p) (g.P.Place.at c.judged_now.new.place).counts.starts.flying (g.P.Place.at c.judged_now.new.place).still (g.P.Place.at c.keep.new.place).still) c.args.store.now.folder (records_folder c.args.project.now) c.args.key.now c.args.unit.now.key c.requires.folder c.requires.key c.in-Ok-keep.ensures.only.still)) c.keep.new.self.next c.in-Ok-keep.ensures.next
     (stands_moved g.P.Place.child c.args.store.now.folder (records_folder c.args.project.now) c.args.key.now c.args.unit.now.key c.as_slice.result.now (needed_keys c.args.project.now c.args.unit.now) c.args.command.now c.args.launched.now.number c.as_slice-2.result.now c.in-Ok-judged_now.judgement.names c.in-Ok.ended (g.P.Place.at c.judged_now.new.place).world (g.P.Place.at c.finish.new.place).world (g.P.Place.at c.keep.new.place).world c.requires.folder c.requires.key (c.as_slice.ensures ∙ c.in-Ok-needed_keys.ensures) c.as_slice-2.ensures c.in-Ok-judged_now.ensures.quiet.world
     (c.in-Ok-keep.ensures.record told).stands)
 
@@ -266,8 +266,8 @@ pub returns-in-Ok-keep-clause-changes : goal.returns-in-Ok-keep-clause-changes
 returns-in-Ok-keep-clause-changes g c =
     changes_kept _ _ _ (records_folder c.args.project.now) c.args.unit.now.key c.args.unit.now.out (c.is_in_order.ensures.folders c.args.index c.args.unit.now c.requires.unit) c.args.launched.now (g.P.Place.at c.args.place.now) (g.P.Place.at c.finish.new.place) c.requires.flies c.requires.writes
     c.in-Ok.ensures.only c.in-Ok.ensures.still (g.P.Place.at c.judged_now.new.place) (g.P.Place.at c.keep.new.place) c.in-Ok-judged_now.ensures.quiet.world c.in-Ok-judged_now.ensures.quiet.still (ap (λ (s : Starts). s.flying) (c.in-Ok-judged_now.ensures.quiet.takes.1 ∙ (c.in-Ok.ensures.takes c.args.store.now.next).1))
-    (at_place (λ p. ChangesOnly (is_at_or_below p) (g.P.Place.at c.judged_now.new.place).world (g.P.Place.at c.keep.new.place).world) c.args.store.now.folder (records_folder c.args.project.now) c.args.key.now c.args.unit.now.key c.requires.folder c.requires.key c.in-Ok-keep.ensures.only.only)
-    (at_place (λ p. KeepsStillOutside (is_at_or_below p) (g.P.Place.at c.judged_now.new.place).counts.starts.flying (g.P.Place.at c.judged_now.new.place).still (g.P.Place.at c.keep.new.place).still) c.args.store.now.folder (records_folder c.args.project.now) c.args.key.now c.args.unit.now.key c.requires.folder c.requires.key c.in-Ok-keep.ensures.only.still)
+    (at_record (λ p. ChangesOnly (is_at_or_below p) (g.P.Place.at c.judged_now.new.place).world (g.P.Place.at c.keep.new.place).world) c.args.store.now.folder (records_folder c.args.project.now) c.args.key.now c.args.unit.now.key c.requires.folder c.requires.key c.in-Ok-keep.ensures.only.only)
+    (at_record (λ p. KeepsStillOutside (is_at_or_below p) (g.P.Place.at c.judged_now.new.place).counts.starts.flying (g.P.Place.at c.judged_now.new.place).still (g.P.Place.at c.keep.new.place).still) c.args.store.now.folder (records_folder c.args.project.now) c.args.key.now c.args.unit.now.key c.requires.folder c.requires.key c.in-Ok-keep.ensures.only.still)
     c.in-Ok-keep.ensures.only.takes.0
     (c.in-Ok-keep.ensures.only.takes.1 ∙ c.in-Ok-judged_now.ensures.quiet.takes.0 ∙ (c.in-Ok.ensures.takes c.args.store.now.next).0, c.in-Ok-keep.ensures.only.takes.0 ∙ c.in-Ok-judged_now.ensures.quiet.takes.1 ∙ (c.in-Ok.ensures.takes c.args.store.now.next).1)
 
@@ -304,14 +304,14 @@ returns-clause-build g c premise setup sources told =
     record { sound = (c.in-Err-keep.ensures.record told).sound judge; ahead = (c.in-Err-keep.ensures.record told).ahead; left = (c.in-Err-keep.ensures.record told).stands; only = c.in-Err-keep.ensures.only.only } in
     land_unkept (build_context premise g.P.Place.child setup c.args.project.now sources) c.is_in_order.ensures c.args.index c.args.unit.now c.requires.unit c.args.command.now c.args.launched.now c.args.store.now.next (g.P.Place.at c.args.place.now) (g.P.Place.at c.finish.new.place)
     c.in-Ok.ensures.only c.in-Ok.ensures.still c.in-Ok.ended c.in-Ok-judged_now.judgement (c.in-Ok.ensures.ended told).lands (c.in-Ok-judged_now.ensures.judged told) (sym c.is_some.ensures ∙ c.if-is_some.false) (g.P.Place.at c.keep.new.place) keeping (ap (λ (s : Starts). s.flying) (c.in-Err-keep.ensures.only.takes.0 ∙ c.in-Ok-judged_now.ensures.quiet.takes.1 ∙ (c.in-Ok.ensures.takes c.args.store.now.next).1))
-    (still_after (is_at_or_below (place_of (records_folder c.args.project.now) c.args.unit.now.key)) (without c.args.launched.now.ticket (g.P.Place.at c.args.place.now).counts.starts.flying) (g.P.Place.at c.judged_now.new.place).counts.starts.flying (g.P.Place.at c.finish.new.place).still (g.P.Place.at c.judged_now.new.place).still (g.P.Place.at c.keep.new.place).still c.in-Ok-judged_now.ensures.quiet.still (ap (λ (s : Starts). s.flying) (c.in-Ok-judged_now.ensures.quiet.takes.1 ∙ (c.in-Ok.ensures.takes c.args.store.now.next).1))
-    (at_place (λ p. KeepsStillOutside (is_at_or_below p) (g.P.Place.at c.judged_now.new.place).counts.starts.flying (g.P.Place.at c.judged_now.new.place).still (g.P.Place.at c.keep.new.place).still) c.args.store.now.folder (records_folder c.args.project.now) c.args.key.now c.args.unit.now.key c.requires.folder c.requires.key c.in-Err-keep.ensures.only.still)) c.keep.new.self.next c.in-Err-keep.ensures.next (step.Store c.in-Err-keep.fault)
+    (still_after (is_at_or_below (record_path (records_folder c.args.project.now) c.args.unit.now.key)) (without c.args.launched.now.ticket (g.P.Place.at c.args.place.now).counts.starts.flying) (g.P.Place.at c.judged_now.new.place).counts.starts.flying (g.P.Place.at c.finish.new.place).still (g.P.Place.at c.judged_now.new.place).still (g.P.Place.at c.keep.new.place).still c.in-Ok-judged_now.ensures.quiet.still (ap (λ (s : Starts). s.flying) (c.in-Ok-judged_now.ensures.quiet.takes.1 ∙ (c.in-Ok.ensures.takes c.args.store.now.next).1))
+    (at_record (λ p. KeepsStillOutside (is_at_or_below p) (g.P.Place.at c.judged_now.new.place).counts.starts.flying (g.P.Place.at c.judged_now.new.place).still (g.P.Place.at c.keep.new.place).still) c.args.store.now.folder (records_folder c.args.project.now) c.args.key.now c.args.unit.now.key c.requires.folder c.requires.key c.in-Err-keep.ensures.only.still)) c.keep.new.self.next c.in-Err-keep.ensures.next (step.Store c.in-Err-keep.fault)
 
 pub returns-clause-changes : goal.returns-clause-changes
 returns-clause-changes g c =
     changes_kept _ _ _ (records_folder c.args.project.now) c.args.unit.now.key c.args.unit.now.out (c.is_in_order.ensures.folders c.args.index c.args.unit.now c.requires.unit) c.args.launched.now (g.P.Place.at c.args.place.now) (g.P.Place.at c.finish.new.place) c.requires.flies c.requires.writes
     c.in-Ok.ensures.only c.in-Ok.ensures.still (g.P.Place.at c.judged_now.new.place) (g.P.Place.at c.keep.new.place) c.in-Ok-judged_now.ensures.quiet.world c.in-Ok-judged_now.ensures.quiet.still (ap (λ (s : Starts). s.flying) (c.in-Ok-judged_now.ensures.quiet.takes.1 ∙ (c.in-Ok.ensures.takes c.args.store.now.next).1))
-    (at_place (λ p. ChangesOnly (is_at_or_below p) (g.P.Place.at c.judged_now.new.place).world (g.P.Place.at c.keep.new.place).world) c.args.store.now.folder (records_folder c.args.project.now) c.args.key.now c.args.unit.now.key c.requires.folder c.requires.key c.in-Err-keep.ensures.only.only)
-    (at_place (λ p. KeepsStillOutside (is_at_or_below p) (g.P.Place.at c.judged_now.new.place).counts.starts.flying (g.P.Place.at c.judged_now.new.place).still (g.P.Place.at c.keep.new.place).still) c.args.store.now.folder (records_folder c.args.project.now) c.args.key.now c.args.unit.now.key c.requires.folder c.requires.key c.in-Err-keep.ensures.only.still)
+    (at_record (λ p. ChangesOnly (is_at_or_below p) (g.P.Place.at c.judged_now.new.place).world (g.P.Place.at c.keep.new.place).world) c.args.store.now.folder (records_folder c.args.project.now) c.args.key.now c.args.unit.now.key c.requires.folder c.requires.key c.in-Err-keep.ensures.only.only)
+    (at_record (λ p. KeepsStillOutside (is_at_or_below p) (g.P.Place.at c.judged_now.new.place).counts.starts.flying (g.P.Place.at c.judged_now.new.place).still (g.P.Place.at c.keep.new.place).still) c.args.store.now.folder (records_folder c.args.project.now) c.args.key.now c.args.unit.now.key c.requires.folder c.requires.key c.in-Err-keep.ensures.only.still)
     c.in-Err-keep.ensures.only.takes.0
     (landed_more c.args.store.now.next c.args.launched.now (step.Store c.in-Err-keep.fault) (g.P.Place.at c.args.place.now).counts (g.P.Place.at c.finish.new.place).counts (g.P.Place.at c.judged_now.new.place).counts (g.P.Place.at c.keep.new.place).counts (c.in-Ok.ensures.takes c.args.store.now.next) c.in-Ok-judged_now.ensures.quiet.takes (keep_told c.in-Err-keep.fault (g.P.Place.at c.judged_now.new.place).counts (g.P.Place.at c.keep.new.place).counts c.in-Err-keep.ensures.only.takes))

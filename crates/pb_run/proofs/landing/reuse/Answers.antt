@@ -15,7 +15,7 @@ use Rattle.pb_run.specs.declared.begun.Awaited.TheVariants as awaited
 use Rattle.pb_run.specs.declared.ran.Validated.{Validated}
 use Rattle.pb_run.specs.declared.ran.Ran.{Ran}
 use Rattle.pb_run.proofs.Building.{reuse_bad, reuse_failed, reuse_numbered, reuse_renewed, reuse_unrenewed}
-use Rattle.pb_run.proofs.Changing.{at_place, changes_none, changes_place}
+use Rattle.pb_run.proofs.Changing.{at_record, changes_none, changes_record}
 use Rattle.pb_run.proofs.Causing.{migrate_told}
 use Rattle.pb_run.proofs.Ending.{alone_more, alone_told}
 use Rattle.pb_run.proofs.Held.{numbers_same}
@@ -284,18 +284,18 @@ returns-in-Ok-migrate-clause-build g c premise setup sources told =
     renewing_moved c.args.store.now.folder (records_folder c.args.project.now) c.args.key.now c.args.unit.now.key c.as_slice.result.now (needed_keys c.args.project.now c.args.unit.now) c.args.store.now.next c.migrate.new.self.next (g.P.Place.at c.judged_now.new.place).world (g.P.Place.at c.args.place.now).world (g.P.Place.at c.migrate.new.place).world c.requires.folder c.requires.key (c.as_slice.ensures ∙ c.in-Ok-needed_keys.ensures) c.in-Ok.ensures.quiet.world g.P.Place.child c.args.command.now
     record { sound = (c.in-Ok-migrate.ensures.record told).sound judge c.args.command.now; ahead = (c.in-Ok-migrate.ensures.record told).ahead judge c.args.command.now; only = c.in-Ok-migrate.ensures.only.only; left = inr (inr (c.in-Ok-migrate.ensures.record told).stands); same = λ has. ((c.in-Ok-migrate.ensures.record told).unused has).1 } in
     reuse_renewed (build_context premise g.P.Place.child setup c.args.project.now sources) c.is_in_order.ensures c.args.index c.args.unit.now c.requires.unit c.args.command.now c.args.again.now c.args.store.now.next (g.P.Place.at c.args.place.now) (g.P.Place.at c.migrate.new.place) (Lands None) (MayAnswer c.args.store.now.next None) (ended_well c.without_start-ran.result) c.migrate.new.self.next renewing
-    (changes_place (Lands None) (MayAnswer c.args.store.now.next None) (ended_well c.without_start-ran.result) (records_folder c.args.project.now) c.args.unit.now.key (g.P.Place.at c.args.place.now) (g.P.Place.at c.judged_now.new.place) (g.P.Place.at c.migrate.new.place) c.in-Ok.ensures.quiet.world c.in-Ok.ensures.quiet.still c.in-Ok.ensures.quiet.takes.1
-    (at_place (λ p. ChangesOnly (is_at_or_below p) (g.P.Place.at c.judged_now.new.place).world (g.P.Place.at c.migrate.new.place).world) c.args.store.now.folder (records_folder c.args.project.now) c.args.key.now c.args.unit.now.key c.requires.folder c.requires.key c.in-Ok-migrate.ensures.only.only)
-    (at_place (λ p. KeepsStillOutside (is_at_or_below p) (g.P.Place.at c.judged_now.new.place).counts.starts.flying (g.P.Place.at c.judged_now.new.place).still (g.P.Place.at c.migrate.new.place).still) c.args.store.now.folder (records_folder c.args.project.now) c.args.key.now c.args.unit.now.key c.requires.folder c.requires.key c.in-Ok-migrate.ensures.only.still)
+    (changes_record (Lands None) (MayAnswer c.args.store.now.next None) (ended_well c.without_start-ran.result) (records_folder c.args.project.now) c.args.unit.now.key (g.P.Place.at c.args.place.now) (g.P.Place.at c.judged_now.new.place) (g.P.Place.at c.migrate.new.place) c.in-Ok.ensures.quiet.world c.in-Ok.ensures.quiet.still c.in-Ok.ensures.quiet.takes.1
+    (at_record (λ p. ChangesOnly (is_at_or_below p) (g.P.Place.at c.judged_now.new.place).world (g.P.Place.at c.migrate.new.place).world) c.args.store.now.folder (records_folder c.args.project.now) c.args.key.now c.args.unit.now.key c.requires.folder c.requires.key c.in-Ok-migrate.ensures.only.only)
+    (at_record (λ p. KeepsStillOutside (is_at_or_below p) (g.P.Place.at c.judged_now.new.place).counts.starts.flying (g.P.Place.at c.judged_now.new.place).still (g.P.Place.at c.migrate.new.place).still) c.args.store.now.folder (records_folder c.args.project.now) c.args.key.now c.args.unit.now.key c.requires.folder c.requires.key c.in-Ok-migrate.ensures.only.still)
     c.in-Ok-migrate.ensures.only.takes.0 (c.in-Ok-migrate.ensures.only.takes.1 ∙ c.in-Ok.ensures.quiet.takes.0, c.in-Ok-migrate.ensures.only.takes.0 ∙ c.in-Ok.ensures.quiet.takes.1))
     (c.in-Ok-migrate.ensures.only.takes.0 ∙ c.in-Ok.ensures.quiet.takes.1) c.in-Ok-migrate.ensures.next.next c.in-Ok.judgement (c.in-Ok.ensures.judged told) c.without_start-ran.result c.without_start-ran.ensures
     (renewed_moved c.args.store.now.folder (records_folder c.args.project.now) c.args.key.now c.args.unit.now.key c.as_slice.result.now (needed_keys c.args.project.now c.args.unit.now) c.args.store.now.next c.migrate.new.self.next (g.P.Place.at c.judged_now.new.place).world (g.P.Place.at c.args.place.now).world (g.P.Place.at c.migrate.new.place).world c.requires.folder c.requires.key (c.as_slice.ensures ∙ c.in-Ok-needed_keys.ensures) c.in-Ok.ensures.quiet.world record { stands = (c.in-Ok-migrate.ensures.record told).stands; taken = (c.in-Ok-migrate.ensures.record told).taken })
 
 pub returns-in-Ok-migrate-clause-changes : goal.returns-in-Ok-migrate-clause-changes
 returns-in-Ok-migrate-clause-changes g c =
-    changes_place (Lands None) (MayAnswer c.args.store.now.next None) (ended_well c.without_start-ran.result) (records_folder c.args.project.now) c.args.unit.now.key (g.P.Place.at c.args.place.now) (g.P.Place.at c.judged_now.new.place) (g.P.Place.at c.migrate.new.place) c.in-Ok.ensures.quiet.world c.in-Ok.ensures.quiet.still c.in-Ok.ensures.quiet.takes.1
-    (at_place (λ p. ChangesOnly (is_at_or_below p) (g.P.Place.at c.judged_now.new.place).world (g.P.Place.at c.migrate.new.place).world) c.args.store.now.folder (records_folder c.args.project.now) c.args.key.now c.args.unit.now.key c.requires.folder c.requires.key c.in-Ok-migrate.ensures.only.only)
-    (at_place (λ p. KeepsStillOutside (is_at_or_below p) (g.P.Place.at c.judged_now.new.place).counts.starts.flying (g.P.Place.at c.judged_now.new.place).still (g.P.Place.at c.migrate.new.place).still) c.args.store.now.folder (records_folder c.args.project.now) c.args.key.now c.args.unit.now.key c.requires.folder c.requires.key c.in-Ok-migrate.ensures.only.still)
+    changes_record (Lands None) (MayAnswer c.args.store.now.next None) (ended_well c.without_start-ran.result) (records_folder c.args.project.now) c.args.unit.now.key (g.P.Place.at c.args.place.now) (g.P.Place.at c.judged_now.new.place) (g.P.Place.at c.migrate.new.place) c.in-Ok.ensures.quiet.world c.in-Ok.ensures.quiet.still c.in-Ok.ensures.quiet.takes.1
+    (at_record (λ p. ChangesOnly (is_at_or_below p) (g.P.Place.at c.judged_now.new.place).world (g.P.Place.at c.migrate.new.place).world) c.args.store.now.folder (records_folder c.args.project.now) c.args.key.now c.args.unit.now.key c.requires.folder c.requires.key c.in-Ok-migrate.ensures.only.only)
+    (at_record (λ p. KeepsStillOutside (is_at_or_below p) (g.P.Place.at c.judged_now.new.place).counts.starts.flying (g.P.Place.at c.judged_now.new.place).still (g.P.Place.at c.migrate.new.place).still) c.args.store.now.folder (records_folder c.args.project.now) c.args.key.now c.args.unit.now.key c.requires.folder c.requires.key c.in-Ok-migrate.ensures.only.still)
     c.in-Ok-migrate.ensures.only.takes.0 (c.in-Ok-migrate.ensures.only.takes.1 ∙ c.in-Ok.ensures.quiet.takes.0, c.in-Ok-migrate.ensures.only.takes.0 ∙ c.in-Ok.ensures.quiet.takes.1)
 
 pub returns-clause-ends : goal.returns-clause-ends
@@ -333,15 +333,15 @@ returns-clause-build g c premise setup sources told =
     renewing_moved c.args.store.now.folder (records_folder c.args.project.now) c.args.key.now c.args.unit.now.key c.as_slice.result.now (needed_keys c.args.project.now c.args.unit.now) c.args.store.now.next c.migrate.new.self.next (g.P.Place.at c.judged_now.new.place).world (g.P.Place.at c.args.place.now).world (g.P.Place.at c.migrate.new.place).world c.requires.folder c.requires.key (c.as_slice.ensures ∙ c.in-Ok-needed_keys.ensures) c.in-Ok.ensures.quiet.world g.P.Place.child c.args.command.now
     record { sound = (c.in-Err-migrate.ensures.record told).sound judge c.args.command.now; ahead = (c.in-Err-migrate.ensures.record told).ahead judge c.args.command.now; only = c.in-Err-migrate.ensures.only.only; left = (c.in-Err-migrate.ensures.record told).stands; same = λ has. ((c.in-Err-migrate.ensures.record told).unused has).1 } in
     reuse_unrenewed (build_context premise g.P.Place.child setup c.args.project.now sources) c.is_in_order.ensures c.args.index c.args.unit.now c.requires.unit c.args.command.now c.args.again.now c.args.store.now.next (g.P.Place.at c.args.place.now) (g.P.Place.at c.migrate.new.place) (Lands None) (MayAnswer c.args.store.now.next None) (ended_badly (step.Store c.in-Err-migrate.fault)) c.migrate.new.self.next renewing
-    (changes_place (Lands None) (MayAnswer c.args.store.now.next None) (ended_badly (step.Store c.in-Err-migrate.fault)) (records_folder c.args.project.now) c.args.unit.now.key (g.P.Place.at c.args.place.now) (g.P.Place.at c.judged_now.new.place) (g.P.Place.at c.migrate.new.place) c.in-Ok.ensures.quiet.world c.in-Ok.ensures.quiet.still c.in-Ok.ensures.quiet.takes.1
-    (at_place (λ p. ChangesOnly (is_at_or_below p) (g.P.Place.at c.judged_now.new.place).world (g.P.Place.at c.migrate.new.place).world) c.args.store.now.folder (records_folder c.args.project.now) c.args.key.now c.args.unit.now.key c.requires.folder c.requires.key c.in-Err-migrate.ensures.only.only)
-    (at_place (λ p. KeepsStillOutside (is_at_or_below p) (g.P.Place.at c.judged_now.new.place).counts.starts.flying (g.P.Place.at c.judged_now.new.place).still (g.P.Place.at c.migrate.new.place).still) c.args.store.now.folder (records_folder c.args.project.now) c.args.key.now c.args.unit.now.key c.requires.folder c.requires.key c.in-Err-migrate.ensures.only.still)
+    (changes_record (Lands None) (MayAnswer c.args.store.now.next None) (ended_badly (step.Store c.in-Err-migrate.fault)) (records_folder c.args.project.now) c.args.unit.now.key (g.P.Place.at c.args.place.now) (g.P.Place.at c.judged_now.new.place) (g.P.Place.at c.migrate.new.place) c.in-Ok.ensures.quiet.world c.in-Ok.ensures.quiet.still c.in-Ok.ensures.quiet.takes.1
+    (at_record (λ p. ChangesOnly (is_at_or_below p) (g.P.Place.at c.judged_now.new.place).world (g.P.Place.at c.migrate.new.place).world) c.args.store.now.folder (records_folder c.args.project.now) c.args.key.now c.args.unit.now.key c.requires.folder c.requires.key c.in-Err-migrate.ensures.only.only)
+    (at_record (λ p. KeepsStillOutside (is_at_or_below p) (g.P.Place.at c.judged_now.new.place).counts.starts.flying (g.P.Place.at c.judged_now.new.place).still (g.P.Place.at c.migrate.new.place).still) c.args.store.now.folder (records_folder c.args.project.now) c.args.key.now c.args.unit.now.key c.requires.folder c.requires.key c.in-Err-migrate.ensures.only.still)
     c.in-Err-migrate.ensures.only.takes.0 (alone_more c.args.store.now.next (step.Store c.in-Err-migrate.fault) (g.P.Place.at c.args.place.now).counts (g.P.Place.at c.judged_now.new.place).counts (g.P.Place.at c.migrate.new.place).counts c.in-Ok.ensures.quiet.takes (migrate_told c.args.store.now.next c.in-Err-migrate.fault (g.P.Place.at c.judged_now.new.place).counts (g.P.Place.at c.migrate.new.place).counts c.in-Err-migrate.ensures.only.takes)))
     (c.in-Err-migrate.ensures.only.takes.0 ∙ c.in-Ok.ensures.quiet.takes.1) c.in-Err-migrate.ensures.next.next (step.Store c.in-Err-migrate.fault)
 
 pub returns-clause-changes : goal.returns-clause-changes
 returns-clause-changes g c =
-    changes_place (Lands None) (MayAnswer c.args.store.now.next None) (ended_badly (step.Store c.in-Err-migrate.fault)) (records_folder c.args.project.now) c.args.unit.now.key (g.P.Place.at c.args.place.now) (g.P.Place.at c.judged_now.new.place) (g.P.Place.at c.migrate.new.place) c.in-Ok.ensures.quiet.world c.in-Ok.ensures.quiet.still c.in-Ok.ensures.quiet.takes.1
-    (at_place (λ p. ChangesOnly (is_at_or_below p) (g.P.Place.at c.judged_now.new.place).world (g.P.Place.at c.migrate.new.place).world) c.args.store.now.folder (records_folder c.args.project.now) c.args.key.now c.args.unit.now.key c.requires.folder c.requires.key c.in-Err-migrate.ensures.only.only)
-    (at_place (λ p. KeepsStillOutside (is_at_or_below p) (g.P.Place.at c.judged_now.new.place).counts.starts.flying (g.P.Place.at c.judged_now.new.place).still (g.P.Place.at c.migrate.new.place).still) c.args.store.now.folder (records_folder c.args.project.now) c.args.key.now c.args.unit.now.key c.requires.folder c.requires.key c.in-Err-migrate.ensures.only.still)
+    changes_record (Lands None) (MayAnswer c.args.store.now.next None) (ended_badly (step.Store c.in-Err-migrate.fault)) (records_folder c.args.project.now) c.args.unit.now.key (g.P.Place.at c.args.place.now) (g.P.Place.at c.judged_now.new.place) (g.P.Place.at c.migrate.new.place) c.in-Ok.ensures.quiet.world c.in-Ok.ensures.quiet.still c.in-Ok.ensures.quiet.takes.1
+    (at_record (λ p. ChangesOnly (is_at_or_below p) (g.P.Place.at c.judged_now.new.place).world (g.P.Place.at c.migrate.new.place).world) c.args.store.now.folder (records_folder c.args.project.now) c.args.key.now c.args.unit.now.key c.requires.folder c.requires.key c.in-Err-migrate.ensures.only.only)
+    (at_record (λ p. KeepsStillOutside (is_at_or_below p) (g.P.Place.at c.judged_now.new.place).counts.starts.flying (g.P.Place.at c.judged_now.new.place).still (g.P.Place.at c.migrate.new.place).still) c.args.store.now.folder (records_folder c.args.project.now) c.args.key.now c.args.unit.now.key c.requires.folder c.requires.key c.in-Err-migrate.ensures.only.still)
     c.in-Err-migrate.ensures.only.takes.0 (alone_more c.args.store.now.next (step.Store c.in-Err-migrate.fault) (g.P.Place.at c.args.place.now).counts (g.P.Place.at c.judged_now.new.place).counts (g.P.Place.at c.migrate.new.place).counts c.in-Ok.ensures.quiet.takes (migrate_told c.args.store.now.next c.in-Err-migrate.fault (g.P.Place.at c.judged_now.new.place).counts (g.P.Place.at c.migrate.new.place).counts c.in-Err-migrate.ensures.only.takes))

@@ -5,7 +5,7 @@ use Rattle.clap.specs.Simple.{App, app_of, app_of_fields, new_app}
 use Rattle.clap.specs.Walk.{Rule}
 use Rattle.clap.specs.declared.builder.value_parser.ValueParser.{ValueParser}
 use Rattle.clap.specs.declared.builder.value_parser.ValueParser.TheVariants.{String}
-use Rattle.pb_tool_arguments.specs.Description.{AreChoices, Choices, IsOneOf, at_one_time, build, choosing, places, telling, with_rules}
+use Rattle.pb_tool_arguments.specs.Description.{AreChoices, Choices, IsOneOf, at_one_time, build, choosing, paths, telling, with_rules}
 use Rattle.pb_tool_arguments.proofs.Adding.{added}
 use Rattle.pb_tool_arguments.proofs.description.build_command.Goals as goal
 
@@ -16,7 +16,7 @@ parser_of (rule ∷ rules) = option_map_or (λ parser. parser) rule.parser (pars
 
 -- a build before its last options
 abbrev before : ValueParser → App
-before colors = with_rules places (with_rules (telling colors) (with_rules at_one_time (choosing (new_app (codes "build")))))
+before colors = with_rules paths (with_rules (telling colors) (with_rules at_one_time (choosing (new_app (codes "build")))))
 
 -- a command with the last rules of a build, after those for what it shows
 described : (command start : App) (shown shows rules all : List Rule) → shown ≡ shows → rules ≡ all
@@ -32,6 +32,6 @@ returns c =
     let chosen : app_of c.in_ok-command.command ≡ choosing (new_app (codes "build")) = c.in_ok-command.ensures ∙ ap choosing start_is in
     let telling = c.in_ok-command-2.ensures in
     let told = added (app_of c.in_ok-command-2.command) (app_of c.in_ok-command.command) (choosing (new_app (codes "build"))) telling.0 _ telling.1 telling.2 chosen in
-    let places = c.in_ok-command-3.ensures in
-    let placed = added (app_of c.in_ok-command-3.command) (app_of c.in_ok-command-2.command) _ places.0 _ places.1 places.2 told in
+    let paths = c.in_ok-command-3.ensures in
+    let placed = added (app_of c.in_ok-command-3.command) (app_of c.in_ok-command-2.command) _ paths.0 _ paths.1 paths.2 told in
     IfOk-weaker c.with_options-3.result _ _ (λ new it. described (app_of new) _ telling.0 _ it.0 _ telling.1 it.1 refl refl refl it.2 placed) c.with_options-3.ensures

@@ -9,5 +9,5 @@ use Rattle.pb_workspace.proofs.assembled.entries_in_order.Goals as goal
 pub from_items-requires : goal.from_items-requires
 from_items-requires c =
     subst IsAscending
-    (sym (ap (map (λ (e : Entry). table_key e.kind e.key)) (c.in_ok-entries.ensures ∙ ap (map (entry_at c.args.places.now)) c.into_items-wanted.ensures.same) ∙ map_twice (λ (e : Entry). table_key e.kind e.key) (entry_at c.args.places.now) c.args.wanted))
+    (sym (ap (map (λ (e : Entry). table_key e.kind e.key)) (c.in_ok-entries.ensures ∙ ap (map (entry_at c.args.indices.now)) c.into_items-wanted.ensures.same) ∙ map_twice (λ (e : Entry). table_key e.kind e.key) (entry_at c.args.indices.now) c.args.wanted))
     c.into_items-wanted.ensures.order

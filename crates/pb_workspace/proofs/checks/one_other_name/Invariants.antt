@@ -2,7 +2,7 @@ use Rattle.std.proofs.Common.{◌≡◌, drop}
 use Rattle.std.specs.List.{list_any}
 use Rattle.pb_workspace_package.specs.declared.wanted.Wanted.{Wanted}
 use Rattle.pb_workspace.specs.Checks.{has_other_name}
-use Rattle.pb_workspace.specs.Places.{draft_in}
+use Rattle.pb_workspace.specs.Indices.{draft_in}
 use Rattle.pb_workspace.proofs.checks.one_other_name.Given as goal
 
 abbrev pub invariant-loop-one : goal.invariant-loop-one

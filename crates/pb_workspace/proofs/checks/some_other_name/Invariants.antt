@@ -3,7 +3,7 @@ use Rattle.std.specs.List.{list_any}
 use Rattle.pb_workspace_package.specs.declared.unresolved_package.UnresolvedPackage.{UnresolvedPackage}
 use Rattle.pb_workspace_package.specs.declared.wanted.Wanted.{Wanted}
 use Rattle.pb_workspace.specs.Checks.{has_other_name, some_leads}
-use Rattle.pb_workspace.specs.Places.{draft_in}
+use Rattle.pb_workspace.specs.Indices.{draft_in}
 use Rattle.pb_workspace.proofs.checks.some_other_name.Given as goal
 
 abbrev pub invariant-loop-draft : goal.invariant-loop-draft

@@ -3,7 +3,7 @@ use Rattle.pb_place_types.specs.declared.call.Call.TheVariants as call
 use Rattle.pb_place_types.proofs.CallsInTurn.{made_both}
 use Rattle.pb_record.proofs.ReadingLemmas.{reading}
 use Rattle.pb_record.specs.declared.record.Record.{Record}
-use Rattle.pb_store_soundness.specs.Records.{number_of, place_of, records}
+use Rattle.pb_store_soundness.specs.Records.{number_of, record_path, records}
 use Rattle.pb_store.specs.Looking.{StopsAt, kept_called, names_looked}
 use Rattle.pb_store.specs.declared.fault.StoreFault.TheVariants.{OutOfMemory}
 use Rattle.pb_store.proofs.Called.{no_look, no_write}
@@ -58,7 +58,7 @@ pub returns-in-Err-note-clause-calls : goal.returns-in-Err-note-clause-calls
 returns-in-Err-note-clause-calls g c told =
     let names = names_looked c.args.command.now.target (g.P.Place.at c.args.place.now).world c.args.names.now in
     subst (λ e. StopsAt e (kept_called c.args.self.now.folder c.args.key.now c.args.command.now.target (g.P.Place.at c.args.place.now).world c.args.names.now) (g.P.Place.at c.args.place.now).counts (g.P.Place.at c.kept_now.new.place).counts) (sym c.in-Err-note.ensures.fault)
-    (stops_first OutOfMemory names (call.Write (place_of c.args.self.now.folder c.args.key.now) ∷ []) _ _ (refused_after names _ _ (c.in-Ok.ensures.looks told)))
+    (stops_first OutOfMemory names (call.Write (record_path c.args.self.now.folder c.args.key.now) ∷ []) _ _ (refused_after names _ _ (c.in-Ok.ensures.looks told)))
 
 pub returns-in-Err-clause-written : goal.returns-in-Err-clause-written
 returns-in-Err-clause-written g c is = absurd (no_write _ c.in-Err.ensures.quiet.takes.1.0 is)

@@ -1,7 +1,7 @@
 use Rattle.std.proofs.Common.{Ok, Err, Some, rules, subst}
 use Rattle.pb_place_types.specs.World.{World}
 use Rattle.pb_place_types.specs.declared.call.Call.TheVariants as call
-use Rattle.pb_store_soundness.specs.Records.{place_of}
+use Rattle.pb_store_soundness.specs.Records.{record_path}
 use Rattle.pb_store.proofs.Called.{read_unwritten}
 use Rattle.pb_store.specs.Folder.{MigratesRecord}
 use Rattle.pb_store.proofs.store.Store.migrate.Goals as goal
@@ -18,5 +18,5 @@ returns-in-Err-clause-record g c told =
 
 pub returns-in_err-found-clause-written : goal.returns-in_err-found-clause-written
 returns-in_err-found-clause-written g c =
-    let h = read_unwritten c.in_err-found.field-0.0 (g.P.Place.at c.record_at.new.place).counts.failing (Some (call.Write (place_of c.args.self.now.folder c.args.key.now))) c.in_err-found.ensures.quiet.takes.1.0 in
+    let h = read_unwritten c.in_err-found.field-0.0 (g.P.Place.at c.record_at.new.place).counts.failing (Some (call.Write (record_path c.args.self.now.folder c.args.key.now))) c.in_err-found.ensures.quiet.takes.1.0 in
     search (rules, h)
