@@ -5,7 +5,7 @@ use Rattle.pb_build_result.specs.declared.fault.BuildFault.TheVariants.{Plan, To
 use Rattle.pb_build.specs.Causes.{AskEnds, PlanStopsAt, ReadyStopsAt, StopsBefore, plan_called, ready_called, variables_asked, SpawnEnds}
 use Rattle.pb_build.specs.Environment.{environment_of}
 use Rattle.pb_build.specs.Planning.{IsProject}
-use Rattle.pb_build.specs.Private.{IsRefusedOf, unread}
+use Rattle.pb_build.specs.Private.{IsRefusedOf, fault_of_load}
 use Rattle.pb_workspace_types.specs.declared.fault.LoadFault.{LoadFault}
 use Rattle.pb_workspace_types.specs.declared.fault.LoadFault.TheVariants as load
 use Rattle.pb_workspace_types.specs.declared.options.Options.{Options}
@@ -49,13 +49,13 @@ all_asked old mid last new first second third = third ∙ ap past_call (second �
 abbrev Ends : LoadFault → List Call → Counts → Counts → Type 0
 Ends e names old new = (is_outside e ≡ false → new ≡ past_calls names old) × (is_failure e ≡ false → MakesSome names old new) × (is_failure e ≡ true → FailsOn e names old new)
 
-load_stops : (e : LoadFault) (names : List Call) (old new : Counts) → Ends e names old new → PlanStopsAt (unread e) names old new
+load_stops : (e : LoadFault) (names : List Call) (old new : Counts) → Ends e names old new → PlanStopsAt (fault_of_load e) names old new
 load_stops (load.Place path fault) names old new ends = ends.2 refl
 load_stops load.OutOfMemory names old new ends = ends.1 refl
 load_stops _ names old new ends = ends.0 refl
 
-pub unread_stops : (e : LoadFault) (told : BuildFault) (names : List Call) (old new : Counts) → told ≡ unread e → Ends e names old new → PlanStopsAt told names old new
-unread_stops e told names old new is ends = subst (λ f. PlanStopsAt f names old new) (sym is) (load_stops e names old new ends)
+pub load_fault_stops : (e : LoadFault) (told : BuildFault) (names : List Call) (old new : Counts) → told ≡ fault_of_load e → Ends e names old new → PlanStopsAt told names old new
+load_fault_stops e told names old new is ends = subst (λ f. PlanStopsAt f names old new) (sym is) (load_stops e names old new ends)
 
 -- one that was read, and of which no plan is made
 pub refused_stops : (options : Options) (ws : Workspace) (e : BuildFault) (names : List Call) (old new : Counts) → IsRefusedOf options ws e → new ≡ past_calls names old → PlanStopsAt e names old new

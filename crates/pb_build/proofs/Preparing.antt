@@ -21,7 +21,7 @@ use Rattle.pb_build.specs.Ending.{FailsBefore, IsSilent, IsPrepared, PlansFrom}
 use Rattle.pb_build.specs.Environment.{environment_of}
 use Rattle.pb_build.specs.Planning.{IsProject, IsToldRefusal}
 use Rattle.pb_build.specs.AnyPlan.{IsReadyFor, IsSilentFault}
-use Rattle.pb_build.specs.Private.{IsUnrefused, unopened}
+use Rattle.pb_build.specs.Private.{IsUnrefused, fault_of_opening}
 use Rattle.pb_build.specs.Result.{toolchain_of, setup_of}
 use Rattle.pb_build.specs.declared.builder.BuildPlan.{BuildPlan}
 use Rattle.pb_build.specs.declared.builder.Prepared.{Prepared}
@@ -29,7 +29,7 @@ use Rattle.pb_build.specs.declared.environment.Environment.{Environment}
 
 -- The opening.
 
-pub open_may : (e : OpenFault) (old new : Counts) → new.starts ≡ old.starts → FailsToOpen e old new → MayPlan (unopened e) old.starts new.starts × HasCause (unopened e) old new × Names (unopened e) new
+pub open_may : (e : OpenFault) (old new : Counts) → new.starts ≡ old.starts → FailsToOpen e old new → MayPlan (fault_of_opening e) old.starts new.starts × HasCause (fault_of_opening e) old new × Names (fault_of_opening e) new
 open_may (open_fault.Place path place.Read) old new starts (kind, failed, named) = (starts, failed, named)
 open_may (open_fault.Place path place.List) old new starts (kind, failed, named) = (starts, failed, named)
 open_may (open_fault.Place path place.Write) old new starts (kind, failed, named) = (starts, failed, named)
@@ -43,7 +43,7 @@ open_may (open_fault.Place path place.OutOfMemory) old new starts (kind, failed,
 open_may open_fault.OutOfMemory old new starts none = (starts, none, tt)
 
 -- no store tells a refusal
-pub open_unrefused : (e : OpenFault) → IsUnrefused (unopened e)
+pub open_unrefused : (e : OpenFault) → IsUnrefused (fault_of_opening e)
 open_unrefused (open_fault.Place path place.Read) = tt
 open_unrefused (open_fault.Place path place.List) = tt
 open_unrefused (open_fault.Place path place.Write) = tt

@@ -19,14 +19,14 @@ use Rattle.pb_workspace_types.specs.declared.options.Options.{Options}
 use Rattle.pb_workspace_types.specs.declared.options.Selection.{Selection}
 use Rattle.pb_workspace_types.specs.declared.workspace.Workspace.{Workspace}
 use Rattle.pb_build.specs.Planning.{IsFeatured, IsToldRefusal, IsRefused, by_load, by_selection, by_feature, by_plan}
-use Rattle.pb_build.specs.Private.{unread, IsUnrefused, IsRefusedOf, HasNoProject}
+use Rattle.pb_build.specs.Private.{fault_of_load, IsUnrefused, IsRefusedOf, HasNoProject}
 use Rattle.pb_build.specs.Private as private
 
 -- a workspace that cannot be read
-pub unread_told : (options : Options) (target : List ℕ) (w : World) (fault : LoadFault) → (is_outside fault ≡ false → workspace_of options.manifest target w ≡ Err fault) → IsToldRefusal options target w (unread fault)
-unread_told options target w (load.Place path fault) told = tt
-unread_told options target w load.OutOfMemory told = tt
-unread_told options target w refused told = by_load refused (told refl)
+pub load_fault_told : (options : Options) (target : List ℕ) (w : World) (fault : LoadFault) → (is_outside fault ≡ false → workspace_of options.manifest target w ≡ Err fault) → IsToldRefusal options target w (fault_of_load fault)
+load_fault_told options target w (load.Place path fault) told = tt
+load_fault_told options target w load.OutOfMemory told = tt
+load_fault_told options target w refused told = by_load refused (told refl)
 
 -- a workspace that was read and has no project
 pub unselected : (options : Options) (ws : Workspace) (e : BuildFault) → (e ≡ OutOfMemory) ⊎ ((fault : LoadFault) × (e ≡ Plan (refusal.Load fault)) × (selected ws options ≡ Err fault)) → IsRefusedOf options ws e

@@ -28,10 +28,10 @@ IsUnrefused (Plan why) = ⊥
 IsUnrefused _ = Unit {0}
 
 -- the fault with which a build ends if its workspace cannot be read
-abbrev pub unread : LoadFault → BuildFault
-unread (load.Place path fault) = Device path (device.Place fault)
-unread load.OutOfMemory = OutOfMemory
-unread refused = Plan (refusal.Load refused)
+abbrev pub fault_of_load : LoadFault → BuildFault
+fault_of_load (load.Place path fault) = Device path (device.Place fault)
+fault_of_load load.OutOfMemory = OutOfMemory
+fault_of_load refused = Plan (refusal.Load refused)
 
 -- why a workspace that was read yields no project
 pub data HasNoProject (options : Options) (ws : Workspace) : Refusal → Type 0 where
@@ -46,6 +46,6 @@ IsRefusedOf options ws OutOfMemory = Unit {0}
 IsRefusedOf options ws _ = ⊥
 
 -- the fault with which a build ends if its store cannot be opened
-abbrev pub unopened : OpenFault → BuildFault
-unopened (open_fault.Place path fault) = device_fault path fault
-unopened open_fault.OutOfMemory = OutOfMemory
+abbrev pub fault_of_opening : OpenFault → BuildFault
+fault_of_opening (open_fault.Place path fault) = device_fault path fault
+fault_of_opening open_fault.OutOfMemory = OutOfMemory

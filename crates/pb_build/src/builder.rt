@@ -9,7 +9,7 @@ ghost use Rattle.pb_build.specs.Headline.{ByTurns, ByPick, ByFirst, Headline};
 ghost use Rattle.pb_build.specs.Kept.{SourcesStay};
 ghost use Rattle.pb_build.specs.Planning.{IsToldRefusal};
 ghost use Rattle.pb_build.specs.AnyPlan.{BuildsOn, BuildsOnFirst, IsReadyFor, IsSilentFault, Readies, WorksOn};
-ghost use Rattle.pb_build.specs.Private.{IsUnrefused, unopened};
+ghost use Rattle.pb_build.specs.Private.{IsUnrefused, fault_of_opening};
 ghost use Rattle.pb_build.specs.Result.{setup_of};
 ghost use Rattle.pb_message.specs.Message.{finish_line};
 ghost use Rattle.pb_run.specs.Steps.{MakesInTurn};
@@ -30,7 +30,7 @@ use pb_data::{Bytes, Text, TryCopy};
 use pb_message::{finish_line, write_lines};
 use pb_place_types::{Out, PathText, Place, RelativePath};
 use pb_profile::folder_of;
-use pb_run::{OrderedProject, deviceless};
+use pb_run::{OrderedProject, device_fault};
 use pb_run_flight::{First, Jobs, Pick, Turn};
 use pb_store::{OpenFault, Store};
 use pb_workspace_types::Options;
@@ -85,10 +85,10 @@ fn records_folder(alloc: Global, project: &OrderedProject) -> Result<PathText, A
 
 /// Returns the fault of a store that cannot be opened: `Device`, with the path of the failed call.
 fn open_error(fault: OpenFault) -> BuildFault
-    ensures { result ≡ unopened fault }
+    ensures { result ≡ fault_of_opening fault }
 {
     match fault {
-        OpenFault::Place(path, fault) => deviceless(path.into_text(), fault),
+        OpenFault::Place(path, fault) => device_fault(path.into_text(), fault),
         OpenFault::OutOfMemory => BuildFault::OutOfMemory,
     }
 }

@@ -14,7 +14,7 @@ use pb_build_result::BuildFault;
 use pb_data::{Items, Text, TryCopy};
 use pb_directive::words::words_of;
 use pb_place_types::{PathFault, PathText, Place, RelativePath};
-use pb_run::deviceless;
+use pb_run::device_fault;
 use pb_workspace_types::Options;
 use std::alloc::{AllocError, Global};
 
@@ -63,7 +63,7 @@ fn variable<P: Place>(alloc: Global, place: &mut P, name: &str) -> Result<Option
     };
     match place.variable(alloc, name) {
         Ok(found) => Ok(unless_empty(found)),
-        Err(fault) => Err(deviceless(told, fault)),
+        Err(fault) => Err(device_fault(told, fault)),
     }
 }
 

@@ -3,7 +3,7 @@
 ghost use Rattle.std.specs.Prelude.{◌≡◌, ◌⊎◌, AllPairs, IfOk, IfErr, IsTrue, Ok, Err};
 ghost use Rattle.pb_build.specs.Causes.{MayPlan, PlansInTurn, OnlyLooks};
 ghost use Rattle.pb_build.specs.Planning.{IsFeatured, IsProject, IsToldRefusal};
-ghost use Rattle.pb_build.specs.Private.{IsRefusedOf, unread};
+ghost use Rattle.pb_build.specs.Private.{IsRefusedOf, fault_of_load};
 ghost use Rattle.pb_workspace.specs.Loaded.{workspace_of};
 ghost use Rattle.pb_workspace.specs.LookedAt.{looked_at};
 ghost use Rattle.pb_workspace.specs.Selected.{selected};
@@ -28,8 +28,8 @@ use pb_workspace_types::{LoadFault, Options, SelectedWorkspace, SettledWorkspace
 use std::alloc::Global;
 
 /// Returns the fault of a build whose workspace cannot be read.
-fn unread(fault: LoadFault) -> BuildFault
-    ensures { result ≡ unread fault }
+fn fault_of_load(fault: LoadFault) -> BuildFault
+    ensures { result ≡ fault_of_load fault }
 {
     match fault {
         LoadFault::Place(path, fault) => BuildFault::Device {
@@ -60,7 +60,7 @@ fn read<P: Place>(
 {
     match load(alloc, place, &options.manifest, target) {
         Ok(workspace) => Ok(workspace),
-        Err(fault) => Err(unread(fault)),
+        Err(fault) => Err(fault_of_load(fault)),
     }
 }
 

@@ -60,7 +60,7 @@ fn toolchain_in(ended: Ended) -> Option<Bytes>
 
 /// Returns the fault of a child that did not answer, with the child's name. The fault `OutOfMemory`
 /// contains no name.
-fn childless(unit: Text, fault: StartFault) -> BuildFault
+fn child_fault(unit: Text, fault: StartFault) -> BuildFault
     ensures { result ≡ child_fault unit fault }
 {
     match fault {
@@ -104,7 +104,7 @@ fn start<P: Place>(
     };
     match place.start(alloc, command) {
         Ok(ended) => Ok(ended),
-        Err(fault) => Err(childless(unit, fault)),
+        Err(fault) => Err(child_fault(unit, fault)),
     }
 }
 

@@ -159,7 +159,7 @@ fn entries_of<'a, R: Files + AllocGlobal>(
 }
 
 /// Returns the failure of a folder that did not report an entry.
-fn untold(error: io::Error) -> Failed {
+fn listing_error(error: io::Error) -> Failed {
     if error.kind() == io::ErrorKind::InvalidFilename {
         let kind = io::ErrorKind::InvalidFilename;
         return Failed::from(io::Error::new(kind, "a name in it is not UTF-8"));
@@ -184,7 +184,7 @@ fn take_told<R: Files + AllocGlobal>(
 {
     match entry {
         Ok(entry) => take_entry(runtime, alloc, left_out, found, here, entry.file_name()),
-        Err(error) => Err(untold(error)),
+        Err(error) => Err(listing_error(error)),
     }
 }
 

@@ -158,7 +158,7 @@ pub(crate) fn first_of<R: Files + AllocGlobal>(
 
 /// Returns the answer for a variable without a value: `None` if the variable is not set, otherwise
 /// the fault.
-fn unread(error: VarError) -> Result<Option<Text>, ViewFault>
+fn variable_error(error: VarError) -> Result<Option<Text>, ViewFault>
     ensures absent { error ≡ VarError.NotPresent → result ≡ Ok None }
     ensures failed { error ≡ VarError.NotUnicode → result ≡ Err view_fault.Failed }
     ensures memory { error ≡ VarError.OutOfMemory → result ≡ Err view_fault.OutOfMemory }
@@ -179,6 +179,6 @@ pub(crate) fn variable_of<R: Env + AllocGlobal>(
 ) -> Result<Option<Text>, ViewFault> {
     match env::var(runtime, name) {
         Ok(value) => Ok(Some(Text::new(value))),
-        Err(error) => unread(error),
+        Err(error) => variable_error(error),
     }
 }

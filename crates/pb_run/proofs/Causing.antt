@@ -13,7 +13,7 @@ use Rattle.pb_run.specs.Steps.{started, MayAnswer, BeginFaults, MayFollow, MayRe
 use Rattle.pb_run.specs.declared.faults.StepFault.{StepFault}
 use Rattle.pb_run.specs.declared.faults.StepFault.TheVariants.{Store, Start}
 use Rattle.pb_store.specs.Calls as causes
-use Rattle.pb_store.specs.Calls.{stored}
+use Rattle.pb_store.specs.Calls.{fault_in_store}
 use Rattle.pb_store.specs.declared.fault.StoreFault.{StoreFault}
 use Rattle.pb_store.specs.declared.fault.StoreFault.TheVariants as store
 
@@ -104,7 +104,7 @@ spawn_told next start.OutOfMemory spawned old new may counts = (inr (ap (λ (c :
 -- A call of the place on files or variables.
 
 -- its cause
-place_cause : (call : Call) (f : PlaceFault) (old new : Counts) → new ≡ past_place_fault call f old → StepCause (Store (stored f)) old new
+place_cause : (call : Call) (f : PlaceFault) (old new : Counts) → new ≡ past_place_fault call f old → StepCause (Store (fault_in_store f)) old new
 place_cause call place.OutOfMemory old new counts = ap (λ (c : Counts). c.failures) counts
 place_cause call _ old new counts = (ap (λ (c : Counts). c.failures) counts, ap (λ (c : Counts). c.late) counts, ap (λ (c : Counts). c.last) counts)
 
@@ -117,12 +117,12 @@ place_starts call place.Variable old new counts = ap (λ (c : Counts). c.starts)
 place_starts call place.OutOfMemory old new counts = ap (λ (c : Counts). c.starts) counts
 
 -- one that removes files
-may_remove : (f : PlaceFault) (old new : Starts) → (f ≢ place.OutOfMemory → f ≡ place.Remove) → new ≡ old → MayRemove (Store (stored f)) old new
+may_remove : (f : PlaceFault) (old new : Starts) → (f ≢ place.OutOfMemory → f ≡ place.Remove) → new ≡ old → MayRemove (Store (fault_in_store f)) old new
 may_remove place.OutOfMemory old new kind same = same
 may_remove _ old new kind same = (kind (λ e. cc), same)
 
 pub remove_told : (path : _) (f : PlaceFault) (old new : Counts) → (f ≢ place.OutOfMemory → f ≡ own_fault (call.Remove path)) → new ≡ past_place_fault (call.Remove path) f old
-    → MayRemove (Store (stored f)) old.starts new.starts × StepCause (Store (stored f)) old new
+    → MayRemove (Store (fault_in_store f)) old.starts new.starts × StepCause (Store (fault_in_store f)) old new
 remove_told path f old new kind counts = (may_remove f old.starts new.starts kind (place_starts (call.Remove path) f old new counts), place_cause (call.Remove path) f old new counts)
 
 -- a step that removes the unit's files, as one of its begin
@@ -133,7 +133,7 @@ removed_told next (Store store.OutOfMemory) old new may = inl may
 removed_told next (Start fault) old new may = absurd may
 
 -- one that reads a file
-may_read : (f : PlaceFault) (old new : Starts) → (f ≢ place.OutOfMemory → f ≡ place.Read) → new ≡ old → MayFollow (Store (stored f)) old new
+may_read : (f : PlaceFault) (old new : Starts) → (f ≢ place.OutOfMemory → f ≡ place.Read) → new ≡ old → MayFollow (Store (fault_in_store f)) old new
 may_read place.Read old new kind same = (read_no_remove, same)
 may_read place.List old new kind same = (list_no_remove, same)
 may_read place.Write old new kind same = (write_no_remove, same)
@@ -147,7 +147,7 @@ may_read place.Remove old new kind same = absurd (no_read (kind no_memory))
 may_read place.Variable old new kind same = (variable_no_remove, same)
 may_read place.OutOfMemory old new kind same = same
 
-pub read_told : (path : _) (f : PlaceFault) (old new : Counts) → (f ≢ place.OutOfMemory → f ≡ own_fault (call.Read path)) → new ≡ past_place_fault (call.Read path) f old → TellsFollow old new (Store (stored f))
+pub read_told : (path : _) (f : PlaceFault) (old new : Counts) → (f ≢ place.OutOfMemory → f ≡ own_fault (call.Read path)) → new ≡ past_place_fault (call.Read path) f old → TellsFollow old new (Store (fault_in_store f))
 read_told path f old new kind counts = (may_read f old.starts new.starts kind (place_starts (call.Read path) f old new counts), place_cause (call.Read path) f old new counts)
 
 -- a call of the store that keeps a record

@@ -30,7 +30,7 @@ use Rattle.pb_store_soundness.specs.Records.{record_path, records}
 use Rattle.pb_store.specs.Folder.{lacks_number}
 use Rattle.pb_store.specs.Looking as looking
 use Rattle.pb_store.specs.Looking.{LooksOrSpent, kept_called, migrated_called}
-use Rattle.pb_store.specs.Calls.{stored}
+use Rattle.pb_store.specs.Calls.{fault_in_store}
 use Rattle.pb_store.specs.declared.replaying.Replayed.{Replayed}
 use Rattle.pb_unit.specs.declared.plan.Planned.{Planned}
 use Rattle.pb_store.specs.declared.fault.StoreFault.{StoreFault}
@@ -58,7 +58,7 @@ pub memory_last : (names : List Call) (old new : Counts) → new ≡ past_calls 
 memory_last names old new is = subst (λ c. MakesSome names old c) (sym is) (some_all names old)
 
 -- the one call of the place
-pub call_stops : (call : Call) (fault : PlaceFault) (old new : Counts) → (fault ≢ place.OutOfMemory → fault ≡ own_fault call) → new ≡ past_place_fault call fault old → StepStopsAt (Store (stored fault)) (call ∷ []) old new
+pub call_stops : (call : Call) (fault : PlaceFault) (old new : Counts) → (fault ≢ place.OutOfMemory → fault ≡ own_fault call) → new ≡ past_place_fault call fault old → StepStopsAt (Store (fault_in_store fault)) (call ∷ []) old new
 call_stops call place.OutOfMemory old new kind is = inr is
 call_stops call _ old new kind is = inl (kind (λ e. cc), is)
 

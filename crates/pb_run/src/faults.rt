@@ -3,7 +3,7 @@
 ghost use Rattle.std.specs.Prelude.{◌≡◌};
 ghost use Rattle.pb_run.specs.Steps.{device_fault, named, started};
 ghost use Rattle.pb_run.specs.declared.faults.StepFault.TheVariants as step_fault;
-ghost use Rattle.pb_store.specs.Calls.{stored};
+ghost use Rattle.pb_store.specs.Calls.{fault_in_store};
 
 use pb_build_result::{BuildFault, DeviceFault};
 use pb_data::Text;
@@ -21,7 +21,7 @@ pub enum StepFault {
 
 /// Returns the fault of a call on files or variables as a step's fault.
 pub(crate) fn store_fault(fault: PlaceFault) -> StepFault
-    ensures { result ≡ step_fault.Store (stored fault) }
+    ensures { result ≡ step_fault.Store (fault_in_store fault) }
 {
     match fault {
         PlaceFault::OutOfMemory => StepFault::Store(StoreFault::OutOfMemory),
@@ -60,7 +60,7 @@ pub(crate) fn unit_fault(unit: Text, fault: StepFault) -> BuildFault
 
 /// Returns the fault of a call on files or variables as the build's fault. `unit` is the unit's
 /// key, or else the path or the variable's name. The fault `OutOfMemory` contains no name.
-pub fn deviceless(unit: Text, fault: PlaceFault) -> BuildFault
+pub fn device_fault(unit: Text, fault: PlaceFault) -> BuildFault
     ensures { result ≡ device_fault unit fault }
 {
     match fault {

@@ -13,7 +13,7 @@ mod running;
 mod unit_steps;
 
 pub use begun::{Awaited, Begun, SpawnedChild};
-pub use faults::{StepFault, deviceless};
+pub use faults::{StepFault, device_fault};
 pub use laws::outcomes_unfold;
 pub use ordered::OrderedProject;
 pub use pb_run_flight::{Answer, First, Flight, Jobs, Last, Pick, Step, Turn};

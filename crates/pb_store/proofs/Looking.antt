@@ -8,7 +8,7 @@ use Rattle.pb_place_types.specs.World.{World}
 use Rattle.pb_place_types.specs.declared.place.PlaceFault.{PlaceFault}
 use Rattle.pb_place_types.specs.declared.place.PlaceFault.TheVariants as place
 use Rattle.pb_place_types.proofs.CallsInTurn.{append_none, fails_left, fails_right, made_both, some_all, some_left, some_right}
-use Rattle.pb_store.specs.Calls.{stored}
+use Rattle.pb_store.specs.Calls.{fault_in_store}
 use Rattle.pb_store.specs.Looking.{Looks, StopsAt, looked_up_to}
 use Rattle.pb_store.specs.declared.fault.StoreFault.{StoreFault}
 use Rattle.pb_store.specs.declared.fault.StoreFault.TheVariants.{Place, NumbersSpent, OutOfMemory}
@@ -31,11 +31,11 @@ looks_both (Ok x) a b old mid new first second = made_both a b old mid new first
 looks_both (Err e) a b old mid new first second = stops_then e a b old mid new first second
 
 -- the one call
-one_stops : (call : Call) (fault : PlaceFault) (old new : Counts) → (fault ≢ place.OutOfMemory → fault ≡ own_fault call) → new ≡ past_place_fault call fault old → StopsAt (stored fault) (call ∷ []) old new
+one_stops : (call : Call) (fault : PlaceFault) (old new : Counts) → (fault ≢ place.OutOfMemory → fault ≡ own_fault call) → new ≡ past_place_fault call fault old → StopsAt (fault_in_store fault) (call ∷ []) old new
 one_stops call place.OutOfMemory old new kind is = inr is
 one_stops call _ old new kind is = inl (kind (λ e. cc), is)
 
-pub stops_once : (call : Call) (fault : PlaceFault) (e : StoreFault) (old new : Counts) → e ≡ stored fault → (fault ≢ place.OutOfMemory → fault ≡ own_fault call) → new ≡ past_place_fault call fault old → StopsAt e (call ∷ []) old new
+pub stops_once : (call : Call) (fault : PlaceFault) (e : StoreFault) (old new : Counts) → e ≡ fault_in_store fault → (fault ≢ place.OutOfMemory → fault ≡ own_fault call) → new ≡ past_place_fault call fault old → StopsAt e (call ∷ []) old new
 stops_once call fault e old new told kind is = subst (λ f. StopsAt f (call ∷ []) old new) (sym told) (one_stops call fault old new kind is)
 
 -- a fault is told as it is

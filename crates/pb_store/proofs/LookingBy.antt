@@ -10,7 +10,7 @@ use Rattle.pb_place_types.specs.declared.place.PlaceFault.{PlaceFault}
 use Rattle.pb_place_types.specs.declared.place.PlaceFault.TheVariants as place
 use Rattle.pb_place_types.proofs.CallsInTurn.{fails_left, fails_right, some_all, some_left, some_right}
 use Rattle.pb_store_soundness.specs.Records.{ends_as_record}
-use Rattle.pb_store.specs.Calls.{EndsOnce, MayWrite, opened}
+use Rattle.pb_store.specs.Calls.{EndsOnce, MayWrite, fault_in_opening}
 use Rattle.pb_store.specs.Looking.{OpeningStopsAt, StopsAt, opened_looked, records_looked}
 use Rattle.pb_store.specs.declared.fault.OpenFault.{OpenFault}
 use Rattle.pb_store.specs.declared.fault.OpenFault.TheVariants as open_fault
@@ -28,11 +28,11 @@ opening_stops_then (open_fault.Place path fault) a b old mid new first is = fail
 opening_stops_then open_fault.OutOfMemory a b old mid new first is = some_right a b old mid new first is
 
 -- the one call
-one_opened : (call : Call) (path : List ℕ) (fault : PlaceFault) (old new : Counts) → (fault ≢ place.OutOfMemory → fault ≡ own_fault call) → new ≡ past_place_fault call fault old → OpeningStopsAt (opened path fault) (call ∷ []) old new
+one_opened : (call : Call) (path : List ℕ) (fault : PlaceFault) (old new : Counts) → (fault ≢ place.OutOfMemory → fault ≡ own_fault call) → new ≡ past_place_fault call fault old → OpeningStopsAt (fault_in_opening path fault) (call ∷ []) old new
 one_opened call path place.OutOfMemory old new kind is = inr is
 one_opened call path _ old new kind is = inl (kind (λ e. cc), is)
 
-pub opening_stops_once : (call : Call) (path : List ℕ) (fault : PlaceFault) (e : OpenFault) (old new : Counts) → e ≡ opened path fault → (fault ≢ place.OutOfMemory → fault ≡ own_fault call) → new ≡ past_place_fault call fault old → OpeningStopsAt e (call ∷ []) old new
+pub opening_stops_once : (call : Call) (path : List ℕ) (fault : PlaceFault) (e : OpenFault) (old new : Counts) → e ≡ fault_in_opening path fault → (fault ≢ place.OutOfMemory → fault ≡ own_fault call) → new ≡ past_place_fault call fault old → OpeningStopsAt e (call ∷ []) old new
 opening_stops_once call path fault e old new told kind is = subst (λ f. OpeningStopsAt f (call ∷ []) old new) (sym told) (one_opened call path fault old new kind is)
 
 -- one file more of a row
@@ -68,7 +68,7 @@ row_unread e items rest path whole old mid new reached cut stops =
     (subst (λ names. OpeningStopsAt e names mid new) (sym (first_parts items rest path cut)) (opening_stops_first e (cond (ends_as_record path) (call.Read path ∷ []) []) (records_looked rest) mid new stops)))
 
 -- the folder could not be listed, or one of the records not be read
-pub folder_unlisted : (folder : List ℕ) (w : World) (fault : PlaceFault) (e : OpenFault) (old new : Counts) → e ≡ opened folder fault → (fault ≢ place.OutOfMemory → fault ≡ place.List) → new ≡ past_place_fault (call.ListDirectly folder) fault old → OpeningStopsAt e (opened_looked folder w) old new
+pub folder_unlisted : (folder : List ℕ) (w : World) (fault : PlaceFault) (e : OpenFault) (old new : Counts) → e ≡ fault_in_opening folder fault → (fault ≢ place.OutOfMemory → fault ≡ place.List) → new ≡ past_place_fault (call.ListDirectly folder) fault old → OpeningStopsAt e (opened_looked folder w) old new
 folder_unlisted folder w fault e old new told kind is = opening_stops_first e (call.ListDirectly folder ∷ []) (records_looked (listed_directly folder w)) old new (opening_stops_once (call.ListDirectly folder) folder fault e old new told kind is)
 
 pub folder_unread : (folder : List ℕ) (w : World) (paths : List (List ℕ)) (e : OpenFault) (old mid new : Counts) → paths ≡ listed_directly folder w → mid ≡ past_call old → OpeningStopsAt e (records_looked paths) mid new

@@ -19,14 +19,14 @@ use Rattle.pb_store.specs.declared.fault.StoreFault.{StoreFault}
 use Rattle.pb_store.specs.declared.fault.StoreFault.TheVariants.{Place, NumbersSpent, OutOfMemory}
 
 -- a fault of the place as a fault of the store; out of memory stays out of memory
-abbrev pub stored : PlaceFault → StoreFault
-stored place.OutOfMemory = OutOfMemory
-stored fault = Place fault
+abbrev pub fault_in_store : PlaceFault → StoreFault
+fault_in_store place.OutOfMemory = OutOfMemory
+fault_in_store fault = Place fault
 
 -- a fault of the place on this path as a fault of opening; out of memory stays out of memory
-abbrev pub opened : List ℕ → PlaceFault → OpenFault
-opened path place.OutOfMemory = open_fault.OutOfMemory
-opened path fault = open_fault.Place path fault
+abbrev pub fault_in_opening : List ℕ → PlaceFault → OpenFault
+fault_in_opening path place.OutOfMemory = open_fault.OutOfMemory
+fault_in_opening path fault = open_fault.Place path fault
 
 -- a call of the place failed in this way, and no call came after it
 abbrev pub FailedLast : Failure → Counts → Counts → Type 0

@@ -1,7 +1,7 @@
 //! Why a call of the store fails.
 
 ghost use Rattle.std.specs.Prelude.{◌≡◌};
-ghost use Rattle.pb_store.specs.Calls.{stored, opened};
+ghost use Rattle.pb_store.specs.Calls.{fault_in_store, fault_in_opening};
 
 use pb_place_types::{PathText, PlaceFault};
 use thiserror::Error;
@@ -24,7 +24,7 @@ pub enum StoreFault {
 /// Returns the fault of a call of the place as a fault of the store. `OutOfMemory` stays
 /// `OutOfMemory`.
 pub(crate) fn store_error(fault: PlaceFault) -> StoreFault
-    ensures { result ≡ stored fault }
+    ensures { result ≡ fault_in_store fault }
 {
     match fault {
         PlaceFault::OutOfMemory => StoreFault::OutOfMemory,
@@ -47,7 +47,7 @@ pub enum OpenFault {
 /// Returns the fault of a call of the place on this path as a fault of opening. `OutOfMemory` stays
 /// `OutOfMemory`.
 pub(crate) fn open_error(path: PathText, fault: PlaceFault) -> OpenFault
-    ensures { result ≡ opened path fault }
+    ensures { result ≡ fault_in_opening path fault }
 {
     match fault {
         PlaceFault::OutOfMemory => OpenFault::OutOfMemory,

@@ -44,7 +44,7 @@ fn names_in(alloc: Global, found: &Result<Items<InputName>, UnitFault>) -> Resul
 }
 
 /// Returns the end of a child that printed this.
-fn ended(alloc: Global, status: i32, printed: &str) -> Result<Ended, AllocError> {
+fn end_of(alloc: Global, status: i32, printed: &str) -> Result<Ended, AllocError> {
     let stdout = Bytes::from_slice(alloc, printed.as_bytes())?;
     let stderr = Bytes::from_slice(alloc, b"")?;
     Ok(Ended {
@@ -56,14 +56,14 @@ fn ended(alloc: Global, status: i32, printed: &str) -> Result<Ended, AllocError>
 
 /// Returns the inputs that an answer names, if its text is both what the child printed and the
 /// dep-info.
-fn answered(
+fn inputs_named(
     alloc: Global,
     project: &Project,
     unit: &Planned,
     status: i32,
     text: &str,
 ) -> Result<String, Fail> {
-    let ended = ended(alloc, status, text)?;
+    let ended = end_of(alloc, status, text)?;
     let command = first_command(alloc, project, unit)?;
     let info = if text.is_empty() {
         None
@@ -91,7 +91,7 @@ fn assert_case(rt: &impl Abort, alloc: Global, project: &Project, case: &str) ->
     let unit = unit_of(project, parts.next().unwrap_or(""))?;
     let status = parts.next().unwrap_or("").parse::<i32>()?;
     let text = parts.next().unwrap_or("").replace(alloc, "~", "\n")?;
-    let found = answered(alloc, project, unit, status, text.as_str())?;
+    let found = inputs_named(alloc, project, unit, status, text.as_str())?;
     assert_eq!(rt; found.as_str(), parts.next().unwrap_or(""), "{name}");
     Ok(())
 }

@@ -32,7 +32,7 @@ fn manifests_are_read(rt: HostRuntime) {
 }
 
 /// Puts the files, and returns the workspace in `/w`.
-fn loaded(alloc: Global, place: &mut Memory<Mini>) -> Result<SettledWorkspace, Fail> {
+fn workspace_of(alloc: Global, place: &mut Memory<Mini>) -> Result<SettledWorkspace, Fail> {
     put_files(alloc, place, FILES)?;
     let manifest = PathText::parse(alloc, "/w/Cargo.toml")?;
     let target = PathText::parse(alloc, "/w/target")?;
@@ -107,7 +107,7 @@ fn put_workspace(
 /// Returns what `put_workspace` puts of the workspace in `/w`.
 fn workspace_text(alloc: Global) -> Result<String, Fail> {
     let mut place = Memory::new(alloc, Mini);
-    let workspace = loaded(alloc, &mut place);
+    let workspace = workspace_of(alloc, &mut place);
     drop(place);
     let workspace = workspace?;
     let mut out = String::new(alloc);

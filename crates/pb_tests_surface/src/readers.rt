@@ -148,7 +148,7 @@ impl View for Nothing {
 }
 
 /// Returns what the small compiler replies: its status and its streams.
-fn replied(alloc: Global, words: &str) -> Result<String, Fail> {
+fn reply_to(alloc: Global, words: &str) -> Result<String, Fail> {
     let words = words_of(alloc, words)?;
     let reply = answer(alloc, words.as_slice(), &[], &Nothing)?;
     let stdout = str::from_utf8(reply.stdout.as_slice()).unwrap_or("");
@@ -161,9 +161,9 @@ fn replied(alloc: Global, words: &str) -> Result<String, Fail> {
 /// Rules: `mini.language`.
 #[test]
 fn the_small_compiler_replies(rt: HostRuntime) -> Result<(), Fail> {
-    let reply = replied(rt.alloc(), "-vV")?;
+    let reply = reply_to(rt.alloc(), "-vV")?;
     assert_eq!(rt; reply.as_str(), "0|mini 0.1.0\nhost: mini-unknown-none\n|");
-    let reply = replied(rt.alloc(), "--run /x")?;
+    let reply = reply_to(rt.alloc(), "--run /x")?;
     assert_eq!(rt; reply.as_str(), "2||mini: no image\n");
     Ok(())
 }

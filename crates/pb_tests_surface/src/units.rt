@@ -139,7 +139,7 @@ fn a_unit_runs_if_something_differs(rt: HostRuntime) -> Result<(), Fail> {
 }
 
 /// Returns the status that a unit's record replays, or what differs from the record.
-fn compared<P: Place>(
+fn status_or_difference<P: Place>(
     alloc: Global,
     place: &mut P,
     folder: PathText,
@@ -168,16 +168,16 @@ fn drop_record<P: Place>(
 }
 
 /// Compares a unit with its record, drops the record, and compares again. Returns what was found.
-fn dropped(
+fn compare_without_record(
     alloc: Global,
     place: &mut Memory<Mini>,
     project: &OrderedProject,
     key: &Key,
     command: &Command,
 ) -> Result<String, Fail> {
-    let before = compared(alloc, place, folder(alloc, project)?, key, command)?;
+    let before = status_or_difference(alloc, place, folder(alloc, project)?, key, command)?;
     let number = drop_record(alloc, place, folder(alloc, project)?, key)?;
-    let after = compared(alloc, place, folder(alloc, project)?, key, command)?;
+    let after = status_or_difference(alloc, place, folder(alloc, project)?, key, command)?;
     Ok(format!(in alloc; "{}, {number}, {}", before.as_str(), after.as_str())?)
 }
 
@@ -191,7 +191,7 @@ fn run_and_drop(
     let unit = project.units().get(0).ok_or("no unit")?;
     let key = Key::parse(unit.key.copy(alloc)?).ok_or("no key")?;
     let command = first_command(alloc, project.get(), unit)?;
-    let found = dropped(alloc, place, project, &key, &command);
+    let found = compare_without_record(alloc, place, project, &key, &command);
     drop(command);
     drop(key);
     found

@@ -4,7 +4,7 @@ ghost use Rattle.std.specs.Prelude.{◌≡◌, IfOk, IsTrue};
 ghost use Rattle.pb_command.specs.Judge.{file_at};
 ghost use Rattle.pb_command_types.specs.Targets.{dep_info_of};
 ghost use Rattle.pb_run.specs.Outcome.{ran_of};
-ghost use Rattle.pb_store.specs.Calls.{MayLook, OnlyLooks, stored};
+ghost use Rattle.pb_store.specs.Calls.{MayLook, OnlyLooks, fault_in_store};
 ghost use Rattle.pb_tool_preview.specs.Foreseeing.{Judges};
 
 use crate::fate::Fate;
@@ -20,7 +20,7 @@ use std::alloc::Global;
 
 /// Returns the fault of a call of the place as a fault of the store.
 fn store_fault(fault: PlaceFault) -> StoreFault
-    ensures { result ≡ stored fault }
+    ensures { result ≡ fault_in_store fault }
 {
     match fault {
         PlaceFault::OutOfMemory => StoreFault::OutOfMemory,

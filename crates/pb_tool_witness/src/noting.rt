@@ -22,5 +22,5 @@ pub trait Noting: Place {
         ensures at { IsUnchanged (Self.at self.old) (Self.at self.new) };
 
     /// Returns what was noted. This takes no memory.
-    fn noted(&self) -> &Noted;
+    fn notes(&self) -> &Noted;
 }

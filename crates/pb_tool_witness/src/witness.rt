@@ -52,7 +52,7 @@ impl<P: Place + Reporting> Noting for Witness<P> {
         self.remembered = Remembered::new(alloc);
     }
 
-    fn noted(&self) -> &Noted {
+    fn notes(&self) -> &Noted {
         &self.notes.noted
     }
 }

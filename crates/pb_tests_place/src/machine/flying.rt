@@ -121,7 +121,7 @@ static FLIGHTS: &[(&str, &str, &str)] = &[
 ];
 
 /// Returns how two children end at a fresh place.
-fn flown(rt: &HostRuntime, root: &PathText, first: &str, second: &str) -> Result<String, Fail> {
+fn fly_both(rt: &HostRuntime, root: &PathText, first: &str, second: &str) -> Result<String, Fail> {
     let mut place = HostPlace::new(rt.alloc(), rt);
     let said = fly(rt.alloc(), &mut place, root, first, second);
     drop(place);
@@ -131,7 +131,7 @@ fn flown(rt: &HostRuntime, root: &PathText, first: &str, second: &str) -> Result
 /// Tries two children, and compares how they end.
 fn try_flight(rt: &HostRuntime, first: &str, second: &str, wanted: &str) -> Result<(), Fail> {
     let root = PathText::parse(rt.alloc(), "/")?;
-    try_said(flown(rt, &root, first, second), wanted)
+    try_said(fly_both(rt, &root, first, second), wanted)
 }
 
 /// Rules: `places.calls`.

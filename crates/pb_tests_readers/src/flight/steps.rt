@@ -141,7 +141,7 @@ fn follow(
 
 /// Returns how many steps on the plan went as they should. Returns none if the plan does not end
 /// with this bad unit.
-fn flown(
+fn steps_made(
     alloc: Global,
     steps: &[(Act, &str, &str)],
     bad: Option<usize>,
@@ -156,6 +156,6 @@ fn flown(
 /// Rules: `next.begin`, `next.reported`.
 #[test]
 fn ready_follows_needs_and_the_first_bad_unit_is_told(rt: HostRuntime) {
-    assert!(rt; flown(rt.alloc(), STEPS, None) == Ok(18));
-    assert!(rt; flown(rt.alloc(), BAD_STEPS, Some(2)) == Ok(8));
+    assert!(rt; steps_made(rt.alloc(), STEPS, None) == Ok(18));
+    assert!(rt; steps_made(rt.alloc(), BAD_STEPS, Some(2)) == Ok(8));
 }
