@@ -143,13 +143,13 @@ module _ (ws : Workspace) (features : Features) (selection : Selection) (profile
       below_then_at ws.target (profile_folder ws profile) p.out first (sym (ap (is_at_or_below (profile_folder ws profile)) (sym out)) ∙ at_below (profile_folder ws profile) (below (profile_folder ws profile) p.key) second)
     where
       no_key : (u : Unit) → key_of ws u ≢ []
-      no_key u none = some (name_at ws u.owner) _ none
+      no_key u none = some (name_at ws u.package) _ none
         where
           some : (name rest : List ℕ) → name ++ 46 ∷ rest ≢ []
           some [] rest e = cc
           some (b ∷ name) rest e = cc
 
-  pub package_there : (i : ℕ) (p : Planned) → slice_get units i ≡ Some p → (o : Package) × (slice_get ws.packages p.unit.owner ≡ Some o)
+  pub package_there : (i : ℕ) (p : Planned) → slice_get units i ≡ Some p → (o : Package) × (slice_get ws.packages p.unit.package ≡ Some o)
   package_there i p at = let has = all_at (HasSettings ws is.line) units is.settings i p at in (has.owner, has.package_at)
 
 -- two units of a plan share no path

@@ -66,7 +66,7 @@ module _ (ws : Workspace) (selection : Selection) (f g : Features) (one : IsReso
   needs_at p s Run = ap (λ us. unit p s Script ∷ us) (runs_same p s)
 
   pub needs_same : (u : Unit) → needs ws f u ≡ needs ws g u
-  needs_same u = needs_at u.owner u.side u.what
+  needs_same u = needs_at u.package u.side u.what
 
   pub reaches_too : (u v : Unit) → Reaches ws f u v → Reaches ws g u v
   reaches_too _ _ (direct u v need) = direct u v (subst (λ us. Contains us v) (needs_same u) need)

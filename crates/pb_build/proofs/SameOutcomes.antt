@@ -44,13 +44,13 @@ module _ (p : Project) (g : Features) (names : (o : ℕ) (s : Side) → features
   other = record p { features = g }
 
   active_same : (u : Planned) → active_words p u ≡ active_words other u
-  active_same u = ap (λ (fs : List (List ℕ)). flat_map feature_word fs) (names u.unit.owner u.unit.side)
+  active_same u = ap (λ (fs : List (List ℕ)). flat_map feature_word fs) (names u.unit.package u.unit.side)
 
   externs_same : (u : Planned) (k : Package) → externs p u k ≡ externs other u k
   externs_same u k =
       ap (λ es. es ++ own_extern p u u.unit.what)
       (placed_same (entry_extern p u) (entry_extern other u)
-      (λ n e. ap (λ (b : Bool). if b && leads u.unit.what e.kind then extern (entry_name p e) (library_file p u e.to) else []) (flags u.unit.owner u.unit.side n)) 0 k.entries)
+      (λ n e. ap (λ (b : Bool). if b && leads u.unit.what e.kind then extern (entry_name p e) (library_file p u e.to) else []) (flags u.unit.package u.unit.side n)) 0 k.entries)
 
   words_same : (setup : Setup) (u : Planned) (done : List (Option (List Directive))) (k : Package) → words_of setup p u done k ≡ words_of setup other u done k
   words_same setup u done k =
@@ -60,7 +60,7 @@ module _ (p : Project) (g : Features) (names : (o : ℕ) (s : Side) → features
 
   own_same : (setup : Setup) (u : Planned) (done : List (Option (List Directive))) (k : Package) (w : What) → own_pairs setup p u done k w ≡ own_pairs setup other u done k w
   unfolding passed_at
-  own_same setup u done k Run = ap (λ (fs : List (List ℕ)). (links_pairs k.links ++ map feature_pair fs) ++ building_pairs setup p u ++ passed_pairs p u done) (names u.unit.owner u.unit.side)
+  own_same setup u done k Run = ap (λ (fs : List (List ℕ)). (links_pairs k.links ++ map feature_pair fs) ++ building_pairs setup p u ++ passed_pairs p u done) (names u.unit.package u.unit.side)
   own_same setup u done k _ = refl
 
   by_same : (setup : Setup) (u : Planned) (done : List (Option (List Directive))) (k : Package) (w : What) → u.unit.what ≡ w → command_by w setup p u done k ≡ command_by w setup other u done k
@@ -92,7 +92,7 @@ module _ (p : Project) (g : Features) (names : (o : ℕ) (s : Side) → features
 
   artifacts_same : (u : Planned) (o : Option (List ℕ)) → artifacts p u o ≡ artifacts other u o
   artifacts_same u None = refl
-  artifacts_same u (Some file) = ap (λ (fs : List (List ℕ)). CompilerArtifact record { settings = u.settings; features = fs; file = file; is_executable = is_binary u.unit.what } ∷ []) (names u.unit.owner u.unit.side)
+  artifacts_same u (Some file) = ap (λ (fs : List (List ℕ)). CompilerArtifact record { settings = u.settings; features = fs; file = file; is_executable = is_binary u.unit.what } ∷ []) (names u.unit.package u.unit.side)
 
   messages_same : (u : Planned) (stderr : List ℕ) (d : Option (List Directive)) → good_messages p u stderr d ≡ good_messages other u stderr d
   messages_same u stderr None = ap (λ ms. compiler_messages stderr ++ ms) (artifacts_same u (made_file_of p u))

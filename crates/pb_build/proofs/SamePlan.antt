@@ -128,7 +128,7 @@ module _ (ws : Workspace) (features : Features) (selection : Selection) (profile
   -- settings by the unit
   settings_same : (line : List Seen) (x y : Planned) → x.unit ≡ y.unit → HasSettings ws line x → HasSettings ws line y → x.settings ≡ y.settings
   settings_same line x y same one other =
-      let owners : Some one.owner ≡ Some other.owner = sym one.package_at ∙ (ap (λ (u : Unit). slice_get ws.packages u.owner) same ∙ other.package_at) in
+      let owners : Some one.owner ≡ Some other.owner = sym one.package_at ∙ (ap (λ (u : Unit). slice_get ws.packages u.package) same ∙ other.package_at) in
       let packages : one.owner ≡ other.owner = same_Some one.owner other.owner owners in
       one.settings ∙ (ap₂ (λ (p : Package) (u : Unit). settings_along p (role_of u) line) packages same ∙ sym other.settings)
 

@@ -79,7 +79,7 @@ run_is Script = refl
 run_is Run = refl
 
 made_is : (project : Project) (u : Planned) (file : List ℕ) → artifact project u file ≡ made_message project u file
-made_is project u file = ap (λ can. CompilerArtifact record { settings = u.settings; features = features_at project.features u.unit.owner u.unit.side; file = file; is_executable = can }) (run_is u.unit.what)
+made_is project u file = ap (λ can. CompilerArtifact record { settings = u.settings; features = features_at project.features u.unit.package u.unit.side; file = file; is_executable = can }) (run_is u.unit.what)
 
 file_is : (project : Project) (u : Planned) (file : Option (List ℕ)) → artifacts project u file ≡ option_map_or (λ file. made_message project u file ∷ []) file []
 file_is project u None = refl

@@ -51,7 +51,7 @@ subject_at project u = option_and_then (λ (p : Package). option_map (subject p)
 
 -- the message for a file that a unit has made; only a binary is executable
 abbrev pub made_message : Project → Planned → List ℕ → Message
-made_message project u file = CompilerArtifact record { settings = u.settings; features = features_at project.features u.unit.owner u.unit.side; file = file; is_executable = is_binary u.unit.what }
+made_message project u file = CompilerArtifact record { settings = u.settings; features = features_at project.features u.unit.package u.unit.side; file = file; is_executable = is_binary u.unit.what }
 
 -- the message for what a script passed to the compiler, each list in printed order
 abbrev pub executed : Planned → List Directive → Message

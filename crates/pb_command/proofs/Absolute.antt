@@ -29,10 +29,10 @@ module _ (project : Project) (has : HasPaths project) where
   of_what Run setup unit done p out folder = record { folder = folder; target = has.target; out = out; reads = all_read unit.reaches }
   of_what _ setup unit done p out folder = record { folder = has.root; target = has.target; out = out; reads = all_read unit.reaches }
 
-  of_package : (owner : Option Package) (setup : Setup) (unit : Planned) (done : List (Option (List Directive))) → slice_get project.workspace.packages unit.unit.owner ≡ owner → is_path unit.out ≡ true → IsAbsolute (command_for setup project unit done owner)
+  of_package : (owner : Option Package) (setup : Setup) (unit : Planned) (done : List (Option (List Directive))) → slice_get project.workspace.packages unit.unit.package ≡ owner → is_path unit.out ≡ true → IsAbsolute (command_for setup project unit done owner)
   of_package None setup unit done is out = record { folder = has.root; target = has.target; out = tt; reads = All-from_recursion (λ folder. is_path folder ≡ true) [] tt }
   of_package (Some p) setup unit done is out =
-      of_what unit.unit.what setup unit done p out (all_at (λ (p : Package). is_path p.folder ≡ true) project.workspace.packages unit.unit.owner p has.packages is)
+      of_what unit.unit.what setup unit done p out (all_at (λ (p : Package). is_path p.folder ≡ true) project.workspace.packages unit.unit.package p has.packages is)
 
 pub absolute : CommandsAreAbsolute
 absolute setup project unit done has out = of_package project has (package_of project unit) setup unit done refl out

@@ -80,11 +80,11 @@ extern name (Some path) = (extern_key name path, extern_text name path) ∷ []
 -- the library of an entry, if the entry is enabled and counts for the unit
 abbrev pub entry_extern : Project → Planned → ℕ → Entry → List (List ℕ × List ℕ)
 entry_extern project unit n entry =
-    if is_enabled project.features unit.unit.owner unit.unit.side n && leads unit.unit.what entry.kind then extern (entry_name project entry) (library_file project unit entry.to) else []
+    if is_enabled project.features unit.unit.package unit.unit.side n && leads unit.unit.what entry.kind then extern (entry_name project entry) (library_file project unit entry.to) else []
 
 -- the library of a binary's own package; other units have no such library
 abbrev pub own_extern : Project → Planned → What → List (List ℕ × List ℕ)
-own_extern project unit (Bin name) = extern (library_name_at project unit.unit.owner) (library_file project unit unit.unit.owner)
+own_extern project unit (Bin name) = extern (library_name_at project unit.unit.package) (library_file project unit unit.unit.package)
 own_extern project unit _ = []
 
 -- all libraries that a unit is compiled with, each with its sort key

@@ -113,7 +113,7 @@ expected_text features = codes "cfg(feature, values(" ++ join_by (λ (f : Featur
 
 -- the options for those features of the unit's package that are on
 abbrev pub active_words : Project → Planned → List (List ℕ)
-active_words project unit = flat_map feature_word (features_at project.features unit.unit.owner unit.unit.side)
+active_words project unit = flat_map feature_word (features_at project.features unit.unit.package unit.unit.side)
 
 unfoldable pub expected_words : List Feature → List (List ℕ)
 expected_words features = option (codes "--check-cfg") (expected_text features)

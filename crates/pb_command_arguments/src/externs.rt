@@ -202,7 +202,7 @@ fn put_entry(
     ensures { OnOk result (all.new
         ≡ all_set all.old (entry_extern project.now unit.now index entry.now)) }
 {
-    let owner = unit.unit.owner;
+    let owner = unit.unit.package;
     if project.features.enabled(owner, unit.unit.side, index)
         && leads(&unit.unit.what, entry.kind)
     {
@@ -241,7 +241,7 @@ fn put_own(
 {
     match what {
         What::Bin(_) => {
-            let owner = unit.unit.owner;
+            let owner = unit.unit.package;
             let file = library_file(alloc, project, unit, owner)?;
             put_extern(alloc, all, library_name(project, owner), &file)
         }

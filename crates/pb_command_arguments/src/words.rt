@@ -285,7 +285,7 @@ fn push_unit_features(
 ) -> Result<(), AllocError>
     ensures { OnOk result (words.new ≡ words.old ++ active_words project.now unit.now) }
 {
-    let owner = unit.unit.owner;
+    let owner = unit.unit.package;
     let names = project.features.features_of(owner, unit.unit.side);
     push_active(alloc, words, names)
 }

@@ -100,7 +100,7 @@ feature_pair name = (feature_name name, codes "1")
 
 -- the variables for what the package links, and for the features that are on
 abbrev pub described_pairs : Project → Planned → Package → List (List ℕ × List ℕ)
-described_pairs project unit p = links_pairs p.links ++ map feature_pair (features_at project.features unit.unit.owner unit.unit.side)
+described_pairs project unit p = links_pairs p.links ++ map feature_pair (features_at project.features unit.unit.package unit.unit.side)
 
 -- the text, if there is one and it is not empty
 abbrev pub unless_empty : Option (List ℕ) → Option (List ℕ)

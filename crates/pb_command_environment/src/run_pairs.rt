@@ -145,9 +145,9 @@ fn set_active(
 ) -> Result<(), AllocError>
     ensures { OnOk result (all.new
         ≡ all_set all.old (map feature_pair
-        (features_at project.now.features unit.now.unit.owner unit.now.unit.side))) }
+        (features_at project.now.features unit.now.unit.package unit.now.unit.side))) }
 {
-    let owner = unit.unit.owner;
+    let owner = unit.unit.package;
     set_features(
         alloc,
         all,

@@ -35,7 +35,7 @@ module _ (project : Project) (unit : Planned) (done : List (Option (List Directi
   abbrev first_groups : List Group
   first_groups =
       crate_groups (crate_name_of project unit) (codes "--edition=" ++ edition_text p.edition) (source_by p what) ++ output_groups (map crate_type_text (crate_types p.library what)) unit.out
-      ++ (codes "-C", map assigned (settings_table what unit.settings)) ∷ [] ++ feature_groups (features_at project.features unit.unit.owner unit.unit.side) p.features
+      ++ (codes "-C", map assigned (settings_table what unit.settings)) ∷ [] ++ feature_groups (features_at project.features unit.unit.package unit.unit.side) p.features
 
   abbrev library_groups : List Group
   library_groups = (codes "-L", map dependency_in (libraries_at project unit.reaches)) ∷ (codes "--extern", map (λ (pair : List ℕ × List ℕ). pair.1) (in_order (externs project unit p))) ∷ []
@@ -48,7 +48,7 @@ module _ (project : Project) (unit : Planned) (done : List (Option (List Directi
       let crate = crate_groups (crate_name_of project unit) (codes "--edition=" ++ edition_text p.edition) (source_by p what) in
       let output = output_groups (map crate_type_text (crate_types p.library what)) unit.out in
       let settings = (codes "-C", map assigned (settings_table what unit.settings)) ∷ [] in
-      let features = feature_groups (features_at project.features unit.unit.owner unit.unit.side) p.features in
+      let features = feature_groups (features_at project.features unit.unit.package unit.unit.side) p.features in
       says_both (crate_words project unit p ++ output_words unit p ++ settings_words what unit.settings) (feature_words project unit p) (crate ++ output ++ settings) features
       (says_both (crate_words project unit p ++ output_words unit p) (settings_words what unit.settings) (crate ++ output) settings
       (says_both (crate_words project unit p) (output_words unit p) crate output (crate_says project unit p absolute) (output_says unit p))
@@ -86,7 +86,7 @@ module _ (project : Project) (unit : Planned) (done : List (Option (List Directi
     folder = values-groups (codes "--out-dir") groups;
     alone = values-groups [] groups;
     settings = values-groups (codes "-C") groups ∙ ap (λ vs. map assigned (settings_table what unit.settings) ++ vs) (append-nil _) ∙ ap (λ vs. map assigned (settings_table what unit.settings) ++ map link_arg vs) (flags_are what (heard project unit done));
-    conditions = values-groups (codes "--cfg") groups ∙ ap (λ vs. map feature_is_on (features_at project.features unit.unit.owner unit.unit.side) ++ vs) (append-nil _ ∙ conditions_asked (heard project unit done));
+    conditions = values-groups (codes "--cfg") groups ∙ ap (λ vs. map feature_is_on (features_at project.features unit.unit.package unit.unit.side) ++ vs) (append-nil _ ∙ conditions_asked (heard project unit done));
     expected = values-groups (codes "--check-cfg") groups ∙ append-nil _ ∙ ap (λ vs. features_there_are p.features ∷ vs) (checks_asked (heard project unit done));
     searched = values-groups (codes "-L") groups ∙ ap (λ vs. map dependency_in (libraries_at project unit.reaches) ++ vs) (append-nil _ ∙ searches_asked (flat_map (said_at done) unit.reaches));
     linked = values-groups (codes "-l") groups ∙ append-nil _ ∙ ap (λ vs. cond (is_binary what && is_some p.library) [] vs) (links_asked (heard project unit done));

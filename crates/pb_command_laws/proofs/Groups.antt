@@ -174,9 +174,9 @@ expected_gives features = gives_one (codes "--check-cfg") (expected_text feature
 abbrev pub feature_groups : List (List ℕ) → List Feature → List Group
 feature_groups names features = (codes "--cfg", map feature_is_on names) ∷ (codes "--check-cfg", features_there_are features ∷ []) ∷ []
 
-pub features_say : (project : Project) (unit : Planned) (p : Package) → Says (feature_words project unit p) (feature_groups (features_at project.features unit.unit.owner unit.unit.side) p.features)
+pub features_say : (project : Project) (unit : Planned) (p : Package) → Says (feature_words project unit p) (feature_groups (features_at project.features unit.unit.package unit.unit.side) p.features)
 features_say project unit p =
-    let names = features_at project.features unit.unit.owner unit.unit.side in
+    let names = features_at project.features unit.unit.package unit.unit.side in
     says_both (active_words project unit) (expected_words p.features) ((codes "--cfg", map feature_is_on names) ∷ []) ((codes "--check-cfg", features_there_are p.features ∷ []) ∷ [])
     (says_one (active_words project unit) (codes "--cfg") (map feature_is_on names) (active_gives names))
     (says_one (expected_words p.features) (codes "--check-cfg") (features_there_are p.features ∷ []) (expected_gives p.features))

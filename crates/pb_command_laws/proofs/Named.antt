@@ -124,7 +124,7 @@ module _ (project : Project) (unit : Planned) (p : Package) (settled : IsSettled
   entry_plain n entry at = by entry.renamed
     where
       by : (r : Bool) → IsPlain (cond r (underscored entry.key) (library_name_at project entry.to))
-      by true = underscored_plain entry.key (name_plain entry.key (all_at (λ (entry : Entry). is_name entry.key ≡ true) p.entries n entry (package_is unit.unit.owner p there).entry_keys at))
+      by true = underscored_plain entry.key (name_plain entry.key (all_at (λ (entry : Entry). is_name entry.key ≡ true) p.entries n entry (package_is unit.unit.package p there).entry_keys at))
       by false = library_at_plain entry.to
 
   called_so : (entry : Entry) → IsCalled project entry (entry_name project entry)
@@ -165,9 +165,9 @@ module _ (project : Project) (unit : Planned) (p : Package) (settled : IsSettled
       record { name = name; file = file; plain = plain; key = ap (λ (x : Pair). x.0) (sym same); text = ap (λ (x : Pair). x.1) (sym same); is = is file refl }
 
   entry_one : (n : ℕ) (entry : Entry) (pair : Pair) → slice_get p.entries n ≡ Some entry → Contains (entry_extern project unit n entry) pair → IsOne pair
-  entry_one n entry pair at among = by (is_enabled project.features unit.unit.owner unit.unit.side n) (leads unit.unit.what entry.kind) refl refl among
+  entry_one n entry pair at among = by (is_enabled project.features unit.unit.package unit.unit.side n) (leads unit.unit.what entry.kind) refl refl among
     where
-      by : (e l : Bool) → is_enabled project.features unit.unit.owner unit.unit.side n ≡ e → leads unit.unit.what entry.kind ≡ l
+      by : (e l : Bool) → is_enabled project.features unit.unit.package unit.unit.side n ≡ e → leads unit.unit.what entry.kind ≡ l
           → Contains (cond (e && l) (extern (entry_name project entry) (library_file project unit entry.to)) []) pair → IsOne pair
       by false l enabled kind among = absurd (none pair among)
       by true false enabled kind among = absurd (none pair among)
@@ -178,7 +178,7 @@ module _ (project : Project) (unit : Planned) (p : Package) (settled : IsSettled
   own_one : (what : What) (pair : Pair) → unit.unit.what ≡ what → Contains (own_extern project unit what) pair → IsOne pair
   own_one Lib pair is among = absurd (none pair among)
   own_one (Bin name) pair is among =
-      one_of (library_name_at project unit.unit.owner) (library_file project unit unit.unit.owner) pair (library_at_plain unit.unit.owner) (λ file needed. IsLibrary.own name file is needed) among
+      one_of (library_name_at project unit.unit.package) (library_file project unit unit.unit.package) pair (library_at_plain unit.unit.package) (λ file needed. IsLibrary.own name file is needed) among
   own_one Script pair is among = absurd (none pair among)
   own_one Run pair is among = absurd (none pair among)
 
@@ -200,9 +200,9 @@ module _ (project : Project) (unit : Planned) (p : Package) (settled : IsSettled
       (subst (λ r. Contains (cond r (extern (entry_name project entry) (library_file project unit entry.to)) []) (extern_key name file, extern_text name file)) (sym (λ i. enabled i && kind_to unit.unit.what entry.kind compiles kind i))
       (subst (λ called. Contains (extern called (library_file project unit entry.to)) (extern_key name file, extern_text name file)) (sym (so_called entry name called)) (given_file name file (library_file project unit entry.to) needed))))
   given _ _ (IsLibrary.own binary file is needed) =
-      Contains-append_right (placed (entry_extern project unit) 0 p.entries) (own_extern project unit unit.unit.what) (extern_key (library_name_at project unit.unit.owner) file, extern_text (library_name_at project unit.unit.owner) file)
-      (subst (λ what. Contains (own_extern project unit what) (extern_key (library_name_at project unit.unit.owner) file, extern_text (library_name_at project unit.unit.owner) file)) (sym is)
-      (given_file (library_name_at project unit.unit.owner) file (library_file project unit unit.unit.owner) needed))
+      Contains-append_right (placed (entry_extern project unit) 0 p.entries) (own_extern project unit unit.unit.what) (extern_key (library_name_at project unit.unit.package) file, extern_text (library_name_at project unit.unit.package) file)
+      (subst (λ what. Contains (own_extern project unit what) (extern_key (library_name_at project unit.unit.package) file, extern_text (library_name_at project unit.unit.package) file)) (sym is)
+      (given_file (library_name_at project unit.unit.package) file (library_file project unit unit.unit.package) needed))
 
   -- ---- the libraries in order
 
@@ -262,7 +262,7 @@ module _ (project : Project) (unit : Planned) (p : Package) (settled : IsSettled
 
   plain_name : (name file : List ℕ) → IsLibrary project unit p name file → IsPlain name
   plain_name _ _ (IsLibrary.by_entry n entry name file at enabled kind called needed) = subst IsPlain (so_called entry name called) (entry_plain n entry at)
-  plain_name _ _ (IsLibrary.own binary file is needed) = library_at_plain unit.unit.owner
+  plain_name _ _ (IsLibrary.own binary file is needed) = library_at_plain unit.unit.package
 
   listed : (name file : List ℕ) → IsLibrary project unit p name file → Contains libraries_of (name, file)
   listed name file is =

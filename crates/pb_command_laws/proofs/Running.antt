@@ -135,7 +135,7 @@ module _ (setup : Setup) (project : Project) (unit : Planned) (done : Lines) (p 
   after = building (debug_text (debug unit.settings)) (if list_any (λ (s : Seen). bytes_eq s.name (codes "release")) (result_unwrap_or (checked_line project.workspace.profiles project.profile) []) then codes "release" else codes "debug")
 
   abbrev on : List Pair
-  on = map (λ name. (codes "CARGO_FEATURE_" ++ in_capitals name, codes "1")) (features_at project.features unit.unit.owner unit.unit.side)
+  on = map (λ name. (codes "CARGO_FEATURE_" ++ in_capitals name, codes "1")) (features_at project.features unit.unit.package unit.unit.side)
 
   abbrev handed : List Pair
   handed = flat_map (handed_on project done) unit.needs
@@ -146,7 +146,7 @@ module _ (setup : Setup) (project : Project) (unit : Planned) (done : Lines) (p 
   -- what a run has behind what every unit has
   own_last : (name : List ℕ) → last_value name (run_pairs setup project unit done p) ≡ last_value name ((links ++ on) ++ (after ++ handed))
   own_last name =
-      let names = features_at project.features unit.unit.owner unit.unit.side in
+      let names = features_at project.features unit.unit.package unit.unit.side in
       let passed = passed_pairs project unit done in
       ap (last_value name) (assoc (links_pairs p.links ++ map feature_pair names) before passed)
       ∙ (λ i. last_value name ((links_row p.links i ++ same_features names i) ++ (building (truth (debug unit.settings) i) (released (checked_line project.workspace.profiles project.profile) i) ++ passed)))

@@ -85,9 +85,9 @@ module _ (project : Project) (u : Planned) (p : Package) (stands : StandsInPlan 
   at_need : (owner k : ℕ) → is_run u.unit.what ≡ false → needed is_library project u owner ≡ Some k → IsNeeded owner (library_file project u owner)
   at_need owner k compiles is =
       let (v, at, passes, owner_is, need) = found_is project stands.selection stands.planned stands.index u stands.there is_library owner k is in
-      let of = library_need project.workspace project.features u.unit.owner u.unit.side u.unit.what v.unit compiles need passes in
+      let of = library_need project.workspace project.features u.unit.package u.unit.side u.unit.what v.unit compiles need passes in
       let what_is = library_is v.unit.what passes in
-      let same : v.unit ≡ unit owner side Lib = λ i. record { owner = owner_is i; side = of.side_is i; what = what_is i } in
+      let same : v.unit ≡ unit owner side Lib = λ i. record { «package» = owner_is i; side = of.side_is i; what = what_is i } in
       let out : v.out ≡ folder_of project (unit owner side Lib) = out_is k v at ∙ ap (folder_of project) same in
       record {
         made = ap (λ o. has_library (slice_get project.workspace.packages o)) (sym owner_is) ∙ of.made;
@@ -129,7 +129,7 @@ module _ (project : Project) (u : Planned) (p : Package) (stands : StandsInPlan 
   crate_so owner s crate file of = ap (λ x. library_name (library_in x)) of.package_at ∙ ap library_name of.made ∙ sym of.crate_is
 
   library_to : (owner : ℕ) (crate file : List ℕ) → is_run u.unit.what ≡ false → IsLibraryOf project owner side crate file
-      → Contains (needs_of project.workspace project.features u.unit.owner u.unit.side u.unit.what) (unit owner side Lib) → library_file project u owner ≡ Some file
+      → Contains (needs_of project.workspace project.features u.unit.package u.unit.side u.unit.what) (unit owner side Lib) → library_file project u owner ≡ Some file
   library_to owner crate file compiles of need =
       let (k, is) = is_found project stands.selection stands.planned stands.index u stands.there is_library (unit owner side Lib) need refl in
       (at_need owner k compiles is).file_is
@@ -146,8 +146,8 @@ module _ (project : Project) (u : Planned) (p : Package) (stands : StandsInPlan 
       subst (λ (x : List ℕ). IsWanted project u p x file) (called_is project entry name called) (IsWanted.by_entry n entry (crate_at project entry.to) file at enabled (sort_is entry.kind (is_script u.unit.what) kind)
       (subst (λ s. IsLibraryOf project entry.to s (crate_at project entry.to) file) (sym (role_is u.unit)) (library_from entry.to file compiles found)))
   wants _ _ compiles (IsLibrary.own binary file is found) =
-      IsWanted.own binary (crate_at project u.unit.owner) file is
-      (subst (λ s. IsLibraryOf project u.unit.owner s (crate_at project u.unit.owner) file) (side_of_binary binary is) (library_from u.unit.owner file compiles found))
+      IsWanted.own binary (crate_at project u.unit.package) file is
+      (subst (λ s. IsLibraryOf project u.unit.package s (crate_at project u.unit.package) file) (side_of_binary binary is) (library_from u.unit.package file compiles found))
 
   gives : (name file : List ℕ) → is_run u.unit.what ≡ false → IsWanted project u p name file → IsLibrary project u p name file
   unfolding underscored
@@ -156,48 +156,48 @@ module _ (project : Project) (u : Planned) (p : Package) (stands : StandsInPlan 
       let kind = is_sort entry.kind (is_script u.unit.what) sort in
       IsLibrary.by_entry n entry (cond entry.renamed (underscored entry.key) crate) file at enabled kind (is_called project entry crate (crate_so entry.to side crate file of))
       (library_to entry.to crate file compiles of
-      (library_needed project.workspace project.features u.unit.owner u.unit.side u.unit.what n entry compiles (ap (λ o. slice_get (entries_of o) n) stands.owner ∙ at) enabled kind (has_one entry.to side crate file of)))
+      (library_needed project.workspace project.features u.unit.package u.unit.side u.unit.what n entry compiles (ap (λ o. slice_get (entries_of o) n) stands.owner ∙ at) enabled kind (has_one entry.to side crate file of)))
   gives _ _ compiles (IsWanted.own binary crate file is of) =
-      let here = subst (λ s. IsLibraryOf project u.unit.owner s crate file) (sym (side_of_binary binary is)) of in
-      subst (λ (x : List ℕ). IsLibrary project u p x file) (crate_so u.unit.owner side crate file here)
+      let here = subst (λ s. IsLibraryOf project u.unit.package s crate file) (sym (side_of_binary binary is)) of in
+      subst (λ (x : List ℕ). IsLibrary project u p x file) (crate_so u.unit.package side crate file here)
       (IsLibrary.own binary file is
-      (library_to u.unit.owner crate file compiles here
-      (subst (λ what. Contains (needs_of project.workspace project.features u.unit.owner u.unit.side what) (unit u.unit.owner (cond (is_script what) Host u.unit.side) Lib)) (sym is)
-      (own_needed project.workspace project.features u.unit.owner u.unit.side binary (has_one u.unit.owner side crate file here)))))
+      (library_to u.unit.package crate file compiles here
+      (subst (λ what. Contains (needs_of project.workspace project.features u.unit.package u.unit.side what) (unit u.unit.package (cond (is_script what) Host u.unit.side) Lib)) (sym is)
+      (own_needed project.workspace project.features u.unit.package u.unit.side binary (has_one u.unit.package side crate file here)))))
 
   -- ---- the run of its package
 
   hears_own : hears u.unit.what ≡ true → HearsOwnRun project u p
   hears_own kind = record { some = some; none = none }
     where
-      some : is_some p.script ≡ true → (index : ℕ) × (own_run project u ≡ Some index) × IsRunOf project u.unit.owner u.unit.side index
+      some : is_some p.script ≡ true → (index : ℕ) × (own_run project u ≡ Some index) × IsRunOf project u.unit.package u.unit.side index
       some has =
-          let need = run_needed project.workspace project.features u.unit.owner u.unit.side u.unit.what (kind_is u.unit.what kind) (ap has_script stands.owner ∙ has) in
-          let (k, is) = is_found project stands.selection stands.planned stands.index u stands.there is_run (unit u.unit.owner u.unit.side Run) need refl in
-          let (v, at, passes, owner_is, among) = found_is project stands.selection stands.planned stands.index u stands.there is_run u.unit.owner k is in
-          let own = run_need project.workspace project.features u.unit.owner u.unit.side u.unit.what v.unit (kind_is u.unit.what kind) among passes in
+          let need = run_needed project.workspace project.features u.unit.package u.unit.side u.unit.what (kind_is u.unit.what kind) (ap has_script stands.owner ∙ has) in
+          let (k, is) = is_found project stands.selection stands.planned stands.index u stands.there is_run (unit u.unit.package u.unit.side Run) need refl in
+          let (v, at, passes, owner_is, among) = found_is project stands.selection stands.planned stands.index u stands.there is_run u.unit.package k is in
+          let own = run_need project.workspace project.features u.unit.package u.unit.side u.unit.what v.unit (kind_is u.unit.what kind) among passes in
           (k, is, record { run = v; there = at; is = own.is })
 
       none : is_some p.script ≡ false → own_run project u ≡ None
-      none has = none_found project stands.selection stands.planned stands.index u stands.there is_run u.unit.owner (λ v among passes.
-          let own = run_need project.workspace project.features u.unit.owner u.unit.side u.unit.what v (kind_is u.unit.what kind) among passes in
+      none has = none_found project stands.selection stands.planned stands.index u stands.there is_run u.unit.package (λ v among passes.
+          let own = run_need project.workspace project.features u.unit.package u.unit.side u.unit.what v (kind_is u.unit.what kind) among passes in
           let wrong : is_some p.script ≡ true = ap has_script (sym stands.owner) ∙ own.made in
           absurd (cc))
 
   -- ---- the script of a run
 
-  starts : is_run u.unit.what ≡ true → script_file project u ≡ Some (below (folder_of project (unit u.unit.owner u.unit.side Script)) (codes "build_script_build"))
+  starts : is_run u.unit.what ≡ true → script_file project u ≡ Some (below (folder_of project (unit u.unit.package u.unit.side Script)) (codes "build_script_build"))
   starts runs =
       let what_is = run_is u.unit.what runs in
-      let need : Contains (needs_of project.workspace project.features u.unit.owner u.unit.side u.unit.what) (unit u.unit.owner u.unit.side Script) =
-      subst (λ what. Contains (needs_of project.workspace project.features u.unit.owner u.unit.side what) (unit u.unit.owner u.unit.side Script)) (sym what_is) (head (unit u.unit.owner u.unit.side Script) _) in
-      let (k, is) = is_found project stands.selection stands.planned stands.index u stands.there is_script (unit u.unit.owner u.unit.side Script) need refl in
-      let (v, at, passes, owner_is, among) = found_is project stands.selection stands.planned stands.index u stands.there is_script u.unit.owner k is in
-      let same : v.unit ≡ unit u.unit.owner u.unit.side Script =
-      script_need project.workspace project.features u.unit.owner u.unit.side v.unit (subst (λ what. Contains (needs_of project.workspace project.features u.unit.owner u.unit.side what) v.unit) what_is among) passes in
-      let out : v.out ≡ folder_of project (unit u.unit.owner u.unit.side Script) = out_is k v at ∙ ap (folder_of project) same in
+      let need : Contains (needs_of project.workspace project.features u.unit.package u.unit.side u.unit.what) (unit u.unit.package u.unit.side Script) =
+      subst (λ what. Contains (needs_of project.workspace project.features u.unit.package u.unit.side what) (unit u.unit.package u.unit.side Script)) (sym what_is) (head (unit u.unit.package u.unit.side Script) _) in
+      let (k, is) = is_found project stands.selection stands.planned stands.index u stands.there is_script (unit u.unit.package u.unit.side Script) need refl in
+      let (v, at, passes, owner_is, among) = found_is project stands.selection stands.planned stands.index u stands.there is_script u.unit.package k is in
+      let same : v.unit ≡ unit u.unit.package u.unit.side Script =
+      script_need project.workspace project.features u.unit.package u.unit.side v.unit (subst (λ what. Contains (needs_of project.workspace project.features u.unit.package u.unit.side what) v.unit) what_is among) passes in
+      let out : v.out ≡ folder_of project (unit u.unit.package u.unit.side Script) = out_is k v at ∙ ap (folder_of project) same in
       ap (file_at project) is ∙ ap (file_there project) at
-      ∙ (λ i. file_by (same i).what (out i) (crate_name (library_in (slice_get project.workspace.packages (same i).owner)) (same i).what))
+      ∙ (λ i. file_by (same i).what (out i) (crate_name (library_in (slice_get project.workspace.packages (same i).package)) (same i).what))
 
 pub libraries_are_wanted : LibrariesAreWanted
 libraries_are_wanted project u p stands compiles name file = (wants project u p stands name file compiles, gives project u p stands name file compiles)

@@ -60,7 +60,7 @@ module _ (ws : Workspace) (features : Features) where
   -- a library that is needed is of this side, and its package has one
   pub record IsLibraryNeed (side : Side) (v : OfPlan) : Type 0 where
     pub side_is : v.side ≡ side
-    pub made : has_library (slice_get ws.packages v.owner) ≡ true
+    pub made : has_library (slice_get ws.packages v.package) ≡ true
 
   by_libraries : (p : ℕ) (s : Side) (v : OfPlan) → Contains (libraries ws features p s) v → IsLibraryNeed s v
   by_libraries p s v among =
@@ -222,21 +222,21 @@ module _ (project : Project) (selection : Selection) (planned : IsPlan project.w
   ]
 
   -- what is found among its needs is one of them
-  pub found_is : (test : What → Bool) (owner k : ℕ) → needed test project u owner ≡ Some k → (v : Planned) × (unit_at project k ≡ Some v) × (test v.unit.what ≡ true) × (v.unit.owner ≡ owner) × Contains wanted v.unit
+  pub found_is : (test : What → Bool) (owner k : ℕ) → needed test project u owner ≡ Some k → (v : Planned) × (unit_at project k ≡ Some v) × (test v.unit.what ≡ true) × (v.unit.package ≡ owner) × Contains wanted v.unit
   found_is test owner k is =
       let (among, passes) = find_from (λ index. is_one_of test owner (unit_at project index)) u.needs k is in
       let (v, at, need) = (indices.same k).0 among in
-      let on : (test v.unit.what && (v.unit.owner == owner)) ≡ true = ap (is_one_of test owner) (sym at) ∙ passes in
-      (v, at, first_on (test v.unit.what) (v.unit.owner == owner) on, (Decides-eqb v.unit.owner owner).0 (second_on (test v.unit.what) (v.unit.owner == owner) on), need)
+      let on : (test v.unit.what && (v.unit.package == owner)) ≡ true = ap (is_one_of test owner) (sym at) ∙ passes in
+      (v, at, first_on (test v.unit.what) (v.unit.package == owner) on, (Decides-eqb v.unit.package owner).0 (second_on (test v.unit.what) (v.unit.package == owner) on), need)
 
   -- and each of them is found
-  pub is_found : (test : What → Bool) (v : OfPlan) → Contains wanted v → test v.what ≡ true → (k : ℕ) × (needed test project u v.owner ≡ Some k)
+  pub is_found : (test : What → Bool) (v : OfPlan) → Contains wanted v → test v.what ≡ true → (k : ℕ) × (needed test project u v.package ≡ Some k)
   is_found test v need passes =
       let (w, among, same) = map_contains (λ (p : Planned). p.unit) project.plan.planned v ((planned.units v).1 (need_planned v need)) in
       let (k, at) = at_from_contains project.plan.planned w among in
-      let itself : (v.owner == v.owner) ≡ true = (Decides-eqb v.owner v.owner).1 refl in
-      let one : (test w.unit.what && (w.unit.owner == v.owner)) ≡ true = ap (λ (x : OfPlan). test x.what && (x.owner == v.owner)) same ∙ (λ i. passes i && itself i) in
-      find_to (λ index. is_one_of test v.owner (unit_at project index)) u.needs k ((indices.same k).1 (w, at, subst (Contains wanted) (sym same) need)) (ap (is_one_of test v.owner) at ∙ one)
+      let itself : (v.package == v.package) ≡ true = (Decides-eqb v.package v.package).1 refl in
+      let one : (test w.unit.what && (w.unit.package == v.package)) ≡ true = ap (λ (x : OfPlan). test x.what && (x.package == v.package)) same ∙ (λ i. passes i && itself i) in
+      find_to (λ index. is_one_of test v.package (unit_at project index)) u.needs k ((indices.same k).1 (w, at, subst (Contains wanted) (sym same) need)) (ap (is_one_of test v.package) at ∙ one)
 
   -- what is not needed is not found
   pub none_found : (test : What → Bool) (owner : ℕ) → ((v : OfPlan) → Contains wanted v → test v.what ≡ true → ⊥) → needed test project u owner ≡ None

@@ -125,7 +125,7 @@ pub record CompileSays (project : Project) (unit : Planned) (done : List (Option
   -- The values of `--cfg` are the features that are on, and then the conditions that the script
   -- sets. The values of `--check-cfg` are the features that exist, and then the conditions that the
   -- script expects.
-  pub conditions : values (codes "--cfg") said ≡ map feature_is_on (features_at project.features unit.unit.owner unit.unit.side) ++ asked (codes "rustc-cfg") lines
+  pub conditions : values (codes "--cfg") said ≡ map feature_is_on (features_at project.features unit.unit.package unit.unit.side) ++ asked (codes "rustc-cfg") lines
   pub expected : values (codes "--check-cfg") said ≡ features_there_are p.features ∷ asked (codes "rustc-check-cfg") lines
   -- the values of `-L` are the folders of the libraries that the unit reaches, and then the folders
   -- that the reached runs have named

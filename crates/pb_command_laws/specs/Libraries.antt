@@ -32,9 +32,9 @@ pub data IsCalled (project : Project) (entry : Entry) : List ℕ → Type 0 wher
 --   other unit.
 -- - It may be the library of a binary's own package.
 pub data IsLibrary (project : Project) (unit : Planned) (p : Package) : List ℕ → List ℕ → Type 0 where
-  by_entry : (n : ℕ) (entry : Entry) (name file : List ℕ) (there : slice_get p.entries n ≡ Some entry) (enabled : is_enabled project.features unit.unit.owner unit.unit.side n ≡ true)
+  by_entry : (n : ℕ) (entry : Entry) (name file : List ℕ) (there : slice_get p.entries n ≡ Some entry) (enabled : is_enabled project.features unit.unit.package unit.unit.side n ≡ true)
       (kind : is_build entry.kind ≡ is_script unit.unit.what) (called : IsCalled project entry name) (needed : library_file project unit entry.to ≡ Some file) → IsLibrary project unit p name file
-  own : (binary file : List ℕ) (is : unit.unit.what ≡ Bin binary) (needed : library_file project unit unit.unit.owner ≡ Some file) → IsLibrary project unit p (crate_at project unit.unit.owner) file
+  own : (binary file : List ℕ) (is : unit.unit.what ≡ Bin binary) (needed : library_file project unit unit.unit.package ≡ Some file) → IsLibrary project unit p (crate_at project unit.unit.package) file
 
 -- the order of libraries by name, and then by file
 abbrev pub by_name : List ℕ × List ℕ → List ℕ × List ℕ → Ordering

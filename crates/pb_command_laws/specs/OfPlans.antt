@@ -24,7 +24,7 @@ use Rattle.pb_command_laws.specs.Variables.{HasVariables, compile_table, run_tab
 -- on its own side. Any other unit hears nothing.
 pub data Hears (project : Project) (u : Planned) (p : Package) (done : List (Option (List Directive))) : List Directive → Option (List ℕ) → Type 0 where
   nothing : (is : (hears u.unit.what && is_some p.script) ≡ false) → Hears project u p done [] None
-  own_run : (is : (hears u.unit.what && is_some p.script) ≡ true) (index : ℕ) (run : Planned) (there : unit_at project index ≡ Some run) (same : run.unit ≡ unit u.unit.owner u.unit.side Run) → Hears project u p done (said_at done index) (Some run.out)
+  own_run : (is : (hears u.unit.what && is_some p.script) ≡ true) (index : ℕ) (run : Planned) (there : unit_at project index ≡ Some run) (same : run.unit ≡ unit u.unit.package u.unit.side Run) → Hears project u p done (said_at done index) (Some run.out)
 
 -- The command is that of a compile. It starts the compiler and has the variables of
 -- `compile_table`. Its arguments say what `CompileSays` states, followed by what the user's flags
@@ -43,7 +43,7 @@ pub record IsCompile (setup : Setup) (project : Project) (u : Planned) (done : L
 -- The command is that of a run. It starts the script of the run's package on the run's side, and
 -- has the variables of `run_table`. The names of the variables ascend, so each occurs once.
 pub record IsRun (setup : Setup) (project : Project) (u : Planned) (done : List (Option (List Directive))) (p : Package) (command : Command) : Type 0 where
-  pub starts : StartsScript setup project u p (Some (below (folder_of project (unit u.unit.owner u.unit.side Script)) (codes "build_script_build"))) command
+  pub starts : StartsScript setup project u p (Some (below (folder_of project (unit u.unit.package u.unit.side Script)) (codes "build_script_build"))) command
   pub has : HasVariables command (run_table setup project u done p)
   pub order : IsAscending (names_of command.pairs)
 

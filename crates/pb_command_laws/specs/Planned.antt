@@ -48,9 +48,9 @@ pub record IsLibraryOf (project : Project) (index : ℕ) (side : Side) (crate fi
 --   for any other unit.
 -- - It may be the library of a binary's own package.
 pub data IsWanted (project : Project) (u : Planned) (p : Package) : List ℕ → List ℕ → Type 0 where
-  by_entry : (n : ℕ) (entry : Entry) (crate file : List ℕ) (there : slice_get p.entries n ≡ Some entry) (enabled : is_enabled project.features u.unit.owner u.unit.side n ≡ true)
+  by_entry : (n : ℕ) (entry : Entry) (crate file : List ℕ) (there : slice_get p.entries n ≡ Some entry) (enabled : is_enabled project.features u.unit.package u.unit.side n ≡ true)
       (kind : entry.kind ≡ (if is_script u.unit.what then Build else Normal)) (library : IsLibraryOf project entry.to (role_of u.unit) crate file) → IsWanted project u p (if entry.renamed then underscored entry.key else crate) file
-  own : (binary crate file : List ℕ) (is : u.unit.what ≡ Bin binary) (library : IsLibraryOf project u.unit.owner u.unit.side crate file) → IsWanted project u p crate file
+  own : (binary crate file : List ℕ) (is : u.unit.what ≡ Bin binary) (library : IsLibraryOf project u.unit.package u.unit.side crate file) → IsWanted project u p crate file
 
 -- A compile of a plan gets exactly the libraries of which `IsWanted` is true.
 abbrev pub LibrariesAreWanted : Type 0
@@ -65,7 +65,7 @@ pub record IsRunOf (project : Project) (owner : ℕ) (side : Side) (index : ℕ)
 -- A library or a binary hears the run of its own package, on its own side, if this package has a
 -- script. If not, it hears no run.
 pub record HearsOwnRun (project : Project) (u : Planned) (p : Package) : Type 0 where
-  pub some : is_some p.script ≡ true → (index : ℕ) × (own_run project u ≡ Some index) × IsRunOf project u.unit.owner u.unit.side index
+  pub some : is_some p.script ≡ true → (index : ℕ) × (own_run project u ≡ Some index) × IsRunOf project u.unit.package u.unit.side index
   pub none : is_some p.script ≡ false → own_run project u ≡ None
 
 abbrev pub CompilesHearRuns : Type 0
@@ -74,4 +74,4 @@ CompilesHearRuns = (project : Project) (u : Planned) (p : Package) → StandsInP
 -- A run starts the script of its own package on its own side.
 abbrev pub RunsStartScripts : Type 0
 RunsStartScripts = (project : Project) (u : Planned) (p : Package) → StandsInPlan project u p → is_run u.unit.what ≡ true
-    → script_file project u ≡ Some (below (folder_of project (unit u.unit.owner u.unit.side Script)) (codes "build_script_build"))
+    → script_file project u ≡ Some (below (folder_of project (unit u.unit.package u.unit.side Script)) (codes "build_script_build"))

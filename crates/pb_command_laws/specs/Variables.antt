@@ -100,7 +100,7 @@ handed_on project done index = option_map_or (λ links. passed links (said_at do
 abbrev pub run_table : Setup → Project → Planned → List (Option (List Directive)) → Package → List (List ℕ × List ℕ)
 run_table setup project unit done p =
     package_table setup p ++ row (codes "CARGO_MANIFEST_LINKS") p.links
-    ++ map (λ name. (codes "CARGO_FEATURE_" ++ in_capitals name, codes "1")) (features_at project.features unit.unit.owner unit.unit.side)
+    ++ map (λ name. (codes "CARGO_FEATURE_" ++ in_capitals name, codes "1")) (features_at project.features unit.unit.package unit.unit.side)
     ++ (codes "OUT_DIR", unit.out) ∷ (codes "TARGET", triple_of setup.toolchain) ∷ (codes "HOST", triple_of setup.toolchain) ∷ (codes "NUM_JOBS", codes "1")
     ∷ (codes "OPT_LEVEL", spelled (word_in (setting_at unit.settings key.OptLevel))) ∷ (codes "DEBUG", debug_text (word_in (setting_at unit.settings key.Debug)))
     ∷ (codes "PROFILE", if list_any (λ (s : Seen). bytes_eq s.name (codes "release")) (result_unwrap_or (checked_line project.workspace.profiles project.profile) []) then codes "release" else codes "debug")

@@ -20,7 +20,7 @@ use Rattle.pb_command_types.specs.declared.project.Project.{Project}
 -- Packages and units.
 
 abbrev pub package_of : Project → Planned → Option Package
-package_of project unit = slice_get project.workspace.packages unit.unit.owner
+package_of project unit = slice_get project.workspace.packages unit.unit.package
 
 abbrev pub unit_at : Project → ℕ → Option Planned
 unit_at project index = slice_get project.plan.planned index
@@ -133,7 +133,7 @@ is_run _ = false
 -- there is a unit, it is of the tested kind, and it belongs to the package at this index
 abbrev pub is_one_of : (What → Bool) → ℕ → Option Planned → Bool
 is_one_of test owner None = false
-is_one_of test owner (Some unit) = test unit.unit.what && (unit.unit.owner == owner)
+is_one_of test owner (Some unit) = test unit.unit.what && (unit.unit.package == owner)
 
 -- the index of the needed unit that is of the tested kind and belongs to the package at this index,
 -- if there is one
@@ -142,7 +142,7 @@ needed test project unit owner = find (λ index. is_one_of test owner (unit_at p
 
 -- the index of the run of the unit's own package, if the unit needs this run
 abbrev pub own_run : Project → Planned → Option ℕ
-own_run project unit = needed is_run project unit unit.unit.owner
+own_run project unit = needed is_run project unit unit.unit.package
 
 abbrev pub file_there : Project → Option Planned → Option (List ℕ)
 file_there project None = None
@@ -158,7 +158,7 @@ library_file project unit owner = file_at project (needed is_library project uni
 
 -- the file of the script of the unit's own package, if the unit needs this script
 abbrev pub script_file : Project → Planned → Option (List ℕ)
-script_file project unit = file_at project (needed is_script project unit unit.unit.owner)
+script_file project unit = file_at project (needed is_script project unit unit.unit.package)
 
 -- Directives.
 

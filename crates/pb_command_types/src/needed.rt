@@ -43,7 +43,7 @@ fn is_library_of(project: &Project, index: usize, owner: usize) -> bool
     ensures { result ≡ is_one_of is_library owner (unit_at project.now index) }
 {
     match unit_at(project, index) {
-        Some(unit) => is_library(&unit.unit.what) && unit.unit.owner == owner,
+        Some(unit) => is_library(&unit.unit.what) && unit.unit.package == owner,
         None => false,
     }
 }
@@ -53,7 +53,7 @@ fn is_script_of(project: &Project, index: usize, owner: usize) -> bool
     ensures { result ≡ is_one_of is_script owner (unit_at project.now index) }
 {
     match unit_at(project, index) {
-        Some(unit) => is_script(&unit.unit.what) && unit.unit.owner == owner,
+        Some(unit) => is_script(&unit.unit.what) && unit.unit.package == owner,
         None => false,
     }
 }
@@ -63,7 +63,7 @@ fn is_run_of(project: &Project, index: usize, owner: usize) -> bool
     ensures { result ≡ is_one_of is_run owner (unit_at project.now index) }
 {
     match unit_at(project, index) {
-        Some(unit) => is_run(&unit.unit.what) && unit.unit.owner == owner,
+        Some(unit) => is_run(&unit.unit.what) && unit.unit.package == owner,
         None => false,
     }
 }
@@ -94,7 +94,7 @@ fn needed_script(project: &Project, unit: &Planned, owner: usize) -> Option<usiz
 pub fn own_run(project: &Project, unit: &Planned) -> Option<usize>
     ensures { result ≡ own_run project.now unit.now }
 {
-    let owner = unit.unit.owner;
+    let owner = unit.unit.package;
     unit.needs
         .as_slice()
         .iter()
@@ -143,7 +143,7 @@ pub fn script_file(
 ) -> Result<Option<PathText>, AllocError>
     ensures { IfOk result (λ file. file ≡ script_file project.now unit.now) }
 {
-    let index = needed_script(project, unit, unit.unit.owner);
+    let index = needed_script(project, unit, unit.unit.package);
     file_at(alloc, project, index)
 }
 

@@ -15,7 +15,7 @@ use std::alloc::{AllocError, Global};
 pub fn package_of<'a>(project: &'a Project, unit: &Planned) -> Option<&'a Package>
     ensures { option_map (λ owner. owner.now) result ≡ package_of project.now unit.now }
 {
-    project.workspace.packages.as_slice().get(unit.unit.owner)
+    project.workspace.packages.as_slice().get(unit.unit.package)
 }
 
 /// Returns the folder of a unit's package.
@@ -52,7 +52,7 @@ pub fn crate_name_of(alloc: Global, project: &Project, unit: &Planned) -> Result
     ensures { IfOk result (λ name. name ≡ crate_name_of project.now unit.now) }
 {
     match &unit.unit.what {
-        What::Lib => Text::from_str(alloc, library_name(project, unit.unit.owner)),
+        What::Lib => Text::from_str(alloc, library_name(project, unit.unit.package)),
         What::Bin(name) => crate_name(alloc, name.as_str()),
         What::Script => Text::from_str(alloc, "build_script_build"),
         What::Run => Text::from_str(alloc, ""),

@@ -59,7 +59,7 @@ subject_in (Some p) w = subject_with p (target_of p w)
 
 -- the package and the target that a unit's messages are about, if both exist
 abbrev pub subject_of : Project → Planned → Option Subject
-subject_of project u = subject_in (slice_get project.workspace.packages u.unit.owner) u.unit.what
+subject_of project u = subject_in (slice_get project.workspace.packages u.unit.package) u.unit.what
 
 -- Messages.
 
@@ -68,7 +68,7 @@ is_binary (Bin name) = true
 is_binary _ = false
 
 abbrev pub artifact : Project → Planned → List ℕ → Message
-artifact project u file = CompilerArtifact record { settings = u.settings; features = features_at project.features u.unit.owner u.unit.side; file = file; is_executable = is_binary u.unit.what }
+artifact project u file = CompilerArtifact record { settings = u.settings; features = features_at project.features u.unit.package u.unit.side; file = file; is_executable = is_binary u.unit.what }
 
 -- the message for the file that a compile made, or no message if the compile made no file
 abbrev pub artifacts : Project → Planned → Option (List ℕ) → List Message

@@ -62,7 +62,7 @@ fn add_artifact(
     };
     let features = project
         .features
-        .features_of(unit.unit.owner, unit.unit.side);
+        .features_of(unit.unit.package, unit.unit.side);
     messages.push(Message::CompilerArtifact(Artifact {
         settings: unit.settings,
         features: copy_texts(alloc, features)?,

@@ -128,7 +128,7 @@ fn subject_of(
 ) -> Result<Option<Subject>, AllocError>
     ensures { IfOk result (λ made. made ≡ subject_of project.now unit.now) }
 {
-    match project.workspace.packages.as_slice().get(unit.unit.owner) {
+    match project.workspace.packages.as_slice().get(unit.unit.package) {
         None => Ok(None),
         Some(owner) => {
             let target = target_of(alloc, owner, &unit.unit.what)?;

@@ -114,7 +114,7 @@ no_own : (setup : Setup) (project : Project) (u : Planned) (done : List (Option 
 no_own setup project u done p =
     before_none base (described_pairs project u p ++ building_pairs setup project u) (passed_pairs project u done) (no_passed project done u.needs)
     ∙ before_none base (described_pairs project u p) (building_pairs setup project u) (no_building setup project u)
-    ∙ before_none base (links_pairs p.links) (map feature_pair (features_at project.features u.unit.owner u.unit.side)) (no_features (features_at project.features u.unit.owner u.unit.side)) ∙ no_links p.links
+    ∙ before_none base (links_pairs p.links) (map feature_pair (features_at project.features u.unit.package u.unit.side)) (no_features (features_at project.features u.unit.package u.unit.side)) ∙ no_links p.links
 
 pub begins_at : (setup : Setup) (project : Project) (u : Planned) (done : List (Option (List Directive))) (p : Package) → u.unit.what ≡ Run → last_value base (composed setup project u done p) ≡ Some p.folder
 begins_at setup project u done p is =

@@ -103,7 +103,7 @@ module _ (P : List ℕ → Type 0) where
   in_features : (project : Project) (unit : Planned) (p : Package) → B (feature_words project unit p)
   unfolding expected_words option
   in_features project unit p =
-      brings_both P (active_words project unit) (expected_words p.features) (brings_each P feature_word (features_at project.features unit.unit.owner unit.unit.side) in_feature)
+      brings_both P (active_words project unit) (expected_words p.features) (brings_each P feature_word (features_at project.features unit.unit.package unit.unit.side) in_feature)
       (brings_option P (codes "--check-cfg") (expected_text p.features) refl (λ e. cc))
 
   -- ---- libraries

@@ -192,7 +192,7 @@ module _ (project : Project) (u : Planned) (is_of : IsOfProject project u) where
       by false = library_at_plain entry.to
 
   entry_holds : (n : ℕ) (entry : Entry) → is_name entry.key ≡ true → HoldValues Q (entry_extern project u n entry)
-  entry_holds n entry named = by (is_enabled project.features u.unit.owner u.unit.side n && leads u.unit.what entry.kind)
+  entry_holds n entry named = by (is_enabled project.features u.unit.package u.unit.side n && leads u.unit.what entry.kind)
     where
       by : (r : Bool) → HoldValues Q (cond r (extern (entry_name project entry) (library_file project u entry.to)) [])
       by true = extern_holds (entry_name project entry) (library_file project u entry.to) (entry_plain entry named) (library_below entry.to)
@@ -207,7 +207,7 @@ module _ (project : Project) (u : Planned) (is_of : IsOfProject project u) where
   entries_hold n (entry ∷ entries) named = both_hold (entry_extern project u n entry) (placed (entry_extern project u) (n + 1) entries) (entry_holds n entry named.0) (entries_hold (n + 1) entries named.1)
 
   own_holds : (what : What) → HoldValues Q (own_extern project u what)
-  own_holds (Bin name) = extern_holds (library_name_at project u.unit.owner) (library_file project u u.unit.owner) (library_at_plain u.unit.owner) (library_below u.unit.owner)
+  own_holds (Bin name) = extern_holds (library_name_at project u.unit.package) (library_file project u u.unit.package) (library_at_plain u.unit.package) (library_below u.unit.package)
   own_holds _ = tt
 
   set_holds : (m : Map) (pairs : List (List ℕ × List ℕ)) → HoldValues Q (finite.entries m) → HoldValues Q pairs → HoldValues Q (finite.entries (all_set m pairs))

@@ -95,7 +95,7 @@ module _ (setup : Setup) (project : Project) (u : Planned) (done : List (Option 
       by : (file : Option (List ℕ)) → script_file project u ≡ file → looked.path_of (script_source file) ≡ Some path → is_below_some c.reads path ≡ true
       by None there is = absurd (cc)
       by (Some file) there is =
-          let (below, absolute) = made_below project u is_of (needed is_script project u u.unit.owner) file (needed_reached project u is_of is_script u.unit.owner) there in
+          let (below, absolute) = made_below project u is_of (needed is_script project u u.unit.package) file (needed_reached project u is_of is_script u.unit.package) there in
           let read : Ok path ≡ parsed file = sym (said_is_path (parsed file) path is) in
           let both : Ok path ≡ Ok file = read ∙ parsed_path file absolute in
           let same : file ≡ path = cc in
@@ -169,7 +169,7 @@ module _ (setup : Setup) (project : Project) (u : Planned) (done : List (Option 
 module _ (setup : Setup) (project : Project) (u : Planned) (done : List (Option (List Directive))) (v : World) (small : IsSmall setup) (is_of : IsOfProject project u) where
   -- the keys of its package's entries are names
   its_keys : (p : Package) → package_of project u ≡ Some p → AllByRecursion (λ (entry : Entry). is_name entry.key ≡ true) p.entries
-  its_keys p there = recursion_from_All _ p.entries (all_at (IsPackage (length project.workspace.packages)) project.workspace.packages u.unit.owner p is_of.settled.packages there).entry_keys
+  its_keys p there = recursion_from_All _ p.entries (all_at (IsPackage (length project.workspace.packages)) project.workspace.packages u.unit.package p is_of.settled.packages there).entry_keys
 
   -- the unit's package is there
   of_package : (p : Package) → package_of project u ≡ Some p → (w : What) → u.unit.what ≡ w → CanTell (command_by w setup project u done p) v → (other : World) (a : CheckedReply)

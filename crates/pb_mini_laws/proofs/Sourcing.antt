@@ -57,7 +57,7 @@ handing (Some p) h = last_of_three (is_some p.library) (is_some p.links) (is_som
 
 module _ (ws : Workspace) (features : Features) where
   abbrev Has : Unit → Type 0
-  Has u = HasWhat u.what (slice_get ws.packages u.owner)
+  Has u = HasWhat u.what (slice_get ws.packages u.package)
 
   -- what stands under a test
   under : (b : Bool) (x v : Unit) → (b ≡ true → Has x) → Contains (if b then x ∷ [] else []) v → Has v
@@ -99,8 +99,8 @@ module _ (ws : Workspace) (features : Features) where
   ]
 
   reached_has : (u v : Unit) → Has u → Reaches ws features u v → Has v
-  reached_has u v has (direct _ _ need) = needs_of_have u.owner u.side u.what v has need
-  reached_has u v has (onward _ w _ need more) = reached_has w v (needs_of_have u.owner u.side u.what w has need) more
+  reached_has u v has (direct _ _ need) = needs_of_have u.package u.side u.what v has need
+  reached_has u v has (onward _ w _ need more) = reached_has w v (needs_of_have u.package u.side u.what w has need) more
 
   root_has : (selection : Selection) (u : Unit) → IsRoot ws features selection u → Has u
   root_has selection u (library p selected asked there) = there
@@ -149,7 +149,7 @@ module _ (project : Project) (selection : Selection) (is : IsPlan project.worksp
 
       by : (o : Option Package) → package_of project u ≡ o → HasWhat u.unit.what o → IfSome o (λ p. At (source_by p u.unit.what))
       by None there has = tt
-      by (Some p) there has = source_at p u.unit.what (sourced p (contains_from_at project.workspace.packages u.unit.owner p there)) has compiles
+      by (Some p) there has = source_at p u.unit.what (sourced p (contains_from_at project.workspace.packages u.unit.package p there)) has compiles
 
 -- the folder of a unit
 pub key_relative : (u : Planned) → TellsWhat u → is_relative u.key ≡ true

@@ -39,7 +39,7 @@ module _ (setup : Setup) (project : Project) (u : Planned) (done other : List (O
 
   there_same : (o : Option ℕ) → own_run project u ≡ o → said_there done o ≡ said_there other o
   there_same None is = refl
-  there_same (Some index) is = said_same index (reached index (found_in (λ v. is_one_of is_run u.unit.owner (unit_at project v)) u.needs index is))
+  there_same (Some index) is = said_same index (reached index (found_in (λ v. is_one_of is_run u.unit.package (unit_at project v)) u.needs index is))
 
   own_same : own_said project u done ≡ own_said project u other
   own_same = there_same (own_run project u) refl

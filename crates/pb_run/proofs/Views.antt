@@ -24,7 +24,7 @@ by_what Script setup project u done p = record { out = refl; target = refl; read
 by_what Run setup project u done p = record { out = refl; target = refl; reads = refl }
 
 abbrev pub HasPackage : Project → Planned → Type 0
-HasPackage project u = (p : Package) × (slice_get project.workspace.packages u.unit.owner ≡ Some p)
+HasPackage project u = (p : Package) × (slice_get project.workspace.packages u.unit.package ≡ Some p)
 
 pub is_for : (setup : Setup) (project : Project) (u : Planned) (done : List (Option (List Directive))) → HasPackage project u → IsFor project u (command_of setup project u done)
 is_for setup project u done (p, there) = subst (λ x. IsFor project u (command_for setup project u done x)) (sym there) (by_what u.unit.what setup project u done p)

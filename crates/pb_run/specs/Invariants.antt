@@ -45,7 +45,7 @@ pub record IsInOrder (project : Project) : Type 0 where
   pub folders : (i : ℕ) (u : Planned) → slice_get project.plan.planned i ≡ Some u → u.out ≡ out_of (records_folder project) u.key
   pub needs_reached : (i : ℕ) (u : Planned) → slice_get project.plan.planned i ≡ Some u → (index : ℕ) → Contains u.needs index → Contains u.reaches index
   pub reads_are : (i : ℕ) (u : Planned) → slice_get project.plan.planned i ≡ Some u → (f : List ℕ) → Contains (reads_of project u) f ↔ IsReadByNeed project u f
-  pub packages : (i : ℕ) (u : Planned) → slice_get project.plan.planned i ≡ Some u → (p : Package) × (slice_get project.workspace.packages u.unit.owner ≡ Some p)
+  pub packages : (i : ℕ) (u : Planned) → slice_get project.plan.planned i ≡ Some u → (p : Package) × (slice_get project.workspace.packages u.unit.package ≡ Some p)
   pub inside : (i : ℕ) (u : Planned) → slice_get project.plan.planned i ≡ Some u → is_below project.workspace.target u.out ≡ true
   pub apart : (i j : ℕ) (u v : Planned) → slice_get project.plan.planned i ≡ Some u → slice_get project.plan.planned j ≡ Some v → i ≢ j
       → (q : List ℕ) → is_at_or_below u.out q ≡ true → is_at_or_below v.out q ≡ false

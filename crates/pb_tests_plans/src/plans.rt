@@ -253,7 +253,7 @@ fn has_key(
 fn binary(alloc: Global) -> Result<Unit, AllocError> {
     let name = Text::from_str(alloc, "x_1")?;
     Ok(Unit {
-        owner: 1,
+        package: 1,
         side: Side::Host,
         what: What::Bin(name),
     })
@@ -262,7 +262,7 @@ fn binary(alloc: Global) -> Result<Unit, AllocError> {
 /// Returns whether the keys of two units are right. The package of the first unit does not exist.
 fn has_keys(alloc: Global, workspace: &Workspace) -> Result<bool, AllocError> {
     let run = Unit {
-        owner: 2,
+        package: 2,
         side: Side::Target,
         what: What::Run,
     };

@@ -183,7 +183,7 @@ module _ (ws : Workspace) (features : Features) (selection : Selection) where
   named_at_root _ p n (library q selected asked there) e = absurd (let w : Lib ≡ Bin n = ap (λ (x : Unit). x.what) e in cc)
   named_at_root _ p n (binary q owner made selected package_at there asked on) e =
       let names : made.name ≡ n = bin_name made.name n (ap (λ (x : Unit). x.what) e) in
-      let indices : q ≡ p = ap (λ (x : Unit). x.owner) e in
+      let indices : q ≡ p = ap (λ (x : Unit). x.package) e in
       subst (λ (o : ℕ). IsNamed (named o n)) indices (record { owner = owner; made = made; selected = selected; package_at = package_at; there = there; name = names; asked = asked; on = on })
 
   -- the candidates
@@ -211,9 +211,9 @@ module _ (ws : Workspace) (features : Features) (selection : Selection) where
     not_fixed : (b : Named) (u : Unit) → unit_named b ≡ u → is_fixed u.what ≡ true → ⊥
     not_fixed b u e kind = false≢true (ap (λ (x : Unit). is_fixed x.what) e ∙ kind)
 
-    owner_at : (i : ℕ) (u : Unit) → Stands i u → u.owner < length ws.packages
+    owner_at : (i : ℕ) (u : Unit) → Stands i u → u.package < length ws.packages
     owner_at i u (among at) = (fixed_is ws.packages i u at).owner
-    owner_at i u (behind j b index at is) = subst (λ (x : Unit). x.owner < length ws.packages) is (named_owner b (contains_from_at are.named j b at))
+    owner_at i u (behind j b index at is) = subst (λ (x : Unit). x.package < length ws.packages) is (named_owner b (contains_from_at are.named j b at))
 
     one_index : (i j : ℕ) (u : Unit) → Stands i u → Stands j u → i ≡ j
     one_index i j u (among x) (among y) = sym (fixed_is ws.packages i u x).number ∙ (fixed_is ws.packages j u y).number
@@ -221,22 +221,22 @@ module _ (ws : Workspace) (features : Features) (selection : Selection) where
     one_index i j u (behind k b index at is) (among y) = absurd (not_fixed b u is (fixed_is ws.packages j u y).kind)
     one_index i j u (behind k b index at is) (behind l c index' at' is') =
         let e : unit_named b ≡ unit_named c = is ∙ sym is' in
-        let same : b ≡ c = named_same b.owner c.owner b.name c.name (ap (λ (x : Unit). x.owner) e) (bin_name b.name c.name (ap (λ (x : Unit). x.what) e)) in
+        let same : b ≡ c = named_same b.owner c.owner b.name c.name (ap (λ (x : Unit). x.package) e) (bin_name b.name c.name (ap (λ (x : Unit). x.what) e)) in
         let indices : k ≡ l = once_named are.named k l c are.rises (at ∙ ap (λ (x : Named). Some x) same) at' in
         omega (arith, index, index', indices)
 
     pub numbered : AreNumbered ws units
     numbered = record {
       owners = λ i u at. owner_at i u (stands i u at);
-      at_number = λ u there. back (number u) u (get_left (fixed ws.packages) (map unit_named are.named) (number u) u (fixed_at ws.packages u.owner u.side u.what there.kind there.owner));
+      at_number = λ u there. back (number u) u (get_left (fixed ws.packages) (map unit_named are.named) (number u) u (fixed_at ws.packages u.package u.side u.what there.kind there.owner));
       once = λ i j u x y. one_index i j u (stands i u x) (stands j u y);
     }
 
-    pub owners_few : (lent : List Unit) → lent ≡ units → All (λ (u : Unit). u.owner < 256) lent
-    owners_few lent same = subst (λ (l : List Unit). All (λ (u : Unit). u.owner < 256) l) (sym same) (all_from_at (λ (u : Unit). u.owner < 256) units (λ i u at. let lt = numbered.owners i u at in let few = settled.few in omega (arith, lt, few)))
+    pub owners_few : (lent : List Unit) → lent ≡ units → All (λ (u : Unit). u.package < 256) lent
+    owners_few lent same = subst (λ (l : List Unit). All (λ (u : Unit). u.package < 256) l) (sym same) (all_from_at (λ (u : Unit). u.package < 256) units (λ i u at. let lt = numbered.owners i u at in let few = settled.few in omega (arith, lt, few)))
 
-    pub owners_there : (lent : List Unit) → lent ≡ units → All (λ (u : Unit). u.owner < length ws.packages) lent
-    owners_there lent same = subst (λ (l : List Unit). All (λ (u : Unit). u.owner < length ws.packages) l) (sym same) (all_from_at (λ (u : Unit). u.owner < length ws.packages) units (λ i u at. numbered.owners i u at))
+    pub owners_there : (lent : List Unit) → lent ≡ units → All (λ (u : Unit). u.package < length ws.packages) lent
+    owners_there lent same = subst (λ (l : List Unit). All (λ (u : Unit). u.package < length ws.packages) l) (sym same) (all_from_at (λ (u : Unit). u.package < length ws.packages) units (λ i u at. numbered.owners i u at))
 
     -- a binary's name has the letters of names
     named_well : (b : Named) → Contains are.named b → letters.is_name b.name ≡ true
@@ -300,7 +300,7 @@ module _ (ws : Workspace) (features : Features) (selection : Selection) where
             let (k, u, at, given) = placed_from (root_at ws (asks_libraries selection) h.marks) units i (subst (λ (l : List ℕ). Contains l i) h.is has) in
             let (test, one) = where_true (is_root ws (asks_libraries selection) h.marks u) (k ∷ []) i given in
             let index : slice_get units i ≡ Some u = ap (slice_get units) (sym (single k i one)) ∙ at in
-            (u, index, is_root_to i u.owner u.side u.what index test),
+            (u, index, is_root_to i u.package u.side u.what index test),
         λ some.
             let (u, at, is) = some in
             subst (λ (l : List ℕ). Contains l i) (sym h.is) (placed_to (root_at ws (asks_libraries selection) h.marks) units i u i at (at_true (is_root ws (asks_libraries selection) h.marks u) (i ∷ []) i (is_root_from u is) (head i []))),

@@ -28,7 +28,7 @@ use Rattle.pb_unit.proofs.Keys.{there, one_unit}
 
 pub record IsThere (ws : Workspace) (u : Unit) : Type 0 where
   pub kind : is_fixed u.what ≡ true
-  pub owner : u.owner < length ws.packages
+  pub owner : u.package < length ws.packages
 
 module _ (ws : Workspace) (settled : IsSettled ws) where
   pub entries_lead : (p n : ℕ) (e : Entry) → slice_get (entries_at ws p) n ≡ Some e → e.to < length ws.packages
@@ -87,12 +87,12 @@ module _ (ws : Workspace) (settled : IsSettled ws) where
       | inr more ↦ runs_there p s v more
     ]
 
-    pub needs_there : (u v : Unit) → u.owner < length ws.packages → Contains (needs ws features u) v → IsThere ws v
-    needs_there u v lt is = needs_of_there u.owner u.side u.what v lt is
+    pub needs_there : (u v : Unit) → u.package < length ws.packages → Contains (needs ws features u) v → IsThere ws v
+    needs_there u v lt is = needs_of_there u.package u.side u.what v lt is
 
 -- Candidates by their numbers, each once, each of a package that is there.
 pub record AreNumbered (ws : Workspace) (units : List Unit) : Type 0 where
-  pub owners : (i : ℕ) (u : Unit) → slice_get units i ≡ Some u → u.owner < length ws.packages
+  pub owners : (i : ℕ) (u : Unit) → slice_get units i ≡ Some u → u.package < length ws.packages
   pub at_number : (u : Unit) → IsThere ws u → slice_get units (number u) ≡ Some u
   pub once : (i j : ℕ) (u : Unit) → slice_get units i ≡ Some u → slice_get units j ≡ Some u → i ≡ j
 

@@ -90,10 +90,10 @@ rest_more Target w = refl
 rest_more Host w = refl
 
 -- the key of a unit whose package has a name
-pub key_named : (ws : Workspace) (u : Unit) → letters.is_name (name_at ws u.owner) ≡ true → IsNamedWell u.what
+pub key_named : (ws : Workspace) (u : Unit) → letters.is_name (name_at ws u.package) ≡ true → IsNamedWell u.what
     → (is_relative (key_of ws u) ≡ true) × (list_any (λ b. b == 47) (key_of ws u) ≡ false) × (is_name (key_of ws u) ≡ true)
 key_named ws u is well =
-    key_is_name (name_at ws u.owner) (rest_of u.side u.what) is (rest_more u.side u.what)
+    key_is_name (name_at ws u.package) (rest_of u.side u.what) is (rest_more u.side u.what)
     (rest_clean 47 u.side u.what refl refl (what_clean 47 u.what no_slash well refl refl refl refl))
     (rest_clean 0 u.side u.what refl refl (what_clean 0 u.what no_zero well refl refl refl refl))
 
@@ -145,9 +145,9 @@ side_clean Target = refl
 side_clean Host = refl
 
 -- two units with one key: one name, one side, one thing made
-pub key_parts : (ws : Workspace) (u v : Unit) → letters.is_name (name_at ws u.owner) ≡ true → letters.is_name (name_at ws v.owner) ≡ true → key_of ws u ≡ key_of ws v → (name_at ws u.owner ≡ name_at ws v.owner) × (u.side ≡ v.side) × (u.what ≡ v.what)
+pub key_parts : (ws : Workspace) (u v : Unit) → letters.is_name (name_at ws u.package) ≡ true → letters.is_name (name_at ws v.package) ≡ true → key_of ws u ≡ key_of ws v → (name_at ws u.package ≡ name_at ws v.package) × (u.side ≡ v.side) × (u.what ≡ v.what)
 key_parts ws u v nu nv e =
-    let (names, rests) = split_at (name_at ws u.owner) (name_at ws v.owner) (rest_of u.side u.what) (rest_of v.side v.what) (clean 46 no_dot _ (letters_of _ nu)) (clean 46 no_dot _ (letters_of _ nv)) e in
+    let (names, rests) = split_at (name_at ws u.package) (name_at ws v.package) (rest_of u.side u.what) (rest_of v.side v.what) (clean 46 no_dot _ (letters_of _ nu)) (clean 46 no_dot _ (letters_of _ nv)) e in
     let (sides, whats) = split_at (side_name u.side) (side_name v.side) (what_name u.what) (what_name v.what) (side_clean u.side) (side_clean v.side) rests in
     (names, sides_apart u.side v.side sides, whats_apart u.what v.what whats)
 
@@ -183,11 +183,11 @@ one_index (x ∷ ps) (suc p) (suc q) d lp lq e = ap suc (one_index ps p q d.1 (o
 pub one_owner : (ws : Workspace) (p q : ℕ) → IsSettled ws → p < length ws.packages → q < length ws.packages → name_at ws p ≡ name_at ws q → p ≡ q
 one_owner ws p q settled lp lq e = one_index ws.packages p q settled.names lp lq e
 
-unit_same : (u v : Unit) → u.owner ≡ v.owner → u.side ≡ v.side → u.what ≡ v.what → u ≡ v
-unit_same u v o s w = ap (λ p. unit p u.side u.what) o ∙ ap (λ t. unit v.owner t u.what) s ∙ ap (λ x. unit v.owner v.side x) w
+unit_same : (u v : Unit) → u.package ≡ v.package → u.side ≡ v.side → u.what ≡ v.what → u ≡ v
+unit_same u v o s w = ap (λ p. unit p u.side u.what) o ∙ ap (λ t. unit v.package t u.what) s ∙ ap (λ x. unit v.package v.side x) w
 
 -- two units with one key are one
-pub one_unit : (ws : Workspace) (u v : Unit) → IsSettled ws → u.owner < length ws.packages → v.owner < length ws.packages → key_of ws u ≡ key_of ws v → u ≡ v
+pub one_unit : (ws : Workspace) (u v : Unit) → IsSettled ws → u.package < length ws.packages → v.package < length ws.packages → key_of ws u ≡ key_of ws v → u ≡ v
 one_unit ws u v settled lu lv e =
-    let (names, sides, whats) = key_parts ws u v (name_is ws u.owner settled lu) (name_is ws v.owner settled lv) e in
-    unit_same u v (one_owner ws u.owner v.owner settled lu lv names) sides whats
+    let (names, sides, whats) = key_parts ws u v (name_is ws u.package settled lu) (name_is ws v.package settled lv) e in
+    unit_same u v (one_owner ws u.package v.package settled lu lv names) sides whats

@@ -93,7 +93,7 @@ module _ (ws : Workspace) (features : Features) (selection : Selection) (settled
 
   -- Refusals.
 
-  behind_is : (i : ℕ) (u : Unit) → slice_get units i ≡ Some u → name_behind ws units i ≡ name_at ws u.owner
+  behind_is : (i : ℕ) (u : Unit) → slice_get units i ≡ Some u → name_behind ws units i ≡ name_at ws u.package
   behind_is i u at = ap (λ o. name_at ws (owner_of o)) at
 
   pub cycle_is : (circle : List ℕ) (names : List (List ℕ)) → order.IsCircle nodes roots circle → IsAscending names → ((name : List ℕ) → Contains names name ↔ Contains (map (name_behind ws units) circle) name) → IsCycle ws features selection names
@@ -186,7 +186,7 @@ module _ (ws : Workspace) (features : Features) (selection : Selection) (settled
     step_named k s at =
         let (u, there, planned) = to_unit s.node (step_reached k s at) in
         let key : s.key ≡ key_of ws u = all_at (λ (p : Step). p.key ≡ graph.key_at nodes p.node) steps h.keys k s at ∙ key_is s.node u there in
-        let named = key_named ws u (name_is ws u.owner settled (numbers.owners s.node u there)) (well ws features selection units settled all_selected drawn.candidates s.node u there) in
+        let named = key_named ws u (name_is ws u.package settled (numbers.owners s.node u there)) (well ws features selection units settled all_selected drawn.candidates s.node u there) in
         (ap is_relative key ∙ named.0, ap (list_any (λ b. b == 47)) key ∙ named.1, ap is_name key ∙ named.2)
 
     pub steps_relative : All (λ (s : Step). is_relative s.key ≡ true) steps
@@ -329,7 +329,7 @@ module _ (ws : Workspace) (features : Features) (selection : Selection) (settled
           let units_same : p.unit ≡ q.unit = one_unit ws p.unit q.unit settled (owner_in k p x) (owner_in l q y) (sym (keys_are k p x) ∙ same ∙ keys_are l q y) in
           level_apart p q before same (level_one units_same)
         where
-          owner_in : (m : ℕ) (r : Planned) → slice_get planned m ≡ Some r → r.unit.owner < length ws.packages
+          owner_in : (m : ℕ) (r : Planned) → slice_get planned m ≡ Some r → r.unit.package < length ws.packages
           owner_in m r at = let d = step_of m r at in numbers.owners d.step.node r.unit d.is.unit_at
 
           level_one : p.unit ≡ q.unit → p.level ≡ q.level

@@ -68,13 +68,13 @@ fixed_at ps p s w h lt = let e : 0 + p ≡ p = omega arith in fixed_from 0 ps p 
 -- what stands at a number
 pub record IsAt (count i : ℕ) (u : Unit) : Type 0 where
   pub kind : is_fixed u.what ≡ true
-  pub owner : u.owner < count
+  pub owner : u.package < count
   pub number : number u ≡ i
 
 record IsFrom (n count i : ℕ) (u : Unit) : Type 0 where
   pub kind : is_fixed u.what ≡ true
   pub index : ℕ
-  pub owner : u.owner ≡ n + index
+  pub owner : u.package ≡ n + index
   pub inside : index < count
   pub at : index * 6 + slot u.what u.side ≡ i
 
@@ -99,5 +99,5 @@ fixed_back n (p ∷ ps) (suc (suc (suc (suc (suc (suc i)))))) u at =
 pub fixed_is : (ps : List Package) (i : ℕ) (u : Unit) → slice_get (fixed ps) i ≡ Some u → IsAt (length ps) i u
 fixed_is ps i u at =
     let h = fixed_back 0 ps i u at in
-    let e : u.owner ≡ h.index = omega (arith, h.owner) in
+    let e : u.package ≡ h.index = omega (arith, h.owner) in
     record { kind = h.kind; owner = omega (arith, e, h.inside); number = omega (arith, e, h.at) }

@@ -43,20 +43,20 @@ well_fixed (Bin name) fixed = cc
 well_fixed _ fixed = tt
 
 module _ (ws : Workspace) (features : Features) (settled : IsSettled ws) where
-  there_well : (u : Unit) → IsThere ws u → IsNamedWell u.what × (u.owner < length ws.packages)
+  there_well : (u : Unit) → IsThere ws u → IsNamedWell u.what × (u.package < length ws.packages)
   there_well u there = (well_fixed u.what there.kind, there.owner)
 
-  reached_well : (u v : Unit) → u.owner < length ws.packages → Reaches ws features u v → IsNamedWell v.what × (v.owner < length ws.packages)
+  reached_well : (u v : Unit) → u.package < length ws.packages → Reaches ws features u v → IsNamedWell v.what × (v.package < length ws.packages)
   reached_well u v lt (direct _ _ need) = there_well v (needs_there ws settled features u v lt need)
   reached_well u v lt (onward _ w _ need more) = reached_well w v (needs_there ws settled features u w lt need).owner more
 
-  root_well : (selection : Selection) (u : Unit) → IsRoot ws features selection u → u.owner < length ws.packages → IsNamedWell u.what
+  root_well : (selection : Selection) (u : Unit) → IsRoot ws features selection u → u.package < length ws.packages → IsNamedWell u.what
   root_well selection u (library p selected asked there) lt = tt
   root_well selection u (binary p owner made selected at there asked on) lt =
       let (k, at_k) = at_from_contains owner.binaries made there in
       all_at (λ (x : Binary). letters.is_name x.name ≡ true) owner.binaries (all_at (IsPackage (length ws.packages)) ws.packages settled.packages p owner at).binary_names k made at_k
 
-  root_there : (selection : Selection) (u : Unit) → IsRoot ws features selection u → u.owner < length ws.packages
+  root_there : (selection : Selection) (u : Unit) → IsRoot ws features selection u → u.package < length ws.packages
   root_there selection u (library p selected asked there) = by (slice_get ws.packages p) refl there
     where
       by : (o : Option Package) → slice_get ws.packages p ≡ o → has_library o ≡ true → p < length ws.packages
@@ -64,7 +64,7 @@ module _ (ws : Workspace) (features : Features) (settled : IsSettled ws) where
       by (Some owner) at has = slice_get_within ws.packages p owner at
   root_there selection u (binary p owner made selected at there asked on) = slice_get_within ws.packages p owner at
 
-  planned_well : (selection : Selection) (u : Unit) → IsPlanned ws features selection u → IsNamedWell u.what × (u.owner < length ws.packages)
+  planned_well : (selection : Selection) (u : Unit) → IsPlanned ws features selection u → IsNamedWell u.what × (u.package < length ws.packages)
   planned_well selection u (inl root) = let lt = root_there selection u root in (root_well selection u root lt, lt)
   planned_well selection u (inr (r, root, reaches)) = reached_well r u (root_there selection r root) reaches
 
@@ -72,9 +72,9 @@ module _ (ws : Workspace) (features : Features) (settled : IsSettled ws) where
 key_ends : (ws : Workspace) (u : Unit) (before : List ℕ) → IsNamedWell u.what → last_word (before ++ key_of ws u) ≡ what_name u.what
 key_ends ws u before well =
     let none : has_point (what_name u.what) ≡ false = what_clean 46 u.what no_dot well refl refl refl refl in
-    ap last_word (sym (append_assoc before (name_at ws u.owner) (46 ∷ (side_name u.side ++ 46 ∷ what_name u.what)))
-    ∙ sym (append_assoc (before ++ name_at ws u.owner) (46 ∷ side_name u.side) (46 ∷ what_name u.what)))
-    ∙ behind_point ((before ++ name_at ws u.owner) ++ 46 ∷ side_name u.side) (what_name u.what) none
+    ap last_word (sym (append_assoc before (name_at ws u.package) (46 ∷ (side_name u.side ++ 46 ∷ what_name u.what)))
+    ∙ sym (append_assoc (before ++ name_at ws u.package) (46 ∷ side_name u.side) (46 ∷ what_name u.what)))
+    ∙ behind_point ((before ++ name_at ws u.package) ++ 46 ∷ side_name u.side) (what_name u.what) none
 
 below_ends : (ws : Workspace) (u : Unit) (folder : List ℕ) → IsNamedWell u.what → last_word (below folder (key_of ws u)) ≡ what_name u.what
 below_ends ws u folder well = ap last_word (sym (append_assoc (stem folder) (47 ∷ []) (key_of ws u))) ∙ key_ends ws u (stem folder ++ 47 ∷ []) well
@@ -88,7 +88,7 @@ keys_tell_what ws features selection profile plan settled is = all_from_at Tells
         let (well, lt) = planned_well ws features settled selection p.unit planned in
         let key : p.key ≡ key_of ws p.unit = all_at (λ (q : Planned). q.key ≡ key_of ws q.unit) plan.planned is.keys k p at in
         let out : p.out ≡ below (profile_folder ws profile) p.key = all_at (λ (q : Planned). q.out ≡ below (profile_folder ws profile) q.key) plan.planned is.folders k p at in
-        let (relative, flat, name) = key_named ws p.unit (name_is ws p.unit.owner settled lt) well in
+        let (relative, flat, name) = key_named ws p.unit (name_is ws p.unit.package settled lt) well in
         record {
           name = ap is_name key ∙ name;
           flat = ap (list_any (λ b. b == 47)) key ∙ flat;

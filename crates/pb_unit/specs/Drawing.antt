@@ -51,7 +51,7 @@ slot (Bin name) s = 0
 
 -- the number of a unit that is not a binary
 abbrev pub number : Unit → ℕ
-number u = u.owner * 6 + slot u.what u.side
+number u = u.package * 6 + slot u.what u.side
 
 -- the unit of package `p` that a unit on side `s` needs, if the need is of this kind
 abbrev pub needed : Need → ℕ → Side → Unit
@@ -124,7 +124,7 @@ root_of ws asked marks p s Script = false
 root_of ws asked marks p s Run = false
 
 abbrev pub is_root : Workspace → Bool → List Bool → Unit → Bool
-is_root ws asked marks u = root_of ws asked marks u.owner u.side u.what
+is_root ws asked marks u = root_of ws asked marks u.package u.side u.what
 
 abbrev pub root_at : Workspace → Bool → List Bool → ℕ → Unit → List ℕ
 root_at ws asked marks n u = if is_root ws asked marks u then n ∷ [] else []
@@ -157,7 +157,7 @@ all_missing ws features = placed (missing_at ws features) 0 ws.packages
 
 abbrev pub owner_of : Option Unit → ℕ
 owner_of None = 0
-owner_of (Some u) = u.owner
+owner_of (Some u) = u.package
 
 -- the name of the package whose unit has this index
 abbrev pub name_behind : Workspace → List Unit → ℕ → List ℕ
@@ -181,5 +181,5 @@ pub record IsPlannedFrom (ws : Workspace) (line : List Seen) (folder : List ℕ)
   pub needs : p.needs ≡ step.needs
   pub reaches : p.reaches ≡ step.reaches
   pub owner : Package
-  pub package_at : slice_get ws.packages p.unit.owner ≡ Some owner
+  pub package_at : slice_get ws.packages p.unit.package ≡ Some owner
   pub settings : p.settings ≡ settings_along owner (role_of p.unit) line

@@ -76,7 +76,7 @@ profile_folder ws profile = below ws.target (folder_of profile)
 -- the unit's settings are those of its package along the line, in the unit's role
 pub record HasSettings (ws : Workspace) (line : List Seen) (p : Planned) : Type 0 where
   pub owner : Package
-  pub package_at : slice_get ws.packages p.unit.owner ≡ Some owner
+  pub package_at : slice_get ws.packages p.unit.package ≡ Some owner
   pub settings : p.settings ≡ settings_along owner (role_of p.unit) line
 
 -- The names of packages.
@@ -92,7 +92,7 @@ pub record AreWithoutLibrary (ws : Workspace) (features : Features) (names : Lis
 pub record IsCycle (ws : Workspace) (features : Features) (selection : Selection) (names : List (List ℕ)) : Type 0 where
   pub some : 0 < length names
   pub order : IsAscending names
-  pub same : (name : List ℕ) → Contains names name ↔ ((u : Unit) × IsPlanned ws features selection u × Reaches ws features u u × (name ≡ name_at ws u.owner))
+  pub same : (name : List ℕ) → Contains names name ↔ ((u : Unit) × IsPlanned ws features selection u × Reaches ws features u u × (name ≡ name_at ws u.package))
 
 -- no unit of the plan reaches itself
 abbrev pub IsStraight : Workspace → Features → Selection → Type 0

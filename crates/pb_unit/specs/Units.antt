@@ -21,7 +21,7 @@ use Rattle.pb_unit.specs.declared.unit.What.TheVariants.{Lib, Bin, Script, Run}
 
 -- the unit of this kind that belongs to the package at an index, on a side
 abbrev pub unit : ℕ → Side → What → Unit
-unit p s w = record { owner = p; side = s; what = w }
+unit p s w = record { «package» = p; side = s; what = w }
 
 -- Keys.
 
@@ -45,7 +45,7 @@ what_name Run = codes "run"
 
 -- a unit's key: `PACKAGE.SIDE.WHAT`
 abbrev pub key_of : Workspace → Unit → List ℕ
-key_of ws u = name_at ws u.owner ++ dot ∷ (side_name u.side ++ dot ∷ what_name u.what)
+key_of ws u = name_at ws u.package ++ dot ∷ (side_name u.side ++ dot ∷ what_name u.what)
 
 -- The role for which a unit is compiled. Scripts have the host's role. Any other unit has the role
 -- of its side.
@@ -132,7 +132,7 @@ needs_of ws features p s Script = tools ws features p s
 needs_of ws features p s Run = unit p s Script ∷ runs ws features p s
 
 abbrev pub needs : Workspace → Features → Unit → List Unit
-needs ws features u = needs_of ws features u.owner u.side u.what
+needs ws features u = needs_of ws features u.package u.side u.what
 
 -- one or more needs lead from one unit to another
 pub data Reaches (ws : Workspace) (features : Features) : Unit → Unit → Type 0 where

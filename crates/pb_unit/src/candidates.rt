@@ -7,7 +7,7 @@ ghost use Rattle.pb_graph.specs.Placed.{placed};
 ghost use Rattle.pb_data.specs.OrderedSet.{is_mentioned};
 ghost use Rattle.pb_feature_types.specs.Features.{features_at};
 ghost use Rattle.pb_workspace_types.specs.declared.package.Side.TheVariants.{Target};
-ghost use Rattle.pb_unit.specs.Units.{asks_all, asks_libraries, asks_binary};
+ghost use Rattle.pb_unit.specs.Units.{asks_all, asks_libraries, asks_binary, unit};
 ghost use Rattle.pb_unit.specs.Drawing.{six, fixed, binaries_of, named_by, named_at, all_named, named_cmp, unit_named, AreCandidates};
 
 use crate::unit::{Unit, What};
@@ -174,13 +174,13 @@ fn named_roots(
 
 /// Adds a unit.
 fn add_unit(units: &mut Vec<Unit>, owner: usize, side: Side, what: What) -> Result<(), AllocError>
-    ensures { OnOk result (units.new.items ≡ units.old.items ++ record {
-      owner = owner;
-      side = side;
-      what = what;
-    } ∷ []) }
+    ensures { OnOk result (units.new.items ≡ units.old.items ++ unit owner side what ∷ []) }
 {
-    units.push(Unit { owner, side, what })?;
+    units.push(Unit {
+        package: owner,
+        side,
+        what,
+    })?;
     Ok(())
 }
 

@@ -32,7 +32,7 @@ fn node_of(
     features: &Features,
     unit: &Unit,
 ) -> Result<Node, AllocError>
-    requires { unit.now.owner < 256 }
+    requires { unit.now.package < 256 }
     ensures { IfOk result (λ node. node ≡ node_of workspace.now features.now unit.now) }
 {
     let key = unit.key(alloc, workspace.get())?;
@@ -50,7 +50,7 @@ fn nodes_of(
     features: &Features,
     units: &[Unit],
 ) -> Result<Vec<Node>, AllocError>
-    requires { All (λ u. u.owner < 256) units.now }
+    requires { All (λ u. u.package < 256) units.now }
     ensures { IfOk result (λ nodes. nodes.items
         ≡ map (node_of workspace.now features.now) units.now) }
 {

@@ -107,7 +107,7 @@ fn name_behind<'a>(workspace: &'a Workspace, units: &[Unit], node: usize) -> &'a
     ensures { result.now ≡ name_behind workspace.now units.now node }
 {
     match units.get(node) {
-        Some(unit) => name_at(workspace, unit.owner),
+        Some(unit) => name_at(workspace, unit.package),
         None => name_at(workspace, 0),
     }
 }

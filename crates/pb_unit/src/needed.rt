@@ -91,21 +91,21 @@ pub(crate) fn needed_by(
     features: &Features,
     unit: &Unit,
 ) -> Result<Vec<usize>, AllocError>
-    requires { unit.now.owner < 256 }
+    requires { unit.now.package < 256 }
     ensures { IfOk result (λ numbers. numbers.items
         ≡ map number (needs workspace.now features.now unit.now)) }
 {
     match &unit.what {
-        What::Lib => by_library(alloc, workspace, features, unit.owner, unit.side),
+        What::Lib => by_library(alloc, workspace, features, unit.package, unit.side),
         What::Bin(name) => by_binary(
             alloc,
             workspace,
             features,
-            unit.owner,
+            unit.package,
             unit.side,
             name.as_str(),
         ),
-        What::Script => by_script(alloc, workspace, features, unit.owner, unit.side),
-        What::Run => by_run(alloc, workspace, features, unit.owner, unit.side),
+        What::Script => by_script(alloc, workspace, features, unit.package, unit.side),
+        What::Run => by_run(alloc, workspace, features, unit.package, unit.side),
     }
 }

@@ -183,11 +183,11 @@ fn out_of(alloc: Global, frame: &ProfileContext<'_>, key: &Text) -> Result<PathT
 
 /// Returns the settings of a unit's package in its role.
 fn settings_of(workspace: &Workspace, frame: &ProfileContext<'_>, unit: &Unit) -> Settings
-    requires { unit.now.owner < length workspace.now.packages }
-    ensures { (owner : Package) × (slice_get workspace.now.packages unit.now.owner ≡ Some owner)
+    requires { unit.now.package < length workspace.now.packages }
+    ensures { (owner : Package) × (slice_get workspace.now.packages unit.now.package ≡ Some owner)
         × (result ≡ settings_along owner (role_of unit.now) (map seen frame.now.line.items)) }
 {
-    let owner = &workspace.packages.as_slice()[unit.owner];
+    let owner = &workspace.packages.as_slice()[unit.package];
     settings_along(owner, unit.role(), frame.line.as_slice())
 }
 
@@ -200,7 +200,7 @@ fn planned_unit(
     step: Step,
 ) -> Result<Planned, AllocError>
     requires node { step.node < length units.now }
-    requires owners { All (λ u. u.owner < length workspace.now.packages) units.now }
+    requires owners { All (λ u. u.package < length workspace.now.packages) units.now }
     requires name { is_relative step.key ≡ true }
     ensures { IfOk result (IsPlannedFrom workspace.now
         (map seen frame.now.line.items) frame.now.folder units.now step) }
@@ -228,7 +228,7 @@ fn all_made(
     steps: Vec<Step>,
 ) -> Result<Vec<Planned>, AllocError>
     requires nodes { All (λ (s : Step). s.node < length units.now) steps.items }
-    requires owners { All (λ u. u.owner < length workspace.now.packages) units.now }
+    requires owners { All (λ u. u.package < length workspace.now.packages) units.now }
     requires names { All (λ (s : Step). is_relative s.key ≡ true) steps.items }
     ensures { IfOk result (λ planned.
         AllZip (IsPlannedFrom workspace.now (map seen frame.now.line.items)

@@ -50,8 +50,8 @@ fn is_root(workspace: &SettledWorkspace, asked: bool, marks: &[bool], unit: &Uni
         What::Lib => {
             asked
                 && is_target(unit.side)
-                && is_marked(marks, unit.owner)
-                && has_library(workspace.get(), unit.owner)
+                && is_marked(marks, unit.package)
+                && has_library(workspace.get(), unit.package)
         }
         What::Bin(_) => true,
         What::Script => false,

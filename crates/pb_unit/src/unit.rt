@@ -26,7 +26,7 @@ pub enum What {
 #[derive(Drop)]
 pub struct Unit {
     /// The index of its package in the workspace.
-    pub owner: usize,
+    pub package: usize,
     /// The side for which it is made.
     pub side: Side,
     /// What is made.
@@ -48,7 +48,7 @@ impl TryCopy for Unit {
     fn copy(&self, alloc: Global) -> Result<Unit, AllocError> {
         let what = self.what.copy(alloc)?;
         Ok(Unit {
-            owner: self.owner,
+            package: self.package,
             side: self.side,
             what,
         })
@@ -101,7 +101,7 @@ impl Unit {
         ensures { IfOk result (λ key. key ≡ key_of workspace.now self.now) }
     {
         let mut text = String::new(alloc);
-        text.push_str(name_at(workspace, self.owner))?;
+        text.push_str(name_at(workspace, self.package))?;
         text.push_str(".")?;
         text.push_str(side_name(self.side))?;
         text.push_str(".")?;

@@ -39,7 +39,7 @@ module _ (ws : Workspace) where
   no_run p _ _ _ _ _ (script source has) is = cc
 
   -- the script of a run
-  to_script : (u : Unit) → UnitHasTarget ws u → u.what ≡ Run → UnitHasTarget ws (unit u.owner u.side Script)
+  to_script : (u : Unit) → UnitHasTarget ws u → u.what ≡ Run → UnitHasTarget ws (unit u.package u.side Script)
   to_script _ (compile p s what owner there crate types source file is) runs = absurd (no_run owner what crate types source file is runs)
   to_script _ (run p s owner there source has) runs = compile p s Script owner there (codes "build_script_build") (crate_type.Bin ∷ []) source (codes "build_script_build") (script source has)
 

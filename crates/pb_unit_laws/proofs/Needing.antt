@@ -168,4 +168,4 @@ module _ (ws : Workspace) (features : Features) where
       (subst (λ o. hands_on o ≡ true) (sym there) (all_on (is_some to.library) (is_some to.links) (is_some to.script) made links script)))))
 
 pub needs_are : NeedsAreThese
-needs_are ws features u v = (λ among. from_needs ws features u.owner u.side u.what v among, λ need. to_needs ws features u v need)
+needs_are ws features u v = (λ among. from_needs ws features u.package u.side u.what v among, λ need. to_needs ws features u v need)

@@ -31,7 +31,7 @@ all_made-planned-requires-clause-nodes c =
 
 pub all_made-planned-requires-clause-owners : goal.all_made-planned-requires-clause-owners
 all_made-planned-requires-clause-owners c =
-    subst (λ (ws : Workspace). All (λ (u : Unit). u.owner < length ws.packages) c.as_slice-units.result.now) (sym c.workspace_of-workspace.ensures.value)
+    subst (λ (ws : Workspace). All (λ (u : Unit). u.package < length ws.packages) c.as_slice-units.result.now) (sym c.workspace_of-workspace.ensures.value)
     (owners_there c.args.selected.now.workspace c.args.features.now c.args.selected.now.selection _ c.workspace_of-workspace.ensures.settled c.workspace_of-workspace.ensures.within c.in-Ok-draw_graph.ensures.candidates _ c.as_slice-units.ensures)
 
 pub all_made-planned-requires-clause-names : goal.all_made-planned-requires-clause-names
