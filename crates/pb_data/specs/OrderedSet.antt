@@ -7,12 +7,12 @@ use Rattle.std.specs.Str.{bytes_eq}
 abbrev pub is_mentioned : List (List ℕ) → List ℕ → Bool
 is_mentioned texts text = list_any (bytes_eq text) texts
 
--- the texts, with the given text at the end if it is not among them
+-- the texts, with one more text at the end, unless the list already contains this text
 abbrev pub mentioned : List (List ℕ) → List ℕ → List (List ℕ)
 mentioned texts text = if is_mentioned texts text then texts else texts ++ text ∷ []
 
--- the first list, and then each text of the second list, in order, unless the result already has
--- this text (`mentioned`)
+-- The first list, to which the texts of the second list are added one by one. A text that the list
+-- already contains is not added again.
 abbrev pub mentioned_all : List (List ℕ) → List (List ℕ) → List (List ℕ)
 mentioned_all texts [] = texts
 mentioned_all texts (text ∷ more) = mentioned_all (mentioned texts text) more

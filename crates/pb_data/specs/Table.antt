@@ -8,18 +8,19 @@ use Rattle.indexmap.specs.IndexMap.{insert_entry}
 abbrev pub value_at : {V : Type 0} → List ℕ → List (List ℕ × V) → Option V
 value_at name entries = lookup (bytes_eq name) entries
 
--- The entries after a value is set for a name. An old entry of this name keeps its position and
--- gets the new value. A new name goes last.
+-- The entries after a value is set for a name. If an entry has this name, this entry keeps its
+-- position and gets the new value. Otherwise a new entry goes last.
 abbrev pub with_entry : {V : Type 0} → List (List ℕ × V) → List ℕ → V → List (List ℕ × V)
 with_entry entries name value = insert_entry bytes_eq entries name value
 
--- the entries of the first list, to which those of the second list are added as `with_entry` says
+-- the first list of entries, to which the entries of the second list are added one by one, each as
+-- `with_entry` says
 abbrev pub with_entries : {V : Type 0} → List (List ℕ × V) → List (List ℕ × V) → List (List ℕ × V)
 with_entries entries [] = entries
 with_entries entries (entry ∷ more) = with_entries (with_entry entries entry.0 entry.1) more
 
--- The table that the entries make one by one. Each name occurs once, in order of first mention,
--- with its last value.
+-- An empty table, to which the entries are added one by one. Each name occurs once, in order of
+-- first mention, with its last value.
 abbrev pub table_of : {V : Type 0} → List (List ℕ × V) → List (List ℕ × V)
 table_of entries = with_entries [] entries
 

@@ -6,7 +6,7 @@ use crate::copying::TryCopy;
 use std::alloc::{AllocError, Global};
 use std::marker::Model;
 
-/// Bytes. Contracts see them as a list.
+/// Bytes. Contracts see the bytes as a list.
 #[derive(Debug, Drop)]
 pub struct Bytes {
     inside: Vec<u8>,

@@ -6,7 +6,7 @@ use crate::copying::TryCopy;
 use std::alloc::{AllocError, Global};
 use std::marker::Model;
 
-/// Items in order. Contracts see them as a list.
+/// Items in order. Contracts see the items as a list.
 #[derive(Debug, Drop)]
 pub struct Items<T> {
     inside: Vec<T>,
@@ -67,7 +67,7 @@ impl<T> Items<T> {
 
     /// Adds an item at the end.
     ///
-    /// Errors: out of memory. Then the items stay as they were.
+    /// Errors: out of memory. After an error the items are unchanged.
     pub fn push(&mut self, item: T) -> Result<(), AllocError>
     where
         T: Drop,

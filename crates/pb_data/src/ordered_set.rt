@@ -40,7 +40,7 @@ impl OrderedSet {
 
     /// Adds a text at the end, unless the set already has this text.
     ///
-    /// Errors: out of memory. Then the texts stay as they were.
+    /// Errors: out of memory. After an error the texts are unchanged.
     pub fn insert(&mut self, text: Text) -> Result<(), AllocError>
         ensures ok { OnOk result (self.new ≡ mentioned self.old text) }
         ensures err { OnErr result (self.new ≡ self.old) }
@@ -81,12 +81,12 @@ pub fn mentions_are_once()
     ensures { (texts : List (List ℕ)) → mentioned_all [] texts ≡ once texts }
 {}
 
-/// A law: no text occurs twice.
+/// A law: `once` of a list contains no text twice.
 pub fn once_is_distinct()
     ensures { (texts : List (List ℕ)) → EachOnce (once texts) }
 {}
 
-/// A law: each of the added texts occurs, and no other text.
+/// A law: `once` of a list contains exactly the texts of the list.
 pub fn once_keeps_texts()
     ensures { (texts : List (List ℕ)) (text : List ℕ)
         → is_mentioned (once texts) text ≡ is_mentioned texts text }

@@ -46,7 +46,7 @@ impl<V: Drop> Table<V> {
     /// Adds an entry. If the table already has this text, the old entry keeps its position and gets
     /// the new value. Otherwise the new entry goes last.
     ///
-    /// Errors: out of memory. Then the entries stay as they were.
+    /// Errors: out of memory. After an error the entries are unchanged.
     pub fn insert(&mut self, name: Text, value: V) -> Result<(), AllocError>
         ensures ok { OnOk result (self.new ≡ with_entry self.old name value) }
         ensures err { OnErr result (self.new ≡ self.old) }

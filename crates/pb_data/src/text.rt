@@ -7,7 +7,7 @@ use std::alloc::{AllocError, Global};
 use std::cmp::Ordering;
 use std::marker::Model;
 
-/// A text. Contracts see it as the list of its UTF-8 bytes.
+/// A text. Contracts see the text as the list of its UTF-8 bytes.
 #[derive(Debug, Drop)]
 pub struct Text {
     inside: String,

@@ -28,8 +28,8 @@ joined a b = record { words = a.words ++ b.words; variables = a.variables ++ b.v
 
 -- ---- a rule
 
--- these bytes may follow the colon that ends a rule's outputs: they begin with a space, or there
--- are no bytes
+-- these bytes may follow the colon that ends a rule's outputs: there are none, or the first byte is
+-- a space
 abbrev pub ends_outputs : List ℕ → Bool
 ends_outputs [] = true
 ends_outputs (b ∷ bytes) = b == space
@@ -53,8 +53,8 @@ parts_of (b ∷ c ∷ bytes) =
 abbrev pub rule_words : List ℕ → List (List ℕ)
 rule_words bytes = filter (λ part. not (is_empty part)) (parts_of bytes)
 
--- The words that a rule names. A rule is refused if no colon ends its outputs, or if byte 0 occurs
--- after the outputs.
+-- The words that a rule names. A rule is refused if no colon ends the rule's outputs, or if byte 0
+-- occurs after the outputs.
 abbrev pub rule_info : Option (List ℕ) → Result DepInfo Problem
 rule_info None = Err problem.BadValue
 rule_info (Some rest) = if has_byte 0 rest then Err problem.BadValue else Ok (only_words (rule_words rest))
@@ -83,7 +83,7 @@ abbrev pub text_info : Option (List ℕ) → Result DepInfo Problem
 text_info None = Err problem.NotText
 text_info (Some text) = if is_empty text then Ok nothing else full_line text
 
--- what a line names, or its fault
+-- what a line names, or the line's fault
 abbrev pub line_info : List ℕ → Result DepInfo Problem
 line_info line = text_info (text_of (strip_carriage_return line))
 
@@ -106,7 +106,7 @@ each_once info = record { words = once info.words; variables = once info.variabl
 abbrev pub all_names_of : List ℕ → Result DepInfo LineFault
 all_names_of bytes = info_from 1 (lines_of bytes)
 
--- what a text names, each name once, or its first fault
+-- what a text names, each name once, or the text's first fault
 abbrev pub dep_info_of : List ℕ → Result DepInfo LineFault
 dep_info_of bytes = all_names_of bytes >>= (λ info. Ok (each_once info))
 
@@ -114,7 +114,8 @@ dep_info_of bytes = all_names_of bytes >>= (λ info. Ok (each_once info))
 abbrev pub with_info : DepInfo → DepInfo → DepInfo
 with_info old more = record { words = mentioned_all old.words more.words; variables = mentioned_all old.variables more.variables }
 
--- the names in a line were added to the old names, unless memory ran out
+-- Unless memory ran out, the names in a line were added to the old names, or the result is the
+-- line's fault.
 abbrev pub AddsInfo : {U : Type 0} → Result U Problem → DepInfo → DepInfo → Result DepInfo Problem → Type 0
 AddsInfo result old new answer = MatchResult result (λ _. (answer >>= (λ more. Ok (with_info old more))) ≡ Ok new) (λ e. e ≢ problem.OutOfMemory → answer ≡ Err e)
 

@@ -46,7 +46,7 @@ named_value value = halves value >>= (λ p. if is_empty p.0 then Err problem.Bad
 
 -- ---- the flags of `rustc-flags`
 
--- the words of a text: those parts between spaces that are not empty
+-- the words of a text: the parts between spaces, without empty parts
 abbrev pub words_of : List ℕ → List (List ℕ)
 words_of text = filter (λ word. not (is_empty word)) (slice_split (λ b. b == space) text)
 
@@ -54,7 +54,7 @@ words_of text = filter (λ word. not (is_empty word)) (slice_split (λ b. b == s
 abbrev pub some_word : List ℕ → List (List ℕ) → List (List ℕ)
 some_word word words = if is_empty word then words else word ∷ words
 
--- the name that follows a flag's letter, if it is not empty
+-- the name that follows a flag's letter, if the name is not empty
 abbrev pub flag_name : Option (List ℕ) → Option (List ℕ)
 flag_name None = None
 flag_name (Some name) = if is_empty name then None else Some name
@@ -86,7 +86,7 @@ abbrev pub NextName : Result (List ℕ) Problem → List (List ℕ) → List (Li
 NextName result old new = MatchResult result (λ name. old ≡ name ∷ new) (λ e. e ≢ problem.OutOfMemory → (e ≡ problem.BadFlag) × (old ≡ []))
 
 -- Unless memory ran out, `word` and the words in `old` mean the flag that was taken, followed by
--- the flags of `new`. If the flag is refused, these words have its fault.
+-- the flags of `new`. If the flag is refused, these words have the flag's fault.
 abbrev pub TakesFlag : Result Directive Problem → List ℕ → List (List ℕ) → List (List ℕ) → Type 0
 TakesFlag result word old new = MatchResult result (λ flag. flags_of (word ∷ old) ≡ flags_of new >>= (λ more. Ok (flag ∷ more))) (λ e. e ≢ problem.OutOfMemory → flags_of (word ∷ old) ≡ Err e)
 
@@ -146,7 +146,7 @@ directives_at key.Error value = one (says.Error value)
 
 -- ---- a line
 
--- the directives of a key after `cargo::`, which must be a known key
+-- the directives of a key after `cargo::`; the key must be known
 abbrev pub known : Option Key → List ℕ → Result (List Directive) Problem
 known None value = Err problem.UnknownKey
 known (Some k) value = directives_at k value
@@ -198,6 +198,7 @@ directives_from number (line ∷ lines) =
 abbrev pub directives_of : List ℕ → Result (List Directive) LineFault
 directives_of bytes = directives_from 1 (lines_of bytes)
 
--- the directives of a line were added at the end, unless memory ran out
+-- Unless memory ran out, the directives of a line were added at the end, or the result is the
+-- line's fault.
 abbrev pub Adds : {U : Type 0} → Result U Problem → List Directive → List Directive → Result (List Directive) Problem → Type 0
 Adds result old new answer = MatchResult result (λ _. (answer >>= (λ more. Ok (old ++ more))) ≡ Ok new) (λ e. e ≢ problem.OutOfMemory → answer ≡ Err e)

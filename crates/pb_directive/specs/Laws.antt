@@ -21,13 +21,13 @@ later_by lines fault.OutOfMemory = fault.OutOfMemory
 abbrev pub followed_by : List ℕ → List ℕ → List ℕ
 followed_by text more = text ++ line_feed ∷ more
 
--- The directives of the first text, followed by those of the second, or the first fault. For a
--- fault of the second text, the line's number also counts the lines of the first.
+-- The directives of the first text, followed by the directives of the second text, or the first
+-- fault. For a fault of the second text, the line's number also counts the lines of the first text.
 abbrev pub then_said : ℕ → Result (List Directive) LineFault → Result (List Directive) LineFault → Result (List Directive) LineFault
 then_said lines first second = first >>= (λ said. lifted (later_by lines) second >>= (λ more. Ok (said ++ more)))
 
--- The names of the first text, followed by those of the second, or the first fault. Lines are
--- numbered as in `then_said`.
+-- The names of the first text, followed by the names of the second text, or the first fault. Lines
+-- are numbered as in `then_said`.
 abbrev pub then_named : ℕ → Result DepInfo LineFault → Result DepInfo LineFault → Result DepInfo LineFault
 then_named lines first second = first >>= (λ named. lifted (later_by lines) second >>= (λ more. Ok (joined named more)))
 

@@ -55,7 +55,7 @@ pub data IsSaidNew (key value : List ℕ) (said : List Directive) : Type 0 where
   metadata : (is_key : key ≡ codes "metadata") (name text : List ℕ) (some : name ≢ []) (whole : IsUncut name) (is : IsPlain value) (parts : value ≡ name ++ equals ∷ text) (same : said ≡ says.Metadata name text ∷ []) → IsSaidNew key value said
   error : (is_key : key ≡ codes "error") (same : said ≡ says.Error value ∷ []) → IsSaidNew key value said
 
--- the key has no meaning, whatever its value is
+-- the key has no meaning with any value
 abbrev pub IsUnknown : (List ℕ → List ℕ → List Directive → Type 0) → List ℕ → Type 0
 IsUnknown Says key = (value : List ℕ) (said : List Directive) → Says key value said → ⊥
 

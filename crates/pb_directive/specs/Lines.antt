@@ -33,12 +33,12 @@ text_of bytes = if is_utf8 bytes then Some bytes else None
 abbrev pub has_byte : ℕ → List ℕ → Bool
 has_byte byte bytes = list_any (λ b. b == byte) bytes
 
--- what follows the prefix, if the bytes begin with it
+-- what follows the prefix, if the bytes begin with the prefix
 abbrev pub after_prefix : List ℕ → List ℕ → Option (List ℕ)
 after_prefix [] bytes = Some bytes
 after_prefix (a ∷ prefix) [] = None
 after_prefix (a ∷ prefix) (b ∷ bytes) = if a == b then after_prefix prefix bytes else None
 
--- the bytes before and after the first occurrence of this byte, if it occurs
+-- the bytes before and after the first occurrence of this byte, if there is one
 abbrev pub split_first : ℕ → List ℕ → Option (List ℕ × List ℕ)
 split_first byte bytes = if nat_lt (position_or_len (λ b. b == byte) bytes) (length bytes) then Some (before_first (λ b. b == byte) bytes, after_first (λ b. b == byte) bytes) else None

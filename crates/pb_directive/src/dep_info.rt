@@ -10,14 +10,15 @@ use std::alloc::Global;
 /// order of first mention.
 #[derive(Drop)]
 pub struct DepInfo {
-    /// The words of the rules. They are paths; a relative path starts at the compiler's folder.
+    /// The words of the rules. The words are paths; a relative path starts at the compiler's
+    /// folder.
     pub words: OrderedSet,
     /// The names of the variables that were read.
     pub variables: OrderedSet,
 }
 
 impl DepInfo {
-    /// Returns a value without names. This takes no memory.
+    /// Returns dep-info without names. The call takes no memory.
     pub fn new(alloc: Global) -> DepInfo
         ensures { result ≡ nothing }
     {

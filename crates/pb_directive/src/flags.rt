@@ -13,7 +13,8 @@ use crate::words::Words;
 use pb_data::Text;
 use std::alloc::Global;
 
-/// Returns the name after a flag's letter. The name is not empty.
+/// Returns the name after a flag's letter, if the word begins with this letter and has a name after
+/// it.
 fn flag_name<'a>(letter: &str, word: &'a str) -> Option<&'a str>
     ensures { option_copied result ≡ flag_name (after_prefix letter.now word.now) }
 {

@@ -21,7 +21,8 @@ pub fn directives_concatenate()
         ≡ then_said (line_count text) (directives_of text) (directives_of more) }
 {}
 
-/// The same is true of the names of dep-info, before repeated names are removed.
+/// What `directives_concatenate` states is also true of the names of dep-info, before repeated
+/// names are removed.
 pub fn names_concatenate()
     ensures { (text more : List ℕ) → all_names_of (followed_by text more)
         ≡ then_named (line_count text) (all_names_of text) (all_names_of more) }

@@ -6,7 +6,7 @@ ghost use Rattle.pb_directive.specs.Lines.{lines_of, is_blank, trimmed_front, tr
 
 use std::marker::Model;
 
-/// The lines of a text that are still to come. Contracts see them as a list.
+/// The lines of a text that are still to come. Contracts see these lines as a list.
 #[derive(Drop)]
 pub struct Lines<'a> {
     rest: Option<&'a [u8]>,

@@ -55,8 +55,8 @@ fn dep_name(alloc: Global, links: &str, key: &str) -> Result<Text, AllocError>
 }
 
 /// Adds the variables that the metadata of one more build script sets, in printed order. A later
-/// value replaces an earlier value, and a new name goes last. The variables' names are those of
-/// `dep_pairs`. The function takes the table and returns it, so that no caller sees a table to
+/// value replaces an earlier value, and a new name goes last. The variables have the same names as
+/// in `dep_pairs`. The function takes the table and returns it, so that no caller sees a table to
 /// which only some variables were added.
 ///
 /// Errors: out of memory.
@@ -78,9 +78,9 @@ pub fn add_dep_pairs(
     Ok(after)
 }
 
-/// Returns the variables, with their values, that pass on the metadata of a build script. They
-/// reach the build scripts of the packages that directly need the package of this build script (The
-/// Cargo Book, "Build Scripts", "The `links` Manifest Key").
+/// Returns the variables, with their values, that pass on the metadata of a build script. The
+/// variables reach the build scripts of packages that directly need this build script's package
+/// (The Cargo Book, "Build Scripts", "The `links` Manifest Key").
 ///
 /// `links` is the value of `links` in the package's manifest. A variable's name is `DEP_LINKS_KEY`,
 /// in which the value of `links` and the metadata's key are in upper case, with `_` for each `-`.

@@ -78,7 +78,7 @@ fn first_part(alloc: Global, text: &str) -> Result<(String, Option<&str>), Alloc
     Ok((piece, None))
 }
 
-/// Adds a part to the mentioned texts, unless it is empty.
+/// Adds a part to the mentioned texts, unless the part is empty.
 fn add_part(part: String, words: &mut OrderedSet) -> Result<(), AllocError>
     ensures { OnOk result (words.new ≡ mentioned_all words.old (some_word (string_bytes part) [])) }
 {

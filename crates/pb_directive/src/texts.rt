@@ -22,7 +22,7 @@ pub fn has_nul(text: &str) -> bool
     text.as_bytes().contains(&0)
 }
 
-/// Returns what follows a prefix, if the text begins with it.
+/// Returns what follows a prefix, if the text begins with the prefix.
 pub fn after_prefix<'a>(prefix: &str, text: &'a str) -> Option<&'a str>
     ensures { option_copied result ≡ after_prefix prefix.now text.now }
 {

@@ -7,7 +7,7 @@ ghost use Rattle.pb_directive.specs.Directives.{words_of};
 
 use std::marker::Model;
 
-/// The words of a text that are still to come. Contracts see them as a list.
+/// The words of a text that are still to come. Contracts see these words as a list.
 #[derive(Drop)]
 pub struct Words<'a> {
     rest: &'a str,

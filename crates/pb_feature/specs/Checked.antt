@@ -1,5 +1,5 @@
--- The first fault among the packages that have been looked at so far. Only private functions need
--- these definitions.
+-- The first fault among the packages that were checked so far. Only private functions need these
+-- definitions.
 use Rattle.std.specs.Prelude.{◌≡◌, ℕ, ◌<◌, Bool, true, false, List, Option, Some, None, slice_get, if◌then◌else◌}
 use Rattle.std.specs.Ordering.{nat_cmp, is_lt}
 use Rattle.std.specs.Cmp.Lexicographic.{slice_cmp}
@@ -24,8 +24,9 @@ abbrev pub IsSofar : List Package → ℕ → Option First → Type 0
 IsSofar ps n None = (q : ℕ) (other : Package) → q < n → slice_get ps q ≡ Some other → package_fault other ≡ None
 IsSofar ps n (Some first) = IsFirstBelow ps n first.pkg first.fault
 
--- The package at an index has a lesser name than the package with the first fault so far. This is
--- also true if there is no fault so far.
+-- There are two packages, and the first package has the lesser name. `is_lesser_at` compares the
+-- package at an index with the package of the first fault so far. `is_lesser_at` is true if there
+-- is no fault so far.
 abbrev pub lesser_of : Option Package → Option Package → Bool
 lesser_of None w = false
 lesser_of (Some p) None = false

@@ -76,7 +76,7 @@ pub data HasRequested (ws : Workspace) (selection : Selection) (text : List ℕ)
   by_name : (p : ℕ) (selected : Contains selection.packages p) (there : HasFeature ws p text) → HasRequested ws selection text
   by_package : (p : ℕ) (feature : List ℕ) (selected : Contains selection.packages p) (there : HasFeature ws p feature) (is : text ≡ of_package there.owner.name feature) → HasRequested ws selection text
 
--- a package does not have this feature, although the feature is on for it
+-- the feature is on for a package that does not have this feature
 pub record LacksFeature (ws : Workspace) (selection : Selection) : Type 0 where
   pub pkg : ℕ
   pub side : Side

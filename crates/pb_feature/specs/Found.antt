@@ -5,7 +5,7 @@ use Rattle.pb_manifest_types.specs.declared.feature.FeatureItem.{FeatureItem}
 use Rattle.pb_manifest_types.specs.declared.feature.FeatureItem.TheVariants.{Own, Dependency, Of, OfEnabled}
 use Rattle.pb_workspace_types.specs.declared.package.Entry.{Entry}
 
--- the name of the entries that an item names, if it names entries
+-- the name of the entries that an item names, if the item names entries
 abbrev pub entry_named : FeatureItem → Option (List ℕ)
 entry_named (Own feature) = None
 entry_named (Dependency name) = Some name

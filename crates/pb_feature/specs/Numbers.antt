@@ -1,8 +1,7 @@
--- Numbers for all facts that may be true; the rules on numbers use them. Only private functions
+-- Numbers for all facts that may be true; the rules are about these numbers. Only private functions
 -- need these definitions. A package has a row of numbers. The first number means that the package
--- is on. The second means that some feature is on for the package although the package lacks it.
--- Then each of its features and each of its entries has a number. Each number comes twice, once for
--- each side.
+-- is on. The second number means that a feature is on that the package does not have. Then each
+-- feature and each entry of the package has a number. Each number comes twice, once for each side.
 use Rattle.std.specs.Prelude.{ℕ, zero, suc, ◌+◌, ◌*◌, List, [], ◌∷◌, Option, Some, None, length, slice_get, slice_index_or, if◌then◌else◌}
 use Rattle.std.specs.Str.{bytes_eq}
 use Rattle.pb_manifest_types.specs.declared.feature.Feature.{Feature}
@@ -35,7 +34,7 @@ abbrev pub number_at : List ℕ → ℕ → Side → ℕ → ℕ
 number_at bases p s local = number_from (slice_index_or bases p 0) s local
 
 -- `slot` is the position of the feature with this name, counted from 1, or 0 if there is no such
--- feature. `after` is this slot if one more feature comes first.
+-- feature. `after` is the new slot if one more feature is put in front.
 abbrev pub after : ℕ → ℕ
 after zero = zero
 after (suc k) = suc (suc k)

@@ -8,8 +8,8 @@ use Rattle.pb_feature_types.specs.Features.{is_active, features_at, is_enabled}
 use Rattle.pb_feature_types.specs.declared.features.Features.{Features}
 use Rattle.pb_feature.specs.Facts.{On, Has, Enabled, Holds}
 
--- The resolved features are exactly the facts: each package that is on, its features in byte order,
--- and each enabled entry.
+-- The resolved features are exactly the facts: each package that is on, each such package's
+-- features in byte order, and each enabled entry.
 pub record IsResolved (ws : Workspace) (selection : Selection) (features : Features) : Type 0 where
   pub active : (p : ℕ) (s : Side) → IsTrue (is_active features p s) ↔ Holds ws selection (On p s)
   pub has : (p : ℕ) (s : Side) (f : List ℕ) → Contains (features_at features p s) f ↔ Holds ws selection (Has p s f)

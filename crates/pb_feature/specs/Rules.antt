@@ -29,20 +29,20 @@ alone x z = pair x x z
 abbrev pub there_rules : List ℕ → ℕ → ℕ → Side → Bool → ℕ → List Rule
 there_rules bs from q t test k = if test then (if k == 0 then [] else alone from (has bs q t k) ∷ []) else []
 
--- the rule by which `from` turns on the feature with this name, even if the package does not have
--- it
+-- the rule by which `from` turns on the feature with this name; the package may lack this feature
 abbrev pub given_rules : List Package → List ℕ → ℕ → ℕ → Side → ℕ → List ℕ → List Rule
 given_rules ps bs from q t _ f = alone from (has bs q t (slot_at ps q f)) ∷ []
 
--- the rules of an enabled entry: it turns on the package to which it leads, and the features that
--- it requests
+-- the rules of an enabled entry: the entry turns on the package to which it leads, and the features
+-- that the entry requests
 abbrev pub enabled_rules : List Package → List ℕ → ℕ → Side → Entry → List Rule
 enabled_rules ps bs from t e =
     (alone from (on bs e.to t) ∷ [])
     ++ there_rules bs from e.to t e.default_features (slot_at ps e.to (codes "default"))
     ++ placed (given_rules ps bs from e.to t) 0 e.features
 
--- the rules of an entry; if it is not optional, it is enabled as soon as its package is on
+-- the rules of an entry; if a package is on, each entry of the package that is not optional is
+-- enabled
 abbrev pub entry_rules : List Package → List ℕ → Side → ℕ → ℕ → ℕ → Entry → List Rule
 entry_rules ps bs s p features n e =
     (if e.optional then [] else alone (on bs p s) (enabled bs p s features n) ∷ [])
@@ -68,7 +68,7 @@ item_rules ps bs s p fs k (OfEnabled name g) n e =
 abbrev pub both_item_rules : List Package → List ℕ → ℕ → List Feature → ℕ → FeatureItem → ℕ → Entry → List Rule
 both_item_rules ps bs p fs k item n e = item_rules ps bs Target p fs k item n e ++ item_rules ps bs Host p fs k item n e
 
--- the rule of an item that names a feature of its own package
+-- the rule of an item that names a feature of the item's own package
 abbrev pub own_rules : List ℕ → Side → ℕ → List Feature → ℕ → FeatureItem → List Rule
 own_rules bs s p fs k (Own g) = alone (has bs p s k) (has bs p s (slot fs g)) ∷ []
 own_rules bs s p fs k _ = []

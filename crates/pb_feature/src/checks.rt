@@ -1,5 +1,5 @@
 //! Checks the items of all packages. If several packages have wrong items, the fault of the first
-//! of them, in byte order of names, is returned.
+//! such package, in byte order of names, is returned.
 
 ghost use Rattle.std.specs.Prelude.{◌≡◌, ℕ, ◌+◌, ◌<◌, None, length, OnOk, IfErr};
 ghost use Rattle.pb_feature.specs.Checked.{is_lesser, is_lesser_at, picked, IsFirstBelow, IsSofar};

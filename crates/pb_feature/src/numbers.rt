@@ -118,8 +118,8 @@ impl Ground<'_> {
         }
     }
 
-    /// Returns the slot of the package's feature with a name. Returns 0 if there is no such
-    /// feature.
+    /// Returns the slot of the feature with a name, in the package at an index. Returns 0 if there
+    /// is no such feature.
     pub(crate) fn slot_at(&self, pkg: usize, name: &[u8]) -> usize
         ensures { result ≡ slot_at self.now.packages.now pkg name.now }
     {

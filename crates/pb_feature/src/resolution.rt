@@ -34,7 +34,7 @@ fn packages_of<'a>(selected: &'a SelectedWorkspace<'_>) -> &'a [Package]
     selected.workspace().get().packages.as_slice()
 }
 
-/// Returns, for each number, whether it follows from what is chosen.
+/// Returns, for each number, whether its fact follows from the chosen packages and features.
 fn marks_of(
     alloc: Global,
     selected: &SelectedWorkspace<'_>,

@@ -36,7 +36,7 @@ fn add_name(
     Ok(())
 }
 
-/// Returns the names of the features that are marked.
+/// Returns the names of the features whose numbers are marked.
 fn names_of(
     alloc: Global,
     ground: &Ground<'_>,
@@ -64,7 +64,7 @@ fn names_of(
     Ok(names)
 }
 
-/// Adds whether an entry is marked.
+/// Adds whether the number of an entry is marked.
 fn add_mark(
     enabled: &mut Items<bool>,
     ground: &Ground<'_>,
@@ -82,7 +82,7 @@ fn add_mark(
     Ok(())
 }
 
-/// Returns whether each entry is marked.
+/// Returns, for each entry of a package, whether its number is marked.
 fn entries_of(
     alloc: Global,
     ground: &Ground<'_>,

@@ -76,7 +76,8 @@ fn add_given(
     Ok(())
 }
 
-/// Adds the rules for what an enabled entry turns on in its package.
+/// Adds the rules for what an enabled entry turns on: the package to which it leads, and the
+/// features of this package.
 fn add_enabled(
     rules: &mut Vec<Rule>,
     ground: &Ground<'_>,

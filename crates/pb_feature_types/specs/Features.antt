@@ -1,4 +1,4 @@
--- Which features are on, as answers to questions about resolved features.
+-- Which packages, features and entries are on, by the resolved features.
 use Rattle.std.specs.Prelude.{ℕ, Bool, false, List, [], Option, Some, None, slice_get, slice_index_or}
 use Rattle.pb_workspace_types.specs.declared.package.Side.{Side}
 use Rattle.pb_workspace_types.specs.declared.package.Side.TheVariants.{Target, Host}

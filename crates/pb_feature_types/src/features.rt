@@ -80,8 +80,8 @@ impl Features {
     }
 }
 
-/// Returns whether a number is marked. A number past the last is not marked. The call takes no
-/// memory.
+/// Returns whether a number is marked. A number past the end of `marks` is not marked. The call
+/// takes no memory.
 pub fn is_marked(marks: &[bool], number: usize) -> bool
     ensures { result ≡ is_on marks.now number }
 {

@@ -1,6 +1,5 @@
--- The index of rules. For each thing it lists the rules that need this thing: what else each rule
--- needs, and what the rule yields.
--- Only private functions need these definitions.
+-- The index of rules. For each thing, the index lists the rules that need this thing: what else
+-- each rule needs, and what the rule yields. Only private functions need these definitions.
 use Rattle.std.specs.Prelude.{◌≡◌, ◌⊎◌, ◌↔◌, ◌<◌, ◌≤◌, ◌+◌, ◌==◌, ℕ, zero, suc, Bool, IsTrue, List, [], ◌∷◌, ◌++◌, Option, Some, None, Contains, length, slice_get, slice_index_or, slice_set, if◌then◌else◌}
 use Rattle.pb_graph.specs.declared.table.Rule.{Rule}
 use Rattle.pb_graph.specs.declared.index.Link.{Link}
@@ -11,28 +10,28 @@ abbrev pub link_at : List Link → ℕ → Option Link
 link_at links zero = None
 link_at links (suc index) = slice_get links index
 
--- A link is read if it has the given number. A link is also read if the chain of `next` numbers
--- from the link with this number leads to it.
+-- The link with the given number is read. If a link that is read has a `next` number, the link with
+-- this number is read, too.
 pub data IsRead (links : List Link) : ℕ → Link → Type 0 where
   at_once : (n : ℕ) (l : Link) (at : link_at links n ≡ Some l) → IsRead links n l
   behind : (n : ℕ) (m l : Link) (at : link_at links n ≡ Some m) (read : IsRead links m.next l) → IsRead links n l
 
--- the number of a thing's first link, or 0 if it has no link
+-- the number of a thing's first link, or 0 if the thing has no link
 abbrev pub head_at : List ℕ → ℕ → ℕ
 head_at heads x = slice_index_or heads x 0
 
--- a link of a thing says that this thing and `y` together yield `z`
+-- a link of the thing `x` says that `x` and `y` together yield `z`
 pub record HasLink (heads : List ℕ) (links : List Link) (x y z : ℕ) : Type 0 where
   pub next : ℕ
   pub read : IsRead links (head_at heads x) (record { with = y; gives = z; next = next })
 
--- the heads and links after one more link is added for a thing, in front of the links that the
--- thing had
+-- The heads and links after one link is added for a thing. The new link comes before the thing's
+-- other links.
 abbrev pub with_link : List ℕ × List Link → ℕ → ℕ → ℕ → List ℕ × List Link
 with_link s x y z = (slice_set s.0 x (length s.1 + 1), s.1 ++ record { with = y; gives = z; next = head_at s.0 x } ∷ [])
 
--- the heads and links after a rule is added: a link for each of its two premises, or one link if
--- the premises are equal
+-- The heads and links after a rule is added. If the rule's two premises differ, the rule adds a
+-- link for each premise. If they are equal, the rule adds one link.
 abbrev pub with_rule : List ℕ × List Link → Rule → List ℕ × List Link
 with_rule s r = if r.first == r.second then with_link s r.first r.second r.gives else with_link (with_link s r.first r.second r.gives) r.second r.first r.gives
 
@@ -47,7 +46,7 @@ pub record IsIndexed (n : ℕ) (links : List Link) : Type 0 where
   pub lower : (k : ℕ) (l : Link) → link_at links k ≡ Some l → l.next < k
 
 -- `given` lists what the links of a chain yield. The chain begins at the link with the number
--- `head`. Only links whose `with` is known count.
+-- `head`. A link counts only if its `with` is known.
 pub record IsWalked (known : ℕ → Bool) (links : List Link) (head : ℕ) (given : List ℕ) : Type 0 where
   pub sound : (z : ℕ) → Contains given z → (l : Link) × IsRead links head l × IsTrue (known l.with) × (l.gives ≡ z)
   pub whole : (l : Link) → IsRead links head l → IsTrue (known l.with) → Contains given l.gives
@@ -56,7 +55,8 @@ pub record IsWalked (known : ℕ → Bool) (links : List Link) (head : ℕ) (giv
 abbrev pub either_way : List Rule → ℕ → ℕ → ℕ → Type 0
 either_way rules x y z = joined_by rules x y z ⊎ joined_by rules y x z
 
--- by the links, `x` and `y` together yield `z` if and only if `Says` is true of `x`, `y` and `z`
+-- the links say that `x` and `y` together yield `z` if and only if `Says` is true of `x`, `y` and
+-- `z`
 pub record IsIndex (n : ℕ) (Says : ℕ → ℕ → ℕ → Type 0) (heads : List ℕ) (links : List Link) : Type 0 where
   pub long : length heads ≡ n
   pub within : (x : ℕ) → head_at heads x ≤ length links

@@ -8,7 +8,7 @@ use Rattle.pb_graph.specs.declared.graph.OrderFault.{OrderFault}
 use Rattle.pb_graph.specs.declared.graph.OrderFault.TheVariants.{OutOfMemory, Circle, TooMany}
 use Rattle.pb_graph.specs.Graph.{needs_at, key_at, Reaches, IsReached, above, IsBelow}
 
--- a step comes before another by level, and then by the bytes of the key
+-- the first step comes before the second, by level and then by the bytes of the key
 pub record ComesBefore (a b : Step) : Type 0 where
   pub order : (a.level < b.level) ⊎ ((a.level ≡ b.level) × IsBelow a.key b.key)
 
@@ -25,8 +25,8 @@ pub record AreIndices (steps : List Step) (Wanted : ℕ → Type 0) (indices : L
   pub rises : IsStrictlyIncreasing indices
   pub same : (index : ℕ) → Contains indices index ↔ ((p : Step) × (slice_get steps index ≡ Some p) × Wanted p.node)
 
--- The steps are the roots and all nodes that they reach, in order. Each step lists the steps that
--- it needs and those that it reaches.
+-- The steps are the roots and all nodes that the roots reach, in order. Each step lists the steps
+-- that it needs and the steps that it reaches.
 pub record IsOrder (nodes : List Node) (roots : List ℕ) (steps : List Step) : Type 0 where
   pub units : (u : ℕ) → Contains (map (λ (p : Step). p.node) steps) u ↔ IsReached nodes roots u
   pub keys : All (λ p. p.key ≡ key_at nodes p.node) steps
@@ -43,8 +43,8 @@ pub record IsCircle (nodes : List Node) (roots circle : List ℕ) : Type 0 where
   pub nodes_are : (u : ℕ) → Contains circle u ↔ (IsReached nodes roots u × Reaches nodes u u)
   pub order : AllPairs (λ u v. IsBelow (key_at nodes u) (key_at nodes v)) circle
 
--- No reached node reaches itself. More than `most` nodes are reached, and `found` lists more than
--- `most` of them in byte order of their keys.
+-- No reached node reaches itself. `found` lists more than `most` reached nodes, in byte order of
+-- the nodes' keys.
 pub record IsCrowd (nodes : List Node) (roots : List ℕ) (most : ℕ) : Type 0 where
   pub straight : (u : ℕ) → IsReached nodes roots u → Reaches nodes u u → ⊥
   pub found : List ℕ

@@ -17,8 +17,8 @@ IsMarked marks v = slice_index_or marks v false ≡ true
 abbrev pub unmarked : List Bool → ℕ
 unmarked marks = count_by not marks
 
--- The first `count` nodes of a list have been marked. Those of them that were not marked before are
--- now waiting.
+-- The first `count` nodes of a list have been marked. Each of these nodes that was not marked
+-- before is now waiting.
 pub record Marked (list : List ℕ) (count : ℕ) (old_marks : List Bool) (old_waiting : List ℕ) (marks : List Bool) (waiting : List ℕ) : Type 0 where
   pub long : length marks ≡ length old_marks
   pub each : (k : ℕ) → k < count → IsMarked marks (slice_index_or list k 0)
@@ -54,22 +54,22 @@ AreReached nodes roots found = (marks : List Bool) × IsFound nodes roots marks 
 abbrev pub node_of : Extent → ℕ
 node_of e = e.node
 
--- An extent has the number of nodes that its node reaches. `turns` is true if and only if the node
--- reaches itself.
+-- An extent contains the number of nodes that the extent's node reaches. `turns` is true if and
+-- only if this node reaches itself.
 pub record IsExtent (nodes : List Node) (e : Extent) : Type 0 where
   pub reached : List ℕ
   pub are : AreReached nodes (needs_at nodes e.node) reached
   pub count : e.count ≡ length reached
   pub turns : IsTrue e.turns ↔ Reaches nodes e.node e.node
 
--- The level of each node in the list is one more than the greatest level of the nodes that it
--- needs. A node that needs no node has level 0.
+-- The level of each node in the list is one more than the greatest level of the nodes that this
+-- node needs. A node that needs no node has level 0.
 pub record AreLevels (nodes : List Node) (list levels : List ℕ) : Type 0 where
   pub long : length levels ≡ length nodes
   pub each : (v : ℕ) → Contains list v → slice_index levels v ≡ above (map (slice_index levels) (needs_at nodes v))
 
--- The extents are sorted by their counts. No node with an extent reaches itself. Each node that
--- such a node needs has an extent, too.
+-- The extents are sorted by their counts. No node with an extent reaches itself. If a node has an
+-- extent, each node that it needs has an extent, too.
 pub record AreRising (nodes : List Node) (extents : List Extent) : Type 0 where
   pub each : All (IsExtent nodes) extents
   pub rising : IsNonDecreasingBy (λ e. e.count) extents
@@ -86,7 +86,7 @@ pub record IsRank (nodes : List Node) (levels : List ℕ) (r : Rank) : Type 0 wh
   pub level : r.level ≡ slice_index levels r.node
   pub key : r.key ≡ key_at nodes r.node
 
--- a rank comes before another by level, and then by the bytes of the key
+-- the first rank comes before the second, by level and then by the bytes of the key
 pub record RanksBefore (a b : Rank) : Type 0 where
   pub order : (a.level < b.level) ⊎ ((a.level ≡ b.level) × IsBelow a.key b.key)
 
@@ -99,12 +99,13 @@ pub record AreRanked (nodes : List Node) (list levels : List ℕ) (ranks : List 
 
 -- The steps of the order.
 
--- for each of the first `count` ranks, the table `indices` has the rank's index at the rank's node
+-- the table `indices` contains, for the node of each of the first `count` ranks, the rank's index
 pub record IndicesTell (nodes : List Node) (ranks : List Rank) (count : ℕ) (indices : List ℕ) : Type 0 where
   pub long : length indices ≡ length nodes
   pub tell : (k : ℕ) (r : Rank) → k < count → slice_get ranks k ≡ Some r → slice_index indices r.node ≡ k
 
--- `found` lists, in ascending order, what the table has for the nodes of the list
+-- `found` lists, in ascending order, the numbers that the table `indices` has for the nodes of the
+-- list
 pub record AreIndicesBy (indices list found : List ℕ) : Type 0 where
   pub rises : IsStrictlyIncreasing found
   pub same : (index : ℕ) → Contains found index ↔ Contains (map (slice_index indices) list) index
@@ -137,14 +138,14 @@ pub record IsCrowded (nodes : List Node) (list : List ℕ) (most : ℕ) : Type 0
   pub listed : AreByKey nodes list found
   pub many : most < length found
 
--- the extents of all nodes that the roots reach, in ascending order of their counts
+-- the extents of all nodes that the roots reach, sorted by the counts of the extents
 pub record AreSurveyed (nodes : List Node) (roots : List ℕ) (extents : List Extent) : Type 0 where
   pub same : (v : ℕ) → Contains (map node_of extents) v ↔ IsReached nodes roots v
   pub each : All (IsExtent nodes) extents
   pub rising : IsNonDecreasingBy (λ e. e.count) extents
 
--- the steps are the nodes of a list, sorted by level and then by key, each with the indices of what
--- it needs and reaches
+-- The steps are the nodes of a list, sorted by level and then by key. Each step has the indices of
+-- the nodes that the step's node needs and reaches.
 pub record IsOrdered (nodes : List Node) (list : List ℕ) (plan : List Step) : Type 0 where
   pub levels : List ℕ
   pub leveled : AreLevels nodes list levels

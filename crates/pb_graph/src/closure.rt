@@ -1,4 +1,4 @@
-//! The least set that rules yield. It is computed with a list of the things that must still be
+//! The least set that rules yield. The set is computed with a list of the things that must still be
 //! looked at.
 
 ghost use Rattle.std.specs.Prelude.{◌≡◌, ℕ, ◌+◌, ◌<◌, IfOk, OnOk, All, Contains, IsTrue, length};
@@ -38,7 +38,7 @@ pub trait Rules {
             (IsYielded (joins self.now) (is_on known.now) thing given.new.items) };
 }
 
-/// Marks a thing and puts it on the list, unless it is marked already.
+/// Marks a thing and puts it on the list, unless the thing is marked already.
 fn mark_one(
     marks: &mut Vec<bool>,
     todo: &mut VecDeque<usize>,
@@ -74,9 +74,9 @@ fn mark(
     Ok(())
 }
 
-/// Returns for each thing whether it is in the least set that contains the seeds and is closed
-/// under the rules. Each thing is looked at once, in the order in which the things are found. This
-/// is fast because things that are found together are mostly close in memory.
+/// Returns for each thing whether the thing is in the least set that contains the seeds and is
+/// closed under the rules. Each thing is looked at once, in the order in which the things are
+/// found. This order is fast because things that are found together are mostly close in memory.
 ///
 /// Errors: out of memory.
 pub fn least<R: Rules>(alloc: Global, rules: &R, seeds: &[usize]) -> Result<Vec<bool>, AllocError>

@@ -9,7 +9,7 @@ use std::alloc::{AllocError, AllocFailed};
 pub struct Node {
     /// The key of the node. No two nodes have the same key.
     pub key: Text,
-    /// The numbers of the nodes that it needs.
+    /// The numbers of the nodes that this node needs.
     pub needs: Items<usize>,
 }
 
@@ -23,9 +23,9 @@ pub struct Step {
     /// The level: 0 if the node needs no nodes. Otherwise the level is one more than the greatest
     /// level of the nodes that it needs.
     pub level: usize,
-    /// The nodes that it needs, as ascending indices into the order.
+    /// The nodes that this node needs, as ascending indices into the order.
     pub needs: Items<usize>,
-    /// All nodes that it reaches, as ascending indices into the order.
+    /// All nodes that this node reaches, as ascending indices into the order.
     pub reaches: Items<usize>,
 }
 
@@ -34,7 +34,7 @@ pub struct Step {
 pub enum OrderFault {
     /// Out of memory.
     OutOfMemory,
-    /// These nodes reach themselves. They are sorted by the bytes of their keys.
+    /// These nodes reach themselves. The nodes are sorted by the bytes of their keys.
     Circle(Items<usize>),
     /// There are more nodes than allowed.
     TooMany,

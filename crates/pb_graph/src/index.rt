@@ -1,5 +1,5 @@
-//! The index of rules. For each thing it lists the rules that need this thing: what else each rule
-//! needs, and what the rule yields. Only this crate uses the index.
+//! The index of rules. For each thing, the index lists the rules that need this thing: what else
+//! each rule needs, and what the rule yields. Only this crate uses the index.
 
 ghost use Rattle.std.specs.Prelude.{◌≡◌, ◌<◌, IfOk, OnOk, All, length};
 ghost use Rattle.std.specs.List.{sum_by};

@@ -164,7 +164,7 @@ fn within(
     Ok(found)
 }
 
-/// Returns the order of some nodes. No node among them reaches itself.
+/// Returns the order of some nodes. None of these nodes reaches itself.
 fn order_nodes(
     alloc: Global,
     nodes: &[Node],

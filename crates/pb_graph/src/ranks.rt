@@ -44,7 +44,7 @@ fn rank_of(alloc: Global, nodes: &[Node], levels: &[usize], node: usize) -> Resu
     })
 }
 
-/// Returns the ranks of a list.
+/// Returns the ranks of the nodes of a list.
 fn ranks_of(
     alloc: Global,
     nodes: &[Node],
@@ -64,7 +64,7 @@ fn ranks_of(
     Ok(ranks)
 }
 
-/// Returns the nodes of a list in order, without repeats.
+/// Returns the ranks of the nodes of a list, in order and without repeats.
 pub fn rank_nodes(
     alloc: Global,
     nodes: &[Node],

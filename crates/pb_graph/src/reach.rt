@@ -65,7 +65,7 @@ fn found_from(
     Ok(found)
 }
 
-/// Clears the marks of a list.
+/// Clears the marks of the nodes of a list.
 fn clear(marks: &mut [bool], list: &[usize])
     requires within { All (λ v. v < length marks.old) list.now }
     requires all { Clearing list.now 0 marks.old marks.old }

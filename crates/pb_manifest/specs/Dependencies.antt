@@ -44,7 +44,7 @@ first_keys keeps ms =
     text_at key.Package ms >>= (λ renamed.
     Ok record { default_features = default_features; features = features; optional = is_true optional; «package» = renamed })))))
 
--- The value of `version`. The value of `workspace` is checked after it.
+-- The value of `version`. The value of `workspace` is checked after `version`.
 abbrev pub version_and_workspace : Members → Read (Option Text)
 version_and_workspace ms =
     requirement_at ms >>= (λ version.
@@ -84,13 +84,14 @@ shared_keys ms =
 abbrev pub at_path : Option Bool → Option Text → Option Text → Text → PathSource
 at_path default_features renamed version path = record { path = path; «package» = renamed; version = version; default_features = unwrap_or default_features true }
 
--- the source of a package's own entry: its path if it has one, and otherwise the workspace
+-- the source of a package's own entry: the entry's path if there is one, and otherwise the
+-- workspace
 abbrev pub source_of : Option Bool → Option Text → Option Text → Option Text → Source
 source_of default_features renamed version None = own.Workspace (is_true default_features)
 source_of default_features renamed version (Some path) = own.Path (at_path default_features renamed version path)
 
--- the source of an entry of `[workspace.dependencies]`: its path if it has one; otherwise the
--- source is unsupported
+-- the source of an entry of `[workspace.dependencies]`: the entry's path if there is one; otherwise
+-- the source is unsupported
 abbrev pub shared_source_of : Option Bool → Option Text → Option Text → Option Text → WorkspaceSource
 shared_source_of default_features renamed version None = shared.Unsupported
 shared_source_of default_features renamed version (Some path) = shared.Path (at_path default_features renamed version path)
@@ -102,8 +103,8 @@ dependency_keys name ms =
     last_keys ms >>= (λ b.
     Ok record { key = name; source = source_of a.default_features a.package b.version b.path; optional = a.optional; features = a.features }))
 
--- A package's own entry, written as a version or as a table. A version is refused, because such an
--- entry has no path.
+-- A package's own entry, written as a version or as a table. An entry that is written as a version
+-- is refused, because it has no path.
 abbrev pub dependency_from : Key → Text → Option Text → Option Members → Read Dependency
 dependency_from k name (Some version) found = Err UnsupportedSource
 dependency_from k name None (Some ms) = dependency_keys name ms

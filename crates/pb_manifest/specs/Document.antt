@@ -95,7 +95,8 @@ tables_of ms =
       workspace = workspace;
     })))))
 
--- the manifest of a document; its tables are read in this order
+-- the manifest of a document: unsupported tables and resolver 1 are refused first, and then the
+-- tables are read in order
 unfoldable pub document_of : Members → Read Manifest
 document_of ms =
     supported ms >>= (λ none.

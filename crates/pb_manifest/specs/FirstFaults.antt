@@ -1,6 +1,6 @@
--- Which of several faults in one table is reported: the fault of the lowest key. A table with fixed
--- keys has a list here: its keys in byte order, each with the fault of its own value. For a table
--- whose keys the user chooses, a definition names the entry whose fault is reported.
+-- Which of several faults in one table is reported: the fault of the lowest key. For each table
+-- with fixed keys, a definition lists the keys in byte order, each with the fault of its value. For
+-- a table whose keys the user chooses, a definition names the entry whose fault is reported.
 use Rattle.std.specs.Prelude.{◌≡◌, List, Bool, true, ◌&&◌, [], ◌∷◌, map, Option, Some, None, Ok, Err}
 use Rattle.std.specs.Option.{option_or}
 use Rattle.std.specs.Ordering.{nat_cmp, is_lt}
@@ -20,12 +20,12 @@ use Rattle.pb_manifest_types.specs.declared.fault.ManifestFault.{ManifestFault}
 use Rattle.pb_manifest_types.specs.declared.key.Key.{Key}
 use Rattle.pb_manifest_types.specs.declared.key.Key.TheVariants as key
 
--- the fault with which a value was read, if there is one
+-- the fault for which a value was refused, or none if the value was read
 abbrev pub told : {A : Type 0} → Read A → Option ManifestFault
 told (Ok x) = None
 told (Err fault) = Some fault
 
--- a key of a table, and the fault of its own value if there is one
+-- a key of a table, and the fault of the key's value if there is one
 abbrev pub KeyFault : Type 0
 KeyFault = Key × Option ManifestFault
 
@@ -40,7 +40,8 @@ are_ascending [] = true
 are_ascending (a ∷ []) = true
 are_ascending (a ∷ b ∷ rest) = is_lt (slice_cmp nat_cmp a b) && are_ascending (b ∷ rest)
 
--- The keys of a table are in byte order, and reading the table returns the first fault of a key.
+-- The keys of a table are in byte order. Reading the table returns the fault of the first key that
+-- has a fault.
 pub record TellsLowest {A : Type 0} (keys : Members → List KeyFault) (read : Members → Read A) : Type 0 where
   pub order : (ms : Members) → are_ascending (map (λ k. spelled k.0) (keys ms)) ≡ true
   pub first : (ms : Members) → told (read ms) ≡ first_fault (keys ms)
@@ -148,8 +149,8 @@ pub record IsOfLowestEntry {A : Type 0} (read : Text → Data → Read A) (ms : 
   pub tells : told (read name value) ≡ Some fault
   pub lower : (other : Text) (d : Data) → TableHas other d ms → is_lt (slice_cmp nat_cmp other name) ≡ true → told (read other d) ≡ None
 
--- For a table whose keys the user chooses, the fault of its lowest bad entry is reported. If no
--- fault is reported, all entries can be read.
+-- For a table whose keys the user chooses, the fault of the bad entry with the lowest key is
+-- reported. If no fault is reported, all entries can be read.
 pub record TellsLowestEntry {A : Type 0} (read : Text → Data → Read A) : Type 0 where
   pub refused : (ms : Members) (fault : ManifestFault) → Ascend (keys_of ms) → told (each_entry read ms) ≡ Some fault → IsOfLowestEntry read ms fault
   pub taken : (ms : Members) → told (each_entry read ms) ≡ None → (name : Text) (d : Data) → TableHas name d ms → told (read name d) ≡ None

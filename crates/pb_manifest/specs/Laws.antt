@@ -22,7 +22,7 @@ use Rattle.pb_manifest_types.specs.declared.package.Edition.TheVariants.{E2015}
 use Rattle.pb_manifest_types.specs.declared.package.Package.{Package}
 use Rattle.pb_manifest_types.specs.declared.target.Binary.{Binary}
 
--- no rule names a key of this name
+-- no rule names the key with this name
 abbrev pub IsUnnamed : Text → Type 0
 IsUnnamed name = (k : Key) → spelled k ≢ name
 
@@ -39,7 +39,8 @@ PassesOver read = (name : Text) (ms : Members) → IsUnnamed name → read (with
 abbrev pub OrdersTables : Type 0
 OrdersTables = (bytes : List ℕ) (ms : Members) → document_in bytes ≡ Ok ms → members_are_sorted ms ≡ true
 
--- if the keys of all tables are in ascending order, the same is true inside the table at a key
+-- if the keys of all tables inside a table are in ascending order, the same is true inside the
+-- table at one of its keys
 abbrev pub OrdersInnerTables : Type 0
 OrdersInnerTables = (k : Key) (ms inner : Members) → members_are_sorted ms ≡ true → table_at k ms ≡ Ok (Some inner) → members_are_sorted inner ≡ true
 
@@ -79,8 +80,8 @@ ReadsSpellings = (i : FeatureItem) → IsItem i → item_in (item_text i) ≡ Ok
 abbrev pub NamesPackages : Type 0
 NamesPackages = (bytes : List ℕ) (m : Manifest) (p : Package) → manifest_of bytes ≡ Ok m → m.package ≡ Some p → is_name p.name ≡ true
 
--- A package without a written edition has the edition 2015. A package without a written version has
--- the version 0.0.0.
+-- A package without a written edition has the edition 2015. By `DefaultVersion`, a package without
+-- a written version has the version 0.0.0.
 abbrev pub DefaultEdition : Type 0
 DefaultEdition = (ms : Members) (p : Package) → value_at key.Edition ms ≡ None → package_of ms ≡ Ok p → p.edition ≡ Written E2015
 
@@ -94,6 +95,6 @@ AreReadInOrder read no_items (x ∷ xs) = ⊥
 AreReadInOrder read (item d ds) [] = ⊥
 AreReadInOrder read (item d ds) (x ∷ xs) = (read d ≡ Ok x) × AreReadInOrder read ds xs
 
--- the binaries have the order of the tables `[[bin]]`
+-- the binaries that are read have the order of the tables `[[bin]]`
 abbrev pub KeepsOrder : Type 0
 KeepsOrder = (ds : Items) (binaries : List Binary) → each binary_of ds ≡ Ok binaries → AreReadInOrder binary_of ds binaries

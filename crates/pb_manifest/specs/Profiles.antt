@@ -1,5 +1,5 @@
--- How the table `[profile]` is read (The Cargo Book, Profiles). If the rules do not allow a value
--- here, it is refused as `BadProfile`.
+-- How the table `[profile]` is read (The Cargo Book, Profiles). A value that the rules do not allow
+-- in `[profile]` is refused as `BadProfile`.
 use Rattle.std.specs.Prelude.{ℤ, pos, negsuc, List, [], ◌∷◌, Bool, not, ◌&&◌, ◌||◌, if◌then◌else◌, nat_lt, Option, Some, None, Ok, Err, codes, is_some, option_and_then, option_map}
 use Rattle.std.specs.Str.{bytes_eq}
 use Rattle.toml.specs.Data.{Data, Members, as_str, as_bool, as_integer, as_table}

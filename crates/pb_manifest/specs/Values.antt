@@ -1,6 +1,6 @@
 -- Which value a table has at a key, and which values are allowed there.
 --
--- Each definition that reads something returns its value, or the first fault.
+-- Each definition that reads something returns the value that was read, or the first fault.
 use Rattle.std.specs.Prelude.{List, [], ◌∷◌, Bool, true, false, if◌then◌else◌, Option, Some, None, Ok, Err, is_some, unwrap_or}
 use Rattle.toml.specs.Data.{Data, Items, no_items, item, Members, no_members, member, get_member, as_str, as_bool, as_table, as_array}
 use Rattle.pb_data.specs.UnlessOom as answers
@@ -20,7 +20,7 @@ use Rattle.pb_manifest_types.specs.declared.inherited.Inherited.TheVariants as i
 abbrev pub GivesAs : {T A : Type 0} → (T → A) → Read T → Read A → Type 0
 GivesAs shows result answer = answers.UnlessOom OutOfMemory shows result answer
 
--- the value that a table has at a key, if it has one
+-- the value that a table has at a key, if there is one
 abbrev pub value_at : Key → Members → Option Data
 value_at k ms = get_member (spelled k) ms
 
@@ -28,7 +28,7 @@ value_at k ms = get_member (spelled k) ms
 abbrev pub has : Key → Members → Bool
 has k ms = is_some (value_at k ms)
 
--- the value that is read if something is written, and no value otherwise
+-- the value that is read from what is written, or no value if nothing is written
 abbrev pub optional : {A : Type 0} → (Data → Read A) → Option Data → Read (Option A)
 optional read None = Ok None
 optional read (Some d) = read d >>= (λ x. Ok (Some x))
@@ -57,7 +57,7 @@ array_of k d = some_or (BadKind k) (as_array d)
 abbrev pub table_of : Key → Data → Read Members
 table_of k d = some_or (BadKind k) (as_table d)
 
--- The text must have no byte 0. A path must be such a text.
+-- The text must have no byte 0. A path must be a text without byte 0.
 abbrev pub zero_free : Key → Text → Read Text
 zero_free k text = if has_zero text then Err (BadKind k) else Ok text
 

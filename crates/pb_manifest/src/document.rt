@@ -208,8 +208,8 @@ fn document_in(alloc: Global, bytes: &[u8]) -> Result<Table, ManifestFault>
 
 /// Returns the manifest in some bytes, as The Cargo Book defines it.
 ///
-/// Errors: the errors of `ManifestFault`. This type describes when each error occurs, and which of
-/// several errors is returned.
+/// Errors: the errors of `ManifestFault`. `ManifestFault` describes when each error occurs, and
+/// which of several errors is returned.
 ///
 /// A key that no rule names is accepted and has no effect. Tables that a build does not use, such
 /// as `[lints]` and `[package.metadata]`, have no effect either. Only the keys of

@@ -90,7 +90,7 @@ pub(crate) fn version_and_workspace(
     Ok(version)
 }
 
-/// Returns the package at a path.
+/// Returns the source of a package at a path.
 pub(crate) fn at_path(
     default_features: Option<bool>,
     package: Option<Text>,

@@ -49,7 +49,7 @@ struct LastKeys {
     version: Inherited<Version>,
 }
 
-/// Returns a name of a package or a binary.
+/// Returns the name of a package or of a binary. The name must be written and valid.
 fn name_in(text: Option<Text>) -> Result<Text, ManifestFault>
     ensures { result ≡ name_in text }
 {

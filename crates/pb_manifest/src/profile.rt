@@ -64,7 +64,8 @@ fn each_override(alloc: Global, table: &Table) -> Result<Items<ProfileOverride>,
     Ok(overrides)
 }
 
-/// Returns the overrides by packages' names. There are no overrides if there is no such table.
+/// Returns the overrides of a profile, by packages' names. There are no overrides if the profile
+/// has no table `package`.
 fn overrides_at(alloc: Global, table: &Table) -> Result<Items<ProfileOverride>, ManifestFault>
     ensures { UnlessOom result (overrides_at (table_view table.now)) }
 {

@@ -29,8 +29,8 @@ pub record IsDocument (ms : Members) (m : Manifest) : Type 0 where
   pub profiles : AreEntriesAt (λ name. OfTable (IsProfileEntry name)) (get_member (codes "profile") ms) m.profiles
   pub workspace : IsTableAt IsWorkspaceTable (get_member (codes "workspace") ms) m.workspace
 
--- Bytes describe this manifest. There are at most 1 MiB of bytes. They are UTF-8, and `toml` reads
--- them as a document that describes the manifest.
+-- Bytes describe this manifest. There are at most 1 MiB of bytes. The bytes are UTF-8, and `toml`
+-- reads them as a document that describes the manifest.
 pub record AreManifest (bytes : List ℕ) (m : Manifest) : Type 0 where
   pub few : length bytes ≤ max_manifest_bytes
   pub text : is_utf8 bytes ≡ true

@@ -67,7 +67,7 @@ ReadsManifests = (bytes : List ℕ) (m : Manifest) → (manifest_of bytes ≡ Ok
 abbrev pub DocumentsSayOne : Type 0
 DocumentsSayOne = (ms : Members) (m n : Manifest) → IsDocument ms m → IsDocument ms n → m ≡ n
 
--- if a manifest was read from a document, its written form is read as the same manifest
+-- if a manifest was read from a document, the manifest's written form is read as the same manifest
 abbrev pub ReadsWhatIsWritten : Type 0
 ReadsWhatIsWritten = (ms : Members) (m : Manifest) → document_of ms ≡ Ok m → document_of (written m) ≡ Ok m
 

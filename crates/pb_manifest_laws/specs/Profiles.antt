@@ -72,8 +72,8 @@ pub record IsOverrideEntry (name : List ℕ) (ms : Members) (o : ProfileOverride
   pub name_is : o.name ≡ name
   pub keys : AreSettings ms o.keys
 
--- A table describes this profile. If the profile is not built in, it has an allowed name, and it
--- has `inherits`.
+-- A table describes this profile. A profile that is not built in has an allowed name, and has
+-- `inherits`.
 pub record IsProfileEntry (name : List ℕ) (ms : Members) (p : Profile) : Type 0 where
   pub name_is : p.name ≡ name
   pub keys : AreSettings ms p.keys

@@ -17,7 +17,7 @@ texts xs = array (items_of (map string xs))
 abbrev pub IsPath : List ℕ → Type 0
 IsPath text = has_byte_0 text ≡ false
 
--- If an optional key is there, it has this value. No value is read if and only if the key is
+-- If an optional key is there, the key has this value. No value is read if and only if the key is
 -- missing.
 abbrev pub OptionalMeans : {A : Type 0} → (A → Data) → Option Data → Option A → Type 0
 OptionalMeans write found value = found ≡ option_map write value
@@ -43,7 +43,7 @@ OfTable Is d x = (inner : Members) × (d ≡ table inner) × Is inner x
 abbrev pub TakesWorkspace : Option Data → Type 0
 TakesWorkspace found = (inner : Members) × (found ≡ Some (table inner)) × (get_member (codes "workspace") inner ≡ Some (boolean true))
 
--- this value is written at a key, or `{ workspace = true }` is, or the key is missing
+-- this value or `{ workspace = true }` is written at a key, or the key is missing
 abbrev pub HoldsOrTakes : {A : Type 0} → (A → Data) → Option Data → Inheritable A → Type 0
 HoldsOrTakes write found (Written x) = found ≡ Some (write x)
 HoldsOrTakes write found Workspace = TakesWorkspace found

@@ -1,5 +1,5 @@
--- How a manifest is written, table by table. Each key is written with its value, in byte order. If
--- a key was left out, it stays left out.
+-- How a manifest is written, table by table. Each key is written with its value, in byte order. A
+-- key that was left out stays left out.
 use Rattle.std.specs.Prelude.{ℕ, Bool, pos, true, false, if◌then◌else◌, List, [], ◌∷◌, map, codes, Option, Some, None}
 use Rattle.std.specs.Cmp.Lexicographic.{slice_cmp}
 use Rattle.std.specs.List.{slice_get}
@@ -60,8 +60,8 @@ list write xs = Some (array (items_of (map write xs)))
 abbrev pub entries : {A : Type 0} → (A → List ℕ) → (A → Data) → List A → Option Data
 entries key write xs = Some (table (members_of (map (λ x. (key x, write x)) xs)))
 
--- The value `{ workspace = true }`. The next two definitions write it for a value that is
--- inherited, and the value itself otherwise.
+-- The value `{ workspace = true }`. The next two definitions write this table for an inherited
+-- value, and any other value as it is.
 abbrev pub taken : Data
 taken = table (member (codes "workspace") (boolean true) no_members)
 
@@ -125,7 +125,7 @@ first_form forms value = option_and_then (λ x. slice_get (forms x) 0) value
 abbrev pub key_row : Said → ProfileKey → List ℕ × Option Data
 key_row said k = (name_of k, first_form (forms k) (says said k))
 
--- the rows with this row added at its position, so that they stay in byte order of their keys
+-- the rows with one more row, which is inserted so that the rows stay in byte order of their keys
 abbrev pub with_row : List ℕ × Option Data → Rows → Rows
 with_row row [] = row ∷ []
 with_row row (other ∷ rows) = if is_lt (slice_cmp nat_cmp row.0 other.0) then row ∷ other ∷ rows else other ∷ with_row row rows

@@ -23,8 +23,8 @@ is_crate_name_byte b = is_alphanumeric b || b == underscore
 unfoldable pub is_crate_name : List ℕ → Bool
 is_crate_name text = not (length text == 0) && list_all is_crate_name_byte text
 
--- the byte may follow the first byte of a feature's name: it is a letter, a digit, `_`, `-`, `+` or
--- `.`
+-- the byte may be in a feature's name after the first byte: the byte is a letter, a digit, `_`,
+-- `-`, `+` or `.`
 unfoldable pub is_feature_byte : ℕ → Bool
 is_feature_byte b = is_alphanumeric b || b == underscore || b == dash || b == plus || b == dot
 

@@ -22,8 +22,8 @@ abbrev pub named_or : Option Text → Text → Text
 named_or None default = default
 named_or (Some own) default = own
 
--- the name of a package's library: its written name, or else the package's name with `_` for each
--- `-`
+-- the name of a package's library: the library's written name, or else the package's name with `_`
+-- for each `-`
 abbrev pub library_name : Text → Option Library → Text
 library_name name None = underscored name
 library_name name (Some library) = named_or library.name (underscored name)

@@ -17,7 +17,7 @@ version_in text = if is_version text then Ok text else Err BadVersion
 abbrev pub requirement_in : Text → Read Text
 requirement_in text = if is_requirement text then Ok text else Err BadVersion
 
--- a version meets a requirement if `semver` can read both and the version matches
+-- a version meets a requirement if `semver` can read both and the version matches the requirement
 abbrev pub meets : {E F : Type 0} → Result (List Held) E → Result Parts F → Bool
 meets (Ok comparators) (Ok parts) = matches_views comparators parts
 meets _ _ = false

@@ -21,6 +21,6 @@ pub struct Feature {
     /// The name, which is not empty: ASCII letters, digits and `_`, and after the first byte also
     /// `-`, `+` and `.`.
     pub name: Text,
-    /// The items that it enables, in the manifest's order.
+    /// The items that the feature enables, in the manifest's order.
     pub items: Items<FeatureItem>,
 }

@@ -13,25 +13,25 @@ use pb_data::{Items, Text};
 /// relative to the workspace's root.
 #[derive(Drop)]
 pub struct WorkspacePackage {
-    /// `authors`. `None` if it is not written.
+    /// `authors`. `None` if the key is not written.
     pub authors: Option<Items<Text>>,
-    /// `description`. `None` if it is not written.
+    /// `description`. `None` if the key is not written.
     pub description: Option<Text>,
-    /// `edition`. `None` if it is not written.
+    /// `edition`. `None` if the key is not written.
     pub edition: Option<Edition>,
-    /// `homepage`. `None` if it is not written.
+    /// `homepage`. `None` if the key is not written.
     pub homepage: Option<Text>,
-    /// `license`. `None` if it is not written.
+    /// `license`. `None` if the key is not written.
     pub license: Option<Text>,
-    /// `license-file`. `None` if it is not written.
+    /// `license-file`. `None` if the key is not written.
     pub license_file: Option<Text>,
-    /// `readme`. `None` if it is not written.
+    /// `readme`. `None` if the key is not written.
     pub readme: Option<Readme>,
-    /// `repository`. `None` if it is not written.
+    /// `repository`. `None` if the key is not written.
     pub repository: Option<Text>,
-    /// `rust-version`. `None` if it is not written.
+    /// `rust-version`. `None` if the key is not written.
     pub rust_version: Option<Text>,
-    /// `version`. `None` if it is not written.
+    /// `version`. `None` if the key is not written.
     pub version: Option<Version>,
 }
 
@@ -45,7 +45,7 @@ pub struct WorkspaceTable {
     pub default_members: Option<Items<WrittenPath>>,
     /// `exclude`: paths, in the manifest's order.
     pub exclude: Items<WrittenPath>,
-    /// `[workspace.package]`. `None` if it is not written.
+    /// `[workspace.package]`. `None` if the table is not written.
     pub package: Option<WorkspacePackage>,
     /// `[workspace.dependencies]`, in byte order of the keys.
     pub dependencies: Items<WorkspaceDependency>,

@@ -69,7 +69,7 @@ pub struct Package {
     pub build: Build,
     /// `description`.
     pub description: Inheritable<Text>,
-    /// `edition`: 2015 if it is not written.
+    /// `edition`: 2015 if the key is not written.
     pub edition: Inherited<Edition>,
     /// `homepage`.
     pub homepage: Inheritable<Text>,
@@ -87,6 +87,6 @@ pub struct Package {
     pub repository: Inheritable<Text>,
     /// `rust-version`: any text.
     pub rust_version: Inheritable<Text>,
-    /// `version`: 0.0.0 if it is not written.
+    /// `version`: 0.0.0 if the key is not written.
     pub version: Inherited<Version>,
 }

@@ -25,7 +25,7 @@ pub struct Profile {
     pub inherits: Option<Text>,
     /// The overrides for packages, in byte order of their names.
     pub packages: Items<ProfileOverride>,
-    /// The keys that `build-override` sets, for build scripts and what they depend on. `None` if it
-    /// is not written.
+    /// The keys that `build-override` sets, for build scripts and what they depend on. `None` if
+    /// `build-override` is not written.
     pub build_override: Option<ProfileKeys>,
 }

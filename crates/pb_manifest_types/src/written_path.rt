@@ -8,7 +8,7 @@ use pb_data::{Text, TryCopy};
 use std::alloc::{AllocError, Global};
 use std::marker::Model;
 
-/// A path as a manifest writes it: any text without byte 0, even an empty one. Contracts see the
+/// A path as a manifest writes it: any text without byte 0, even the empty text. Contracts see the
 /// text.
 #[derive(Drop)]
 pub struct WrittenPath {

@@ -1,4 +1,4 @@
--- The reply of the small compiler, whatever its arguments are.
+-- The reply of the small compiler to any arguments.
 use Rattle.std.specs.Prelude.{ℕ, pos, if◌then◌else◌, codes, List, [], ◌∷◌, Result, Ok, Err}
 use Rattle.std.specs.Str.{bytes_eq}
 use Rattle.pb_data.specs.UnlessOom.{◌>>=◌}

@@ -15,14 +15,14 @@ use Rattle.pb_mini.specs.declared.command_line.CommandLineFault.{CommandLineFaul
 use Rattle.pb_mini.specs.declared.command_line.CommandLineFault.TheVariants.{Bad}
 use Rattle.pb_place_types.specs.declared.path.PathFault.{PathFault}
 
--- the argument is an option whose value is the next argument
+-- the argument is an option, and the next argument is the option's value
 abbrev pub takes_value : List ℕ → Bool
 takes_value word =
     bytes_eq word (codes "--crate-name") || bytes_eq word (codes "--crate-type") || bytes_eq word (codes "--out-dir")
     || bytes_eq word (codes "-C") || bytes_eq word (codes "--cfg") || bytes_eq word (codes "--check-cfg")
     || bytes_eq word (codes "--extern") || bytes_eq word (codes "-L") || bytes_eq word (codes "-l")
 
--- the role that the value of an option has
+-- the role of an option's value
 abbrev pub role_of : List ℕ → Role
 role_of option =
     if bytes_eq option (codes "--crate-name") then CrateName
@@ -32,7 +32,7 @@ role_of option =
     else if bytes_eq option (codes "--cfg") then Condition
     else Unused
 
--- the argument is a setting that contains its own value, and is ignored
+-- the argument is a setting that contains the setting's value; such an argument is ignored
 abbrev pub is_setting : List ℕ → Bool
 is_setting word = starts_with nat_eq word (codes "--edition=") || starts_with nat_eq word (codes "--error-format=") || starts_with nat_eq word (codes "--emit=")
 
@@ -43,8 +43,8 @@ role_alone word = if is_setting word then Unused else Source
 abbrev pub no_arguments : Arguments
 no_arguments = record { crate_names = []; crate_types = []; out_dirs = []; sources = []; externs = []; conditions = [] }
 
--- the values of the arguments, after one more value was put in front of the other values of its
--- role
+-- The values of the arguments, with one more value. The new value comes before the other values of
+-- the same role.
 abbrev pub with_value : Role → List ℕ → Arguments → Arguments
 with_value CrateName value said = record said { crate_names = value ∷ said.crate_names }
 with_value CrateType value said = record said { crate_types = value ∷ said.crate_types }
@@ -70,7 +70,7 @@ joined a b = record {
 abbrev pub after : Arguments → Result Arguments CommandLineFault → Result Arguments CommandLineFault
 after said more = more >>= (λ rest. Ok (joined said rest))
 
--- The values of these arguments. If an option waits for its value, the first argument is that
+-- The values of these arguments. If an option still needs a value, the first argument is this
 -- value.
 abbrev pub arguments_after : Option Role → List (List ℕ) → Result Arguments CommandLineFault
 arguments_after None [] = Ok no_arguments

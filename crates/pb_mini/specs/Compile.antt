@@ -27,7 +27,7 @@ text_of bytes = if is_utf8 bytes then Some bytes else None
 abbrev pub text_at : World → Option (List ℕ) → Option (List ℕ)
 text_at w path = option_and_then text_of (file_at w path)
 
--- the path of the source of a compile, and its text if it can be read
+-- the path of the source of a compile, and the source's text if it can be read
 abbrev pub source_of : CommandLine → World → Source
 source_of line w = record { path = path_of line.source; text = text_at w (path_of line.source) }
 
@@ -41,7 +41,7 @@ source_effects line pairs w None text = no_source
 source_effects line pairs w (Some source) None = no_source
 source_effects line pairs w (Some source) (Some text) = effects_from (scope_of line pairs source) w 0 (lines_of text)
 
--- all effects of a compile: it reads its source, and carries out the lines of the source
+-- all effects of a compile: the compile reads the source, and carries out the lines of the source
 abbrev pub effects_of : CommandLine → List (List ℕ × List ℕ) → World → Effects
 effects_of line pairs w = joined (reads (path_of line.source)) (source_effects line pairs w (path_of line.source) (text_at w (path_of line.source)))
 
@@ -54,7 +54,7 @@ title Lib = codes "mini lib "
 abbrev pub image_text : CommandLine → List ℕ → List ℕ
 image_text line lines = ended (title line.crate_type ++ line.crate_name) ++ lines
 
--- The status of a compile, which is 1 if there is an error. In this case no image is written.
+-- the status of a compile, which is 1 if there is an error, and 0 otherwise
 abbrev pub status_of : Bool → ℤ
 status_of is_bad = if is_bad then pos 1 else pos 0
 
@@ -72,6 +72,6 @@ replied line effects = record {
   files = files_of line (has_error effects.diagnostics) effects.image effects.names;
 }
 
--- the reply to a compile; its dep-info lists everything that was read, each name once
+-- the reply to a compile; the reply's dep-info lists everything that was read, each name once
 abbrev pub compiled : CommandLine → List (List ℕ × List ℕ) → World → Reply
 compiled line pairs w = replied line (names_once (effects_of line pairs w))

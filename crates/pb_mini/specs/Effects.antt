@@ -22,7 +22,7 @@ in_image bytes = record no_effects { image = bytes }
 abbrev pub copied : List ℕ → Effects
 copied line = in_image (ended line)
 
--- the effect of adding the lines of a file to the image, with a mark before each
+-- the effect of adding the lines of a file to the image, with a mark before each line
 abbrev pub copied_file : List ℕ → List ℕ → Effects
 copied_file mark bytes = in_image (quoted mark bytes)
 
@@ -39,15 +39,15 @@ reads (Some path) = record no_effects { names = record no_names { paths = path �
 abbrev pub asks : List ℕ → Option (List ℕ) → Effects
 asks name value = record no_effects { names = record no_names { variables = (name, value) ∷ [] } }
 
--- The names of `a`, followed by those of `b`. `joined` does this for all effects.
+-- The names of `a`, followed by the names of `b`. `joined` does this for all effects.
 abbrev pub joined_names : Names → Names → Names
 joined_names a b = record { paths = a.paths ++ b.paths; variables = a.variables ++ b.variables }
 
 abbrev pub joined : Effects → Effects → Effects
 joined a b = record { image = a.image ++ b.image; diagnostics = a.diagnostics ++ b.diagnostics; names = joined_names a.names b.names }
 
--- The names of `kept`, to which those of `more` are added. No name is added twice. `followed_by`
--- does this for all effects.
+-- The names of `kept`, to which the names of `more` are added. No name is added twice.
+-- `followed_by` does this for all effects.
 abbrev pub with_names : Names → Names → Names
 with_names kept more = record { paths = mentioned_all kept.paths more.paths; variables = with_entries kept.variables more.variables }
 

@@ -51,7 +51,7 @@ abbrev pub names_in : List (List ℕ × List ℕ) → World → Option (List ℕ
 names_in pairs w None = no_names
 names_in pairs w (Some line) = names_by (deed_of (word_in line)) pairs w (rest_of line)
 
--- the names after a step; if the step ends the script, the lines after it are not read
+-- the names that are read after a step; if the step ends the script, the later lines read nothing
 abbrev pub names_after : Step → Names → Names
 names_after (Writes output) names = names
 names_after (Ends status) names = no_names
@@ -64,8 +64,7 @@ abbrev pub names_of_image : List (List ℕ × List ℕ) → World → Option (Li
 names_of_image pairs w None = no_names
 names_of_image pairs w (Some bytes) = names_of_lines pairs w (lines_of bytes)
 
--- The names of all that a request reads, without the files that are passed to it. A run is passed
--- its image, and a compile its libraries.
+-- The names of all that a request reads, except a run's image and a compile's libraries.
 abbrev pub names_of : Request → List (List ℕ × List ℕ) → World → Names
 names_of Version pairs w = no_names
 names_of (Run path) pairs w = names_of_image pairs w (file_at w (path_of path))
@@ -84,7 +83,7 @@ abbrev pub SameFile : World → World → List ℕ → Type 0
 SameFile v w path = finite.get w.files path ≡ finite.get v.files path
 
 -- If the pairs do not set the variable, the variable has the same value in both worlds. If the
--- pairs set the variable, its inherited value is not read.
+-- pairs set the variable, the inherited value is not read.
 abbrev pub SameValue : List (List ℕ × List ℕ) → World → World → List ℕ × Option (List ℕ) → Type 0
 SameValue pairs v w variable = value_at variable.0 pairs ≡ None → finite.get w.variables variable.0 ≡ finite.get v.variables variable.0
 
@@ -102,13 +101,13 @@ SameBelow folders v w = (path : List ℕ) → is_below_some folders path ≡ tru
 
 -- ---- honesty
 
--- all files passed to the request are strictly below these folders
+-- the image of a run, or the libraries of a compile, are strictly below these folders
 abbrev pub GivenBelow : List (List ℕ) → Request → Type 0
 GivenBelow folders Version = Unit {0}
 GivenBelow folders (Run image) = (path : List ℕ) → path_of image ≡ Some path → is_below_some folders path ≡ true
 GivenBelow folders (Compile line) = (name file path : List ℕ) → value_at name (libraries_of line.externs) ≡ Some file → path_of file ≡ Some path → is_below_some folders path ≡ true
 
--- The reply to a command is the same in each world that agrees on what was read, and on the files
+-- The reply to a command is the same in two worlds that agree on what was read and on the files
 -- below the command's `reads`. The image of a run and the libraries of a compile must be below
 -- these folders.
 abbrev pub AnswersHonestly : Command → World → World → Type 0

@@ -3,13 +3,13 @@ use Rattle.std.specs.Prelude.{ℕ, ◌==◌, ◌-◌, if◌then◌else◌, List,
 use Rattle.std.specs.List.{onto_first, before_first, after_first}
 use Rattle.pb_data.specs.Ascii.{line_feed, space, equals}
 
--- The lines of a text. Only a line feed ends a line. The text after the last line feed is also a
--- line, unless it is empty.
+-- The lines of a text. Only a line feed ends a line. If there is text after the last line feed,
+-- this text is also a line.
 abbrev pub lines_of : List ℕ → List (List ℕ)
 lines_of [] = []
 lines_of (b ∷ bytes) = if b == line_feed then [] ∷ lines_of bytes else onto_first b (lines_of bytes)
 
--- the text before the first space, or the whole text if it has no space
+-- the text before the first space, or the whole text if there is no space
 abbrev pub word_in : List ℕ → List ℕ
 word_in line = before_first (λ b. b == space) line
 
@@ -17,7 +17,7 @@ word_in line = before_first (λ b. b == space) line
 abbrev pub rest_of : List ℕ → List ℕ
 rest_of line = after_first (λ b. b == space) line
 
--- The text before the first `=`. `value_in` is the text after it.
+-- The text before the first `=`. `value_in` is the text after the first `=`.
 abbrev pub name_in : List ℕ → List ℕ
 name_in text = before_first (λ b. b == equals) text
 

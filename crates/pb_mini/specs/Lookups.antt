@@ -12,11 +12,11 @@ abbrev pub path_said : Result (List ℕ) PathFault → Option (List ℕ)
 path_said (Ok path) = Some path
 path_said (Err e) = None
 
--- the path that a text spells, if it is absolute and has no byte 0
+-- the path that a text spells, if the text is absolute and has no byte 0
 abbrev pub path_of : List ℕ → Option (List ℕ)
 path_of text = path_said (parsed text)
 
--- the path that a text spells from a folder, if it has no byte 0
+-- the path that a text spells from a folder, if the text has no byte 0
 abbrev pub path_from : List ℕ → List ℕ → Option (List ℕ)
 path_from folder text = path_said (joined folder text)
 
@@ -24,6 +24,7 @@ path_from folder text = path_said (joined folder text)
 abbrev pub file_at : World → Option (List ℕ) → Option (List ℕ)
 file_at w path = option_and_then (λ p. map.get w.files p) path
 
--- the value that the pairs set for a variable, or else its inherited value, if it has one
+-- the value that the pairs set for a variable, or else the variable's inherited value, if there is
+-- one
 abbrev pub value_of : List (List ℕ × List ℕ) → World → List ℕ → Option (List ℕ)
 value_of pairs w name = option_or (value_at name pairs) (map.get w.variables name)

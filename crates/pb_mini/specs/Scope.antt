@@ -13,8 +13,8 @@ use Rattle.pb_mini.specs.declared.scope.Scope.{Scope}
 abbrev pub library_of : List ℕ → List ℕ × List ℕ
 library_of written = (name_in written, value_in written)
 
--- The entries after one more entry is added. The new entry is not added if an entry with the same
--- name is already there. `with_firsts` adds several entries in this way.
+-- The entries after one more entry is added. If there is already an entry with the same name, the
+-- new entry is not added. `with_firsts` adds several entries in this way.
 abbrev pub with_first : List (List ℕ × List ℕ) → List ℕ × List ℕ → List (List ℕ × List ℕ)
 with_first entries entry = if is_some (value_at entry.0 entries) then entries else with_entry entries entry.0 entry.1
 
@@ -22,7 +22,8 @@ abbrev pub with_firsts : List (List ℕ × List ℕ) → List (List ℕ × List 
 with_firsts entries [] = entries
 with_firsts entries (entry ∷ more) = with_firsts (with_first entries entry) more
 
--- the libraries with their files; if several have the same name, the first counts
+-- the libraries with the libraries' files; if several libraries have the same name, the first
+-- library counts
 abbrev pub libraries_of : List (List ℕ) → List (List ℕ × List ℕ)
 libraries_of externs = with_firsts [] (map library_of externs)
 

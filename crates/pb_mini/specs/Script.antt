@@ -73,7 +73,7 @@ full_path pairs w path = if is_absolute path then path else below_text (value_of
 abbrev pub text_read : List (List ℕ × List ℕ) → World → List ℕ → Option (List ℕ)
 text_read pairs w path = text_at w (path_of (full_path pairs w path))
 
--- The name in `put NAME TEXT` can be the name of a file, because it is a relative path of one part.
+-- The name in `put NAME TEXT` can be the name of a file: it is a relative path with only one part.
 -- The next definition is the step of `put`.
 abbrev pub is_file_name : List ℕ → Bool
 is_file_name name = not (list_any (λ b. b == slash) name) && is_relative name
@@ -135,8 +135,8 @@ step_of pairs w line = step_in pairs w (text_of line)
 
 -- ---- a script
 
--- the reply after a step: its output and the rest of the script, or only the status if the script
--- has ended
+-- the reply after a step: the step's output before the reply of the later lines, or only the status
+-- if the step ends the script
 abbrev pub after_step : Step → Reply → Reply
 after_step (Writes output) reply = before output reply
 after_step (Ends status) reply = ending status

@@ -66,20 +66,20 @@ abbrev pub variable_in : List ℕ → Option (List ℕ)
 variable_in [] = None
 variable_in (b ∷ path) = if b == dollar then Some (before_first (λ c. c == slash) path) else None
 
--- the name of a variable, with its value if it is set
+-- the name of a variable, with the variable's value if the variable is set
 abbrev pub variable_at : List (List ℕ × List ℕ) → World → List ℕ → List ℕ × Option (List ℕ)
 variable_at pairs w name = (name, value_of pairs w name)
 
 abbrev pub variable_of : List (List ℕ × List ℕ) → World → List ℕ → Option (List ℕ × Option (List ℕ))
 variable_of pairs w path = option_map (variable_at pairs w) (variable_in path)
 
--- The path. If its first part names a variable, the variable's value replaces this part. If the
--- variable is not set, the value is empty.
+-- An included path with its variable replaced. If the first part names a variable, the variable's
+-- value replaces this part. If the variable is not set, the value is empty.
 abbrev pub expanded : List ℕ → Option (List ℕ × Option (List ℕ)) → List ℕ
 expanded path None = path
 expanded path (Some variable) = unwrap_or variable.1 [] ++ from_slash path
 
--- the path of an included file, if it has no byte 0
+-- the path of an included file, if the path has no byte 0
 abbrev pub include_path : Scope → World → List ℕ → Option (List ℕ)
 include_path scope w path = path_from scope.folder (expanded path (variable_of scope.pairs w path))
 
@@ -106,7 +106,7 @@ include_effect scope w number path = included number path (variable_of scope.pai
 abbrev pub env_line : List ℕ → Option (List ℕ) → List ℕ
 env_line name value = codes "env " ++ name ++ value_text value
 
--- the effect of `env NAME`: the variable is read, and its line is added
+-- the effect of `env NAME`: the variable is read, and the variable's line is added
 abbrev pub told : List ℕ → Option (List ℕ) → Effects
 told name value = joined (asks name value) (copied (env_line name value))
 
@@ -147,7 +147,7 @@ effect_meant scope w number line = if is_passed_over line then no_effects else e
 abbrev pub effect_of : Scope → World → ℕ → List ℕ → Effects
 effect_of scope w number line = effect_meant scope w number (line_meant scope.conditions line)
 
--- the effects of these lines, one after another; `before` is the number of lines before them
+-- the effects of these lines, one after another; `before` lines of the text come before these lines
 abbrev pub effects_from : Scope → World → ℕ → List (List ℕ) → Effects
 effects_from scope w before [] = no_effects
 effects_from scope w before (line ∷ lines) = joined (effect_of scope w (before + 1) line) (effects_from scope w (before + 1) lines)

@@ -6,7 +6,7 @@ use pb_data::Bytes;
 use std::alloc::{AllocError, Global};
 use std::marker::Model;
 
-/// Bytes that grow at their end. Contracts see them as a list.
+/// Bytes that grow at their end. Contracts see the bytes as a list.
 #[derive(Drop)]
 pub struct Buffer {
     inside: Vec<u8>,

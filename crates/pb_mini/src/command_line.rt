@@ -93,8 +93,8 @@ pub struct CommandLine {
     /// The name of the crate.
     pub crate_name: Text,
     /// The file of the image inside `out_dir`. For a program the file has the crate's name, and
-    /// otherwise its name is `libNAME.rlib`. These names are our own choice. They resemble the
-    /// names that a real compiler chooses.
+    /// otherwise its name is `libNAME.rlib`. These names are our own choice. The names resemble
+    /// those that a real compiler chooses.
     pub image: RelativePath,
     /// The file of the dep-info inside `out_dir`: `NAME.d`.
     pub dep_info: RelativePath,
@@ -371,7 +371,7 @@ struct Once {
     source: Text,
 }
 
-/// The files inside the output folder, and the folder.
+/// The image and the dep-info inside the output folder, and the folder itself.
 #[derive(Drop)]
 struct Outputs {
     image: RelativePath,

@@ -23,7 +23,7 @@ use pb_data::{Bytes, Items, Table, Text, TryCopy, with_next};
 use pb_place_types::{PathText, RelativePath, Reply, View, ViewFault};
 use std::alloc::{AllocError, Global};
 
-/// Returns the text of some bytes, or none if they are not UTF-8.
+/// Returns the text of some bytes, or none if the bytes are not UTF-8.
 #[tactic(auto, using(crate::proofs::Texts::text_laws))]
 pub(crate) fn text_of(alloc: Global, bytes: &[u8]) -> Result<Option<Text>, AllocError>
     ensures { IfOk result (λ text. text ≡ text_of bytes.now) }
@@ -189,7 +189,7 @@ fn effects_of<V: View>(
     effects_with(alloc, line, pairs, view, &source)
 }
 
-/// Returns the first line of an image, up to its name.
+/// Returns the first line of an image, up to the crate's name.
 fn title(crate_type: CrateType) -> &'static str
     ensures { result.now ≡ title crate_type }
 {

@@ -130,7 +130,7 @@ fn add_no_file(
     add_diagnostic(effects, Level::Error, message, number)
 }
 
-/// Adds each line of the file, or reports that there is no file.
+/// Adds each line of the included file to the image, or reports that there is no file.
 fn add_lines_of(
     alloc: Global,
     effects: &mut Effects,

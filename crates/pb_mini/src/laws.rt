@@ -6,8 +6,8 @@ ghost use Rattle.pb_place_types.specs.declared.command.Command.{Command};
 ghost use Rattle.pb_mini.specs.Honesty.{AnswersHonestly, TellsNames};
 ghost use Rattle.pb_mini.specs.declared.command_line.CommandLine.{CommandLine};
 
-/// The small compiler is honest. It returns the same reply in every world in which these are the
-/// same:
+/// The small compiler is honest. The small compiler returns the same reply in every world in which
+/// these are the same:
 ///
 /// - the files and the inherited variables that were read;
 /// - the files below the folders that the command may read.

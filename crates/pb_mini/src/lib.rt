@@ -1,6 +1,6 @@
-//! The small compiler. It compiles one file, and replaces a real compiler in every session and
-//! test. It is a child like any other, so its contract shows that a child can be honest. The
-//! language that it compiles is our own.
+//! The small compiler, which compiles one file and replaces a real compiler in every session and
+//! test. The small compiler is a child like any other, so its contract shows that a child can be
+//! honest. The language that it compiles is our own.
 #![tactic(auto)]
 
 mod buffer;

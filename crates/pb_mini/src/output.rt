@@ -11,7 +11,7 @@ use std::alloc::Global;
 /// What a script has written so far.
 #[derive(Drop)]
 pub struct Output {
-    /// All that it wrote to standard output.
+    /// All that the script wrote to standard output.
     pub stdout: Buffer,
     /// The files that the script put in its folder, by their names. If two files have the same
     /// name, the later file counts.

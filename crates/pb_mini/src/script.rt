@@ -142,7 +142,7 @@ fn is_absolute(text: &str) -> bool
     }
 }
 
-/// Returns a path below a folder. If there is no folder, its name counts as empty.
+/// Returns a path below a folder. If no folder is given, the folder's name counts as empty.
 fn below_text(alloc: Global, folder: &Option<Text>, path: &str) -> Result<Text, AllocError>
     ensures { IfOk result (λ text. text ≡ below_text folder.now path.now) }
 {
@@ -356,7 +356,7 @@ fn run_lines<V: View>(
     Ok(output.into_reply(alloc, 0))
 }
 
-/// Returns the reply if there is no image.
+/// Returns the reply to a run whose image does not exist.
 fn no_image(alloc: Global) -> Result<Reply, AllocError>
     ensures { IfOk result (λ reply. reply ≡ no_image) }
 {

@@ -76,8 +76,9 @@ pub record IsOfProject (project : Project) (u : Planned) : Type 0 where
   pub index : ℕ
   pub there : slice_get project.plan.planned index ≡ Some u
 
--- Law: the small compiler is honest on the command of every unit of a project, whatever earlier
--- scripts have printed. The world may be any in which the small compiler can express what it reads.
+-- Law: the small compiler is honest on the command of every unit of a project. Earlier scripts may
+-- have printed anything. The world must be one in which the small compiler can report what it
+-- reads.
 abbrev pub SmallCompilerIsHonest : Type 0
 SmallCompilerIsHonest = (setup : Setup) (project : Project) (u : Planned) (done : List (Option (List Directive))) (v : World) → IsSmall setup → IsOfProject project u
     → CanTell (command_of setup project u done) (seen_by (command_of setup project u done) v) → IsHonest judge small_compiler (command_of setup project u done) v

@@ -24,14 +24,14 @@ abbrev pub SmallBuildsAreHonest : Type 0
 SmallBuildsAreHonest = (options : Options) (w : World) → IsSmallBuild options w → IsHonestBuild small_compiler options w
 
 -- Take a build over a modelled place, with true records and the small compiler as the child. If
--- `IsSmallBuild` is true of this build, it produces what a clean build of the present workspace
--- produces, however it ends.
+-- `IsSmallBuild` is true of this build, the build produces what a clean build of the present
+-- workspace produces. The build may end in any way.
 abbrev pub SmallBuildsGive : {S : Type 0} → (S → List ℕ → List ℕ → Step → S → Type 0) → Type 0
 SmallBuildsGive {S} Turns = (from : S) (options : Options) (result : Result Summary BuildFault) (old new : BuildState) → Headline true small_compiler (ByTurns Turns from) options result old new
     → IsSmallBuild options old.world → Sound reading judge small_compiler (records_of options old.world.variables) old.world.files → GivesCleanResult TrustedRecords small_compiler (ByTurns Turns from) options result old new
 
--- Take a session with the small compiler. The records in a folder were true, and each step after
--- that has spared them, as `SmallCourse` says. Then take a build that keeps its records in this
+-- Take a session with the small compiler. The records in a folder were true, and each later step
+-- has spared these records, as `SmallCourse` says. Then take a build that keeps its records in this
 -- folder. If `IsSmallBuild` is true of the build, it produces what a clean build of the present
 -- workspace produces.
 abbrev pub SmallSessionsGive : Type 0

@@ -1,4 +1,4 @@
--- How names are written in dep-info and read back from it.
+-- How names are written in dep-info, and how they are read back.
 use Rattle.std.specs.Prelude.{◌≡◌, ℕ, ◌==◌, not, ◌||◌, Bool, true, false, List, [], ◌∷◌, Option, Ok}
 use Rattle.std.specs.List.{AllByRecursion}
 use Rattle.pb_data.specs.Ascii.{carriage_return, backslash}

@@ -30,8 +30,8 @@ abbrev pub CanTellUnits : Setup → Project → World → Type 0
 CanTellUnits setup project sources = (index : ℕ) (u : Planned) → unit_at project index ≡ Some u
     → CanTell (command_after setup project (take index (outcomes small_compiler setup project sources)) u) (view_of (take index (outcomes small_compiler setup project sources)) sources u)
 
--- the small compiler can report what it reads, whatever project and whatever version of the
--- compiler a build finds in a world
+-- The small compiler can report what it reads. This is true for each project and for each version
+-- of the compiler that a build can find in this world.
 abbrev pub CanTellBuild : Options → World → Type 0
 CanTellBuild options w = (project : Project) (toolchain : List ℕ) → IsProject options (environment_of options w.variables).target w project
     → toolchain_of small_compiler (environment_of options w.variables) project (from_nothing (environment_of options w.variables).target w) ≡ Some toolchain
@@ -48,9 +48,10 @@ pub record IsSmallBuild (options : Options) (w : World) : Type 0 where
 
 -- Sessions.
 
--- The step spares the records of the folder. A build spares them if it has no units, or keeps its
--- records in a folder that shares no path with this folder. A build that keeps its records in this
--- folder spares them if `IsSmallBuild` is true of it. An edit must be as `Spares` says.
+-- The step spares the records of the folder. A build spares the records if it has no units, or
+-- keeps its records in a folder that shares no path with this folder. A build that keeps its
+-- records in this folder spares them if `IsSmallBuild` is true of the build. `Spares` must be true
+-- of an edit.
 abbrev pub SparesBySmall : List ℕ → SessionStep → World → Type 0
 SparesBySmall folder (Build options pick) w = UnitsOf small_compiler options w → (IsSmallBuild options w × (records_of options w.variables ≡ folder)) ⊎ ShareNoPath folder (records_of options w.variables)
 SparesBySmall folder step w = Spares small_compiler folder step w
@@ -88,8 +89,8 @@ abbrev pub AllTold : (targets : List (List ℕ)) (steps : List SessionStep) (bef
 AllTold targets [] before after course = ⊤
 AllTold targets (step ∷ steps) before after course = IsToldStep targets step before.moment.world × AllTold targets steps course.0 after course.2
 
--- If the step is a build, it produces what a clean build of the workspace at that time produces. If
--- a fault ends the build, its lines are a prefix of the clean build's lines.
+-- If the step is a build, the build produces what a clean build of the same workspace produces. If
+-- a fault ends the build, the build's lines are a prefix of the clean build's lines.
 abbrev pub StepGives : (step : SessionStep) (before after : Point) → Carries small_compiler step before after → Type 0
 StepGives (Build options pick) before after built = GivesCleanResult TrustedRecords small_compiler (ByPicked pick options) options built.answer before.moment built.ended
 StepGives step before after taken = ⊤

@@ -12,7 +12,7 @@ use Rattle.pb_mini.specs.declared.request.Request.TheVariants.{Version, Run, Com
 use Rattle.pb_mini_program.specs.declared.out_folder.Waiting.{Waiting}
 use Rattle.pb_mini_program.specs.declared.out_folder.Waiting.TheVariants.{Folder, Other}
 
--- the folder that `OUT_DIR` names, if it is set to an absolute path
+-- the folder that `OUT_DIR` names, if `OUT_DIR` is set to an absolute path
 abbrev pub out_dir_variable : World → Option (List ℕ)
 out_dir_variable w = option_and_then path_of (map.get w.variables (codes "OUT_DIR"))
 
@@ -34,13 +34,13 @@ asks_run (word ∷ []) = false
 asks_run (word ∷ path ∷ []) = bytes_eq word (codes "--run")
 asks_run (word ∷ other ∷ next ∷ words) = false
 
--- what the next argument is, unless this argument is itself a value: the folder, the value of
--- another option, or no value
+-- Suppose that this argument is not a value. The next argument is either the folder, or the value
+-- of another option, or no value.
 abbrev pub waiting_after : List ℕ → Option Waiting
 waiting_after word = if bytes_eq word (codes "--out-dir") then Some Folder else (if takes_value word then Some Other else None)
 
--- The first value of `--out-dir` among these arguments. If an option waits for its value, the first
--- argument is that value.
+-- The first value of `--out-dir` among these arguments. If an option still needs a value, the first
+-- argument is this value.
 abbrev pub first_out_dir : Option Waiting → List (List ℕ) → Option (List ℕ)
 first_out_dir waiting [] = None
 first_out_dir (Some Folder) (word ∷ words) = Some word

@@ -19,7 +19,8 @@ use Rattle.pb_mini_program.specs.OutFolder.{out_folder}
 abbrev pub Writes : List ℕ → SinkState → SinkState → Type 0
 Writes bytes old new = Appends old.taken new.taken bytes × (new.faults ≡ old.faults)
 
--- the sink failed while these bytes were written: it took a prefix of them, but not all
+-- the sink failed while these bytes were written: the sink took a prefix of the bytes, but not all
+-- bytes
 abbrev pub SinkFailsAt : List ℕ → SinkState → SinkState → Type 0
 SinkFailsAt bytes old new = TakesPart bytes old.taken new.taken × (new.faults ≡ up old.faults)
 
@@ -36,39 +37,39 @@ abbrev pub writes_in : List ℕ → List (List ℕ × List ℕ) → List Call
 writes_in folder [] = []
 writes_in folder (file ∷ files) = call.Write (below folder file.0) ∷ writes_in folder files
 
--- the counters after these files were put into a folder, by one call for each; without a folder no
--- call is made
+-- the counters after these files were put into a folder, by one call for each file; without a
+-- folder no call is made
 abbrev pub past_puts : Option (List ℕ) → List (List ℕ × List ℕ) → Counts → Counts
 past_puts None files c = c
 past_puts (Some folder) files c = past_calls (writes_in folder files) c
 
--- The files were put into the folder, by one call for each, and no call failed. Without a folder no
--- call was made.
+-- The files were put into the folder, by one call for each file, and no call failed. Without a
+-- folder no call was made.
 abbrev pub PutsIn : Bool → Option (List ℕ) → List (List ℕ × List ℕ) → Kept → Kept → Type 0
 PutsIn is_modelled folder files old new = (new.counts ≡ past_puts folder files old.counts) × (IsTrue is_modelled → new.world ≡ put_reply folder files old.world)
 
--- The files of `done` were put into the folder. The next file is unchanged, is gone, or has a
--- prefix of its bytes.
+-- The files of `done` were put into the folder. The next file is unchanged, is gone, or contains a
+-- prefix of the bytes that were to be written.
 abbrev pub PutsUpTo : List ℕ → List (List ℕ × List ℕ) → List ℕ × List ℕ → World → World → Type 0
 PutsUpTo folder done file old new = Torn (below folder file.0) file.1 (put_reply (Some folder) done old) new
 
--- The write of one of the files failed, and no call came after this write. The files before this
--- file were put into the folder.
+-- The write of one of the files failed, and no call came after this write. All files that precede
+-- this file in the list were put into the folder.
 abbrev pub FailsToPut : Bool → List ℕ → List (List ℕ × List ℕ) → Kept → Kept → Type 0
 FailsToPut is_modelled folder files old new =
     (done : List (List ℕ × List ℕ)) × (file : List ℕ × List ℕ) × (left : List (List ℕ × List ℕ)) × (files ≡ done ++ file ∷ left)
     × (new.counts ≡ past_place_fault (call.Write (below folder file.0)) place.Write (past_calls (writes_in folder done) old.counts)) × (IsTrue is_modelled → PutsUpTo folder done file old.world new.world)
 
--- Memory ran out before or during the write of one of the files, and no call failed. The files
--- before this file were put into the folder.
+-- Memory ran out before or during the write of one of the files, and no call failed. All files that
+-- precede this file in the list were put into the folder.
 abbrev pub StopsPutting : Bool → List ℕ → List (List ℕ × List ℕ) → Kept → Kept → Type 0
 StopsPutting is_modelled folder files old new =
     (done : List (List ℕ × List ℕ)) × (file : List ℕ × List ℕ) × (left : List (List ℕ × List ℕ)) × (files ≡ done ++ file ∷ left)
     × (PutsIn is_modelled (Some folder) done old new
     ⊎ ((new.counts ≡ past_calls (writes_in folder (done ++ file ∷ [])) old.counts) × (IsTrue is_modelled → PutsUpTo folder done file old.world new.world)))
 
--- The reply over a view. If the view reports what it shows, the reply is that of the small compiler
--- to these arguments.
+-- The reply over a view. If the view reports the files and variables that it shows, the reply is
+-- the small compiler's reply to these arguments.
 
 abbrev pub IsReply : Bool → List (List ℕ) → World → Reply → Type 0
 IsReply shows words shown reply = IsTrue shows → reply ≡ answered words [] shown
@@ -78,7 +79,8 @@ IsReply shows words shown reply = IsTrue shows → reply ≡ answered words [] s
 abbrev pub IsFolder : Bool → List (List ℕ) → World → Option (List ℕ) → Type 0
 IsFolder shows words shown folder = IsTrue shows → out_folder words shown ≡ folder
 
--- if these files are those of the reply, they go into this folder; without a folder they go nowhere
+-- if these files are the files of the reply, they go into this folder; without a folder they go
+-- nowhere
 abbrev pub IsFolderOf : Bool → List (List ℕ) → World → List (List ℕ × List ℕ) → Option (List ℕ) → Type 0
 IsFolderOf shows words shown files folder = files ≡ (answered words [] shown).files → IsFolder shows words shown folder
 
@@ -99,16 +101,16 @@ outside at out err = record { kept = kept at; out = out; err = err }
 abbrev pub WritesAll : Bool → Bool → List (List ℕ) → World → Reply → Outside → Outside → Type 0
 WritesAll shows is_modelled words shown reply old new = Puts shows is_modelled words shown reply old.kept new.kept × Writes reply.stdout old.out new.out × Writes reply.stderr old.err new.err
 
--- A write failed. It was the write of a file, or of the output after all files, or of standard
--- error after the whole output.
+-- A write failed. The failed write was the write of a file, of the output after all files, or of
+-- standard error after the whole output.
 abbrev pub WriteFails : Bool → Bool → List (List ℕ) → World → Reply → Outside → Outside → Type 0
 WriteFails shows is_modelled words shown reply old new =
     ((folder : List ℕ) × IsFolder shows words shown (Some folder) × FailsToPut is_modelled folder reply.files old.kept new.kept × (new.out ≡ old.out) × (new.err ≡ old.err))
     ⊎ ((Puts shows is_modelled words shown reply old.kept new.kept × SinkFailsAt reply.stdout old.out new.out × (new.err ≡ old.err))
     ⊎ (Puts shows is_modelled words shown reply old.kept new.kept × Writes reply.stdout old.out new.out × SinkFailsAt reply.stderr old.err new.err))
 
--- Memory ran out before a file was put, or at one of the files. No call failed, and nothing was
--- written to a sink.
+-- Memory ran out before the first file was put into the folder, or at one of the files. No call
+-- failed, and nothing was written to a sink.
 abbrev pub MemoryEnds : Bool → Bool → List (List ℕ) → World → Outside → Outside → Type 0
 MemoryEnds shows is_modelled words shown old new =
     (new ≡ old)

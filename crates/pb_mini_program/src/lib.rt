@@ -1,5 +1,6 @@
-//! What the program `pb_mini` does. Over a view and a place, it replies as the small compiler does,
-//! and writes the files of its reply at the place. `compiler` does this over the machine.
+//! What the program `pb_mini` does. Over a view and a place, the program replies as the small
+//! compiler does, and writes the files of its reply at the place. `compiler` does this over the
+//! machine.
 #![tactic(auto)]
 
 mod fault;

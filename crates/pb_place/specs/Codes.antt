@@ -1,4 +1,4 @@
--- How the logic stores the contents of places. Nobody needs to believe these definitions.
+-- How the logic stores the contents of places. No promise names these definitions.
 use Rattle.std.specs.Prelude.{refl}
 use Rattle.std.specs.Coded.{Coded, code_by, coded×, coded_ℕ, coded_ℤ, coded_list, coded_option}
 use Rattle.pb_place_types.specs.World.{World}

@@ -14,8 +14,8 @@ use Rattle.pb_place_types.specs.declared.place.PlaceFault.TheVariants.{OutOfMemo
 use Rattle.pb_place_types.specs.declared.place.StartFault.{StartFault}
 use Rattle.pb_place_types.specs.declared.place.StartFault.TheVariants as start
 
--- The fuse after a call is one less. But if memory ran out in the call that was to fail, the next
--- call is to fail.
+-- The fuse after a call is one less than the old fuse. But if the call was to fail and memory ran
+-- out, the next call is to fail.
 abbrev pub fuse_past : PlaceFault → ℕ → ℕ
 fuse_past OutOfMemory fuse = if fuse == 1 then 1 else fuse - 1
 fuse_past e fuse = fuse - 1
@@ -35,8 +35,8 @@ pub record FailsByFuse {T : Type 0} (call : Call) (result : Result T PlaceFault)
 abbrev pub called : {T : Type 0} → Call → Result T PlaceFault → Held → Held
 called call result old = record old { tally = counted call result old.tally; fuse = fuse_after result old.fuse }
 
--- The world after a write returned this fault. The file has the first half of the bytes; the half's
--- length is rounded down. If memory ran out, the file is unchanged.
+-- The world after a write returned this fault. The file has the first half of the bytes; half of an
+-- odd length is rounded down. If memory ran out, the file is unchanged.
 abbrev pub torn_by : PlaceFault → List ℕ → List ℕ → World → World
 torn_by OutOfMemory path bytes w = w
 torn_by e path bytes w = written path (take (length bytes / 2) bytes) w
@@ -72,15 +72,15 @@ pub record SpawnFailed (e : StartFault) (out : Option (List ℕ)) (old new : Hel
   pub deaths : new.deaths ≡ deaths_past e out old.fuse old.deaths
   pub most : new.most ≡ old.most
 
--- What a start uses up if its child was spawned: two calls. These are the spawn and the wait for
--- the end, whatever the end was.
+-- What a start uses up if its child was spawned: two calls. The two calls are the spawn and the
+-- wait for the end, whatever the end was.
 pub record ChildFlew (out : Option (List ℕ)) (old new : Held) : Type 0 where
   pub fuse : new.fuse ≡ old.fuse - 2
   pub deaths : new.deaths ≡ other_deaths out old.deaths
   pub most : new.most ≡ max old.most (length (children_in old.flying) + 1)
 
--- The fault of a start determines what the start used up. If memory ran out, that happened either
--- in the spawn or in the wait for the end.
+-- The fault of a start determines what the start used up. If the fault is out of memory, memory ran
+-- out either in the spawn or in the wait for the end.
 abbrev pub UsedByFault : StartFault → Option (List ℕ) → Held → Held → Type 0
 UsedByFault start.CannotStart out old new = SpawnFailed start.CannotStart out old new
 UsedByFault start.OutOfMemory out old new = SpawnFailed start.OutOfMemory out old new ⊎ ChildFlew out old new

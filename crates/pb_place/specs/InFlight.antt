@@ -8,7 +8,7 @@ abbrev pub children_in : {K : Type 0} → List (Flying K) → List ChildInFlight
 children_in [] = []
 children_in (f ∷ fs) = f.child ∷ children_in fs
 
--- The first entry with this ticket. `other_entries` are all entries but this one.
+-- The first entry with this ticket. `other_entries` are all entries except this entry.
 abbrev pub entry_at : {K : Type 0} → ℕ → List (Flying K) → Option (Flying K)
 entry_at ticket [] = None
 entry_at ticket (f ∷ fs) = if f.child.ticket == ticket then Some f else entry_at ticket fs

@@ -1,5 +1,5 @@
--- When a child of a place in memory cannot be started, when it dies, and what its spawn and its end
--- change at the place.
+-- When a child of a place in memory cannot be started, when such a child dies, and what the child's
+-- spawn and end change at the place.
 use Rattle.std.specs.Prelude.{◌≡◌, ◌≢◌, ◌⊎◌, ◌-◌, ◌+◌, ◌++◌, ◌∷◌, [], ℕ, false, length, List, Option, Some, None, Result, Err, IfOk, IfErr, IfSome, OnOk, OnErr}
 use Rattle.pb_place_types.specs.Children.{child_at, child_spawned, is_flying, most_after, LandsAs}
 use Rattle.pb_place_types.specs.Copies.{put_half}
@@ -41,8 +41,8 @@ pub record EndFails (ticket : ℕ) (result : Result Ended StartFault) (old : Hel
   pub quiet : old.fuse ≢ 1 → fate_at ticket old.flying ≡ None → IfErr result (λ e. e ≡ start.OutOfMemory)
   pub fault : IfErr result (λ e. e ≢ start.OutOfMemory → (e ≡ start.Died) ⊎ (e ≡ start.Capture))
 
--- The place after the end of a child. If the wait succeeded, the child's files are in its folder.
--- If the child gave no reply, no file changed. The child is no longer in flight.
+-- The place after the end of a child. If the wait succeeded, the child's files are in the child's
+-- folder. If the child did not reply, no file changed. The child is no longer in flight.
 pub record EndsIn (ticket : ℕ) (result : Result Ended StartFault) (old new : Held) : Type 0 where
   pub lands : IfOk result (λ ended. IfSome (child_at ticket (children_in old.flying)) (λ spawned. LandsAs spawned old.world ended new.world))
   pub stands : IfErr result (λ e. e ≢ start.OutOfMemory → new.world ≡ old.world)
@@ -61,8 +61,9 @@ pub record StartFails (out : Option (List ℕ)) (result : Result Ended StartFaul
   pub exit_fails : old.fuse ≢ 1 → old.fuse ≢ 2 → IfSome (fate_of out old.deaths) (λ e. e ≢ start.CannotStart → (result ≡ Err e) ⊎ SpawnRefused result out old new)
   pub quiet : old.fuse ≢ 1 → old.fuse ≢ 2 → fate_of out old.deaths ≡ None → IfErr result (λ e. e ≡ start.OutOfMemory)
 
--- The place after a start. No more children are in flight than before. If the child could not be
--- started, no file changed. If the child gave no reply, half of its files are in its folder.
+-- The place after a start. The same children are in flight as before the start. If the child could
+-- not be started, no file changed. If the child did not reply, half of the reply's files are in the
+-- child's folder.
 pub record StartsIn (child : Answers) (command : Command) (result : Result Ended StartFault) (old new : Held) : Type 0 where
   pub nothing : IfErr result (λ e. e ≡ start.CannotStart → new.world ≡ old.world)
   pub half : IfErr result (λ e. e ≢ start.CannotStart → e ≢ start.OutOfMemory → new.world ≡ put_half command.out (child command (seen_by command old.world)).files old.world)

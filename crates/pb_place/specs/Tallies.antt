@@ -9,7 +9,7 @@ abbrev pub with_children : List ChildInFlight → Counts → Counts
 with_children flying c = record c { starts = record c.starts { flying = flying } }
 
 -- The next value of the counter `settings`: one more, but at most the greatest number of 64 bits.
--- The definition is opaque, since proofs need nothing else of it.
+-- The definition is opaque, because no proof needs to look into it.
 unfoldable pub next_setting : ℕ → ℕ
 next_setting n = up n
 

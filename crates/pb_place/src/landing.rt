@@ -1,5 +1,5 @@
-//! What a child leaves in its folder, over the old files: after the spawn the first half of the
-//! reply's files, in byte order, and all of them once the child has replied.
+//! What a child leaves in its folder, over the old files. After the spawn, the first half of the
+//! reply's files, in byte order, is there. After the reply, all of the reply's files are there.
 
 ghost use Rattle.std.specs.Prelude.{◌≡◌, IfOk, OnOk};
 ghost use Rattle.std.specs.FinMap as map;

@@ -1,8 +1,8 @@
 //! The outside world: a place in memory, and the trait, paths and sinks that every place shares.
 //!
-//! `Memory` is a place. Contracts see all its files, variables and child processes. `Seen` counts
-//! the calls that a caller makes after a failing call. `Unfailing` is a place at which no call
-//! fails.
+//! `Memory` is a place. Contracts see all files, variables and child processes of `Memory`. `Seen`
+//! counts the calls that a caller makes after a failing call. `Unfailing` is a place at which no
+//! call fails.
 #![tactic(auto)]
 
 pub mod in_flight;

@@ -20,12 +20,12 @@ use std::alloc::{AllocError, Global};
 use std::marker::Model;
 use std::mem;
 
-/// A place of maps over a child. Contracts see its state: its world and its counters.
+/// A place of maps over a child. Contracts see the state of the place: its world and its counters.
 ///
 /// A call fails only if memory runs out, or if `fuse` or `die` was called to make it fail. Both
 /// functions serve tests. The contract of each call describes when the call fails, and what the
-/// call then leaves. The functions below are not calls of a place, so they are not counted. Only
-/// the calls of `fuse` and `die` that set something have a separate counter. A read or a write
+/// call then leaves. The functions below are not calls of a place, so they are not counted. The
+/// calls of `fuse` and `die` that set something have a counter of their own. A read or a write
 /// takes time logarithmic in the number of files.
 #[derive(Drop)]
 pub struct Memory<C> {
@@ -73,7 +73,7 @@ impl<C> Memory<C> {
         }
     }
 
-    /// Puts a file.
+    /// Puts a file at a path.
     ///
     /// Errors: out of memory only. Nothing changes then.
     pub fn put(&mut self, alloc: Global, path: &PathText, bytes: &[u8]) -> Result<(), AllocError>
@@ -126,8 +126,8 @@ impl<C> Memory<C> {
         file_in(alloc, &self.files, path)
     }
 
-    /// Returns whether a child with this ticket is in flight. This is not a call of the place, and
-    /// takes no memory.
+    /// Returns whether a child with this ticket is in flight. This function is not a call of the
+    /// place, and takes no memory.
     pub fn flies(&self, ticket: u64) -> bool
         ensures { result ≡ is_flying ticket (children_in self.now.flying) }
     {
@@ -135,8 +135,8 @@ impl<C> Memory<C> {
     }
 
     /// Returns whether no call has failed, and no call can fail unless memory runs out. No call can
-    /// fail if the fuse is 0, no death waits, and no child is in flight. This is not a call of the
-    /// place, and takes no memory.
+    /// fail if the fuse is 0, no death waits, and no child is in flight. This function is not a
+    /// call of the place, and takes no memory.
     pub fn is_unfailing(&self) -> bool
         ensures quiet { IsTrue result → (may_fail self.now ≡ false)
             × ((counts_in self.now).failures ≡ 0) }
@@ -150,10 +150,10 @@ impl<C> Memory<C> {
     }
 
     /// Sets which call is to fail, counted from 1. With 0 no call fails. This replaces the earlier
-    /// setting. `spawn` and `finish` count as one call each, and `start` as two. `failures`,
-    /// `starts`, `late` and `most` do not count.
+    /// setting. `spawn` and `finish` count as one call each, and `start` as two. Calls of
+    /// `failures`, `starts`, `late` and `most` are not counted.
     ///
-    /// The call that fails returns its own fault. What it leaves is our own choice:
+    /// The call that fails returns its own fault. What the failing call leaves is our own choice:
     /// - A write leaves the first half of the bytes, rounded down.
     /// - A removal removes the first half of the files in byte order, rounded down.
     /// - A spawn returns `CannotStart` and changes nothing.
@@ -167,8 +167,8 @@ impl<C> Memory<C> {
     }
 
     /// Sets a start to fail: the next start whose folder has this name fails with this fault. If
-    /// there are two settings for the same name, the earlier one is used first. A start that fails
-    /// by the fuse, or runs out of memory, leaves the setting for the next start.
+    /// there are two settings for the same name, the earlier setting is used first. A start that
+    /// fails by the fuse, or runs out of memory, leaves the setting for the next start.
     ///
     /// `CannotStart` occurs at the spawn, which changes nothing. Any other fault occurs at the end.
     /// Then only the first half of the reply's files remains, in byte order; the half's length is

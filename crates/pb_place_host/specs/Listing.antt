@@ -24,7 +24,7 @@ abbrev pub AreOrdered : List (List ℕ) → Type 0
 AreOrdered paths = IsSorted (slice_cmp nat_cmp) paths
 
 -- the files found so far are strictly below the folder, and the folders still to be listed are at
--- or below it
+-- or below this folder
 pub record StaysBelow (folder : List ℕ) (found : Found) : Type 0 where
   pub files : AreBelow folder found.files.items
   pub waiting : All (λ waiting. is_at_or_below folder waiting.folder ≡ true) found.waiting.items

@@ -64,7 +64,7 @@ pub struct HostPlace<'a, R: Processes> {
     /// The child that ended last.
     ended: Option<Spawned>,
     moved: Vec<Moved>,
-    /// Whether the last tree that was to be removed existed.
+    /// Whether something was at the path of the last `remove_tree`.
     has_removed: bool,
     /// What is known of the calls and the children that failed.
     known: Known,
@@ -88,8 +88,8 @@ impl<'a, R: Files + Env + Processes + AllocGlobal> HostPlace<'a, R> {
         }
     }
 
-    /// Returns whether a child with this ticket is in flight. This is not a call of the place, and
-    /// uses no memory.
+    /// Returns whether a child with this ticket is in flight. This function is not a call of the
+    /// place, and uses no memory.
     pub fn flies(&self, ticket: u64) -> bool
         ensures { result ≡ is_flying ticket
             (⟦<HostPlace<'a, R> as Place>⟧.at self.now).counts.starts.flying }
@@ -162,7 +162,7 @@ impl<'a, R: Files + Env + Processes + AllocGlobal> HostPlace<'a, R> {
         self.moved.iter().any(|moved| &moved.out == out)
     }
 
-    /// Looks at a path and below it for a path that has moved since the child with this output
+    /// Looks, at and below a path, for a path that has moved since the child with this output
     /// folder was spawned. Remembers the first such path. If the time of the spawn is unknown, the
     /// given path counts as moved. Nothing is done if a moved path is already known for this child.
     fn look_for(

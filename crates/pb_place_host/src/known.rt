@@ -147,8 +147,8 @@ fn call_text(
     format!(in alloc; "cannot {verb} {path}: {}", reason.as_str())
 }
 
-/// Returns what a call on a path answered, and remembers the failure of the call. If memory ran
-/// out, the fault is `OutOfMemory`. Any other failure becomes the call's own fault.
+/// Returns the result of a call on a path, and remembers the call if it failed. If memory ran out,
+/// the fault is `OutOfMemory`. Any other failure becomes the call's own fault.
 pub(crate) fn note_answer<T>(
     alloc: Global,
     known: &mut Known,
@@ -177,7 +177,7 @@ fn variable_text(alloc: Global, name: &str) -> Result<String, AllocError> {
     format!(in alloc; "cannot read the variable {name}: its value is not UTF-8")
 }
 
-/// Returns what a call on a variable answered, and remembers the failure of the call.
+/// Returns the result of a call on a variable, and remembers the call if it failed.
 pub(crate) fn answered_variable(
     alloc: Global,
     known: &mut Known,
@@ -235,7 +235,7 @@ fn remember_start(alloc: Global, known: &mut Known, command: &Command, failed: &
     known.add_child(alloc, key_of(command), report);
 }
 
-/// Returns what the start of a child answered, and remembers the failure of the start.
+/// Returns the result of the start of a child, and remembers the start if it failed.
 pub(crate) fn note_start<T>(
     alloc: Global,
     known: &mut Known,
@@ -305,7 +305,7 @@ fn signal_report(alloc: Global, command: &Command, output: &Output) -> Report {
     }
 }
 
-/// Remembers how a child ended, if it died or has no output folder.
+/// Remembers how a child ended, if the child died or has no output folder.
 fn remember_end(alloc: Global, known: &mut Known, command: &Command, output: &Output) {
     if output.status.code().is_none() {
         let report = signal_report(alloc, command, output);
@@ -327,8 +327,8 @@ fn capture_text(alloc: Global, command: &Command, error: &io::Error) -> Result<S
     )
 }
 
-/// Returns what the end of a child answered. How the child ended is remembered if the child did not
-/// answer or has no output folder.
+/// Returns the result of the wait for the end of a child. How the child ended is remembered if the
+/// child did not answer or has no output folder.
 pub(crate) fn note_end(
     alloc: Global,
     known: &mut Known,

@@ -11,8 +11,7 @@ use std::rt::Files;
 /// How the name of the output folder of a script's run ends.
 const RUN: &str = ".run";
 
-/// The greatest number of links and folders that are looked at. There are no notes on further
-/// links.
+/// The greatest number of links and folders that are looked at. Further links are not reported.
 const MOST_LOOKS: usize = 100_000;
 
 /// A search for the links that a script left: the target folder, what the script printed, and the
@@ -27,8 +26,8 @@ struct Left<'a> {
     waiting: Vec<PathText>,
 }
 
-/// Adds a link to a report, if it leads out of the target folder to a path that the script did not
-/// print.
+/// Adds a link to a report, if the link leads out of the target folder to a path that the script
+/// did not print.
 ///
 /// Errors: out of memory.
 fn weigh_link<R: Files + AllocGlobal>(

@@ -64,7 +64,7 @@ fn leads_up(text: &str) -> bool {
     text.split('/').any(|part| part == "..")
 }
 
-/// Returns the path that a text means from a folder. This is the normalised path
+/// Returns the path that a text means from a folder. The result is the normalised path
 /// (`PathText::join`), unless a `..` comes after a link. Such a `..` leads to the folder that
 /// contains the link's goal, as in the system. A link that leads nowhere is treated as a folder.
 ///

@@ -20,7 +20,7 @@ pub(crate) struct Moment {
 /// What a look at a path shows.
 #[derive(Clone, Copy, Debug, PartialEq, Eq)]
 enum Sight {
-    /// Something that has changed since the moment.
+    /// Something that has changed since the given moment.
     Moved,
     /// A folder, which has not changed itself.
     Folder,

@@ -8,7 +8,8 @@ use std::os::unix::fs::MetadataExt;
 use std::rt::{Env, Files};
 use std::{env, fs, io};
 
-/// The folders in which programs are looked for if `PATH` is not set, as in the system.
+/// The folders in which the system, and therefore this crate, looks for programs if `PATH` is not
+/// set.
 const WITHOUT_PATH: &str = "/bin:/usr/bin";
 
 /// The bits of a file's mode that let somebody run it.

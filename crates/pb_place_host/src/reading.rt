@@ -129,7 +129,7 @@ pub(crate) fn file_at<R: Files + AllocGlobal>(
     }
 }
 
-/// Reads the first bytes of a file, at most `most`.
+/// Reads at most the first `most` bytes of a file.
 fn first_bytes_at<R: Files + AllocGlobal>(
     runtime: &R,
     path: &str,
@@ -141,7 +141,7 @@ fn first_bytes_at<R: Files + AllocGlobal>(
     Ok(bytes)
 }
 
-/// Returns the first bytes of a file, at most `most`, or `None` if no file is at the path.
+/// Returns at most the first `most` bytes of a file, or `None` if no file is at the path.
 ///
 /// Errors: `Failed`, if the file cannot be read.
 pub(crate) fn first_of<R: Files + AllocGlobal>(
@@ -170,7 +170,7 @@ fn variable_error(error: VarError) -> Result<Option<Text>, ViewFault>
     }
 }
 
-/// Returns the value of a variable, or `None` if it is not set.
+/// Returns the value of a variable, or `None` if the variable is not set.
 ///
 /// Errors: `Failed`, if the value is not UTF-8.
 pub(crate) fn variable_of<R: Env + AllocGlobal>(

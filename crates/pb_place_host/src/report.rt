@@ -10,7 +10,8 @@ use std::marker::Model;
 /// The greatest number of texts in one report.
 const MOST_TEXTS: usize = 10;
 
-/// The greatest number of bytes of a text that is not cut. A path of the system has at most 4,096.
+/// The greatest number of bytes of a text that is not cut. A path of the system has at most 4,096
+/// bytes.
 const LONGEST: usize = 8_192;
 
 /// Returns a text with `?` for each control character. If the text exceeds the greatest length,

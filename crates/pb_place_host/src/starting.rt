@@ -88,7 +88,7 @@ fn process_of(
     Ok(made)
 }
 
-/// Starts a process. Its standard input is empty, and its output is read later.
+/// Starts a process. The process has an empty standard input, and its output is read later.
 fn begin<R: Processes>(runtime: &R, mut made: process::Command) -> io::Result<Child<R::Started>> {
     made.stdin(Stdio::null());
     made.stdout(Stdio::piped());

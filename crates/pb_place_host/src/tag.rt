@@ -11,10 +11,11 @@ use std::rt::Files;
 /// Tagging Specification).
 pub const TAG_NAME: &str = "CACHEDIR.TAG";
 
-/// The line by which that file marks a target folder of this builder.
+/// The line by which a tag file marks a target folder of this builder.
 pub const TAG_LINE: &str = "# This is a target folder of pb_tool.";
 
-/// The content of the file that this builder writes. The specification requires the first line.
+/// The content of the tag file that this builder writes. The Cache Directory Tagging Specification
+/// requires the first line.
 pub const TAG_TEXT: &str = "Signature: 8a477f597d28d172789f06886806bc55
 # This is a target folder of pb_tool.
 # For information about cache directory tags see https://bford.info/cachedir/

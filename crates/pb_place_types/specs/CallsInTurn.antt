@@ -27,8 +27,8 @@ past_calls (call ∷ calls) c = past_calls calls (past_call c)
 abbrev pub Fails : PlaceFault → Call → Counts → Counts → Type 0
 Fails fault call old new = (fault ≡ own_fault call) × (new ≡ past_place_fault call fault old)
 
--- One of these calls failed with this fault. All calls before it succeeded, and no call came after
--- it.
+-- One of these calls failed with this fault. All calls before the failed call succeeded, and no
+-- call came after the failed call.
 abbrev pub FailsAt : PlaceFault → List Call → Counts → Counts → Type 0
 FailsAt fault [] old new = ⊥
 FailsAt fault (call ∷ calls) old new = Fails fault call old new ⊎ FailsAt fault calls (past_call old) new
@@ -39,7 +39,7 @@ MakesSome [] old new = new ≡ old
 MakesSome (call ∷ calls) old new = (new ≡ old) ⊎ MakesSome calls (past_call old) new
 
 -- The counters determine which call of a sequence failed and at which position. The fault is the
--- own fault of that call.
+-- failed call's own fault.
 pub record TellsTurn (fault : PlaceFault) (calls : List Call) (old new : Counts) : Type 0 where
   pub before : List Call
   pub call : Call
@@ -49,7 +49,7 @@ pub record TellsTurn (fault : PlaceFault) (calls : List Call) (old new : Counts)
   pub own : fault ≡ own_fault call
   pub turn : new.calls ≡ old.calls + length before + 1
 
--- if the calls of a sequence can all be counted, the counters determine the failed call as
+-- if 64 bits suffice to count the calls of a sequence, the counters determine the failed call, as
 -- `TellsTurn` says
 abbrev pub FaultTellsTurn : Type 0
 FaultTellsTurn = (fault : PlaceFault) (calls : List Call) (old new : Counts) → fault ≢ place.OutOfMemory → old.calls + length calls ≤ 0xffff_ffff_ffff_ffff

@@ -19,17 +19,17 @@ abbrev pub changed : List Change → World → World
 changed [] w = w
 changed (change ∷ changes) w = changed changes (changed_once change w)
 
--- the content of a path after a change, given its content before
+-- the content of a path after a change, given the path's old content
 abbrev pub said : Change → List ℕ → Option (List ℕ) → Option (List ℕ)
 said (writes path bytes) q old = if is_same_path path q then Some bytes else old
 said (removes path) q old = if is_at_or_below path q then None else old
 
--- the content of a path after these changes, given its content before
+-- the content of a path after these changes, given the path's old content
 abbrev pub last_said : List Change → List ℕ → Option (List ℕ) → Option (List ℕ)
 last_said [] q old = old
 last_said (change ∷ changes) q old = last_said changes q (said change q old)
 
--- what a path contains is decided by the last change that touches it
+-- the last change that touches a path decides what the path contains
 abbrev pub LastWordStands : Type 0
 LastWordStands = (changes : List Change) (w : World) (q : List ℕ) → map.get (changed changes w).files q ≡ last_said changes q (map.get w.files q)
 

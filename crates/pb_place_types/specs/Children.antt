@@ -15,8 +15,8 @@ abbrev pub inside_out : Option (List ℕ) → Map → Map
 inside_out None m = map.empty
 inside_out (Some out) m = files_in out m
 
--- The child that a spawn in this world starts. A child has its command, its reply to what it sees
--- of the world, and what its folder contained.
+-- The child that a spawn starts in this world. The child's fields are fixed at the spawn: the
+-- command, the reply to what the child sees, and what the child's folder contained.
 abbrev pub child_spawned : (World → Reply) → Command → World → ℕ → ChildInFlight
 child_spawned child command w ticket = record {
   ticket = ticket;
@@ -35,14 +35,14 @@ abbrev pub child_at : ℕ → List ChildInFlight → Option ChildInFlight
 child_at ticket [] = None
 child_at ticket (f ∷ fs) = if f.ticket == ticket then Some f else child_at ticket fs
 
--- the greatest number of children ever in flight, after a spawn; `n` are in flight if the spawn
--- succeeds
+-- The greatest number of children that were ever in flight, after a spawn. If the spawn succeeds,
+-- `n` children are in flight.
 abbrev pub most_after : {T : Type 0} → Result T StartFault → ℕ → ℕ → ℕ
 most_after (Ok x) n m = max m n
 most_after (Err e) n m = m
 
--- the map whose files below the folder are those of `before`, and whose other files are those of
--- `now`
+-- the map that has the files of `before` below the folder, and the files of `now` at all other
+-- paths
 abbrev pub put_back : List ℕ → Map → Map → Map
 put_back out before now = over before (map.retain_keys now (λ q. not (is_below out q)))
 
@@ -57,7 +57,7 @@ pub record LandsAs (spawned : ChildInFlight) (old : World) (ended : Ended) (new 
   pub answer : ended ≡ spawned.ended
   pub world : new ≡ landing spawned.command.out spawned.files spawned.before old
 
--- in both worlds the child sees the same, and its folder contains the same files
+-- the child sees the same in both worlds, and the child's folder contains the same files in both
 abbrev pub SeesStill : ChildInFlight → World → World → Type 0
 SeesStill spawned old new = (seen_by spawned.command new ≡ seen_by spawned.command old) × (inside_out spawned.command.out new.files ≡ inside_out spawned.command.out old.files)
 
@@ -69,15 +69,15 @@ StandsStill ticket flying old new = IfSome (child_at ticket flying) (λ spawned.
 abbrev pub StaysStill : List ChildInFlight → World → World → (ℕ → Type 0) → (ℕ → Type 0) → Type 0
 StaysStill flying old new before after = (ticket : ℕ) → StandsStill ticket flying old new → before ticket → after ticket
 
--- each ticket except the ended one stays still, as `StaysStill` states for all tickets
+-- each ticket except `ended` stays still, as `StaysStill` states for all tickets
 abbrev pub StaysStillBut : ℕ → List ChildInFlight → World → World → (ℕ → Type 0) → (ℕ → Type 0) → Type 0
 StaysStillBut ended flying old new before after = (ticket : ℕ) → ticket ≢ ended → StandsStill ticket flying old new → before ticket → after ticket
 
--- if a ticket stood still before, it stands still afterwards
+-- if a ticket stood still before a call, it stands still after the call
 abbrev pub KeepsStill : (ℕ → Type 0) → (ℕ → Type 0) → Type 0
 KeepsStill before after = (ticket : ℕ) → before ticket → after ticket
 
--- If a ticket stood still before, and changes at the paths of `inside` cannot touch what its child
--- depends on, the ticket stands still afterwards.
+-- Suppose that changes at the paths of `inside` cannot touch what a ticket's child depends on. If
+-- the ticket stood still before the changes, it stands still afterwards.
 abbrev pub KeepsStillOutside : (List ℕ → Bool) → List ChildInFlight → (ℕ → Type 0) → (ℕ → Type 0) → Type 0
 KeepsStillOutside inside flying before after = (ticket : ℕ) → ((v w : World) → ChangesOnly inside v w → StandsStill ticket flying v w) → before ticket → after ticket

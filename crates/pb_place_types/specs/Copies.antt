@@ -5,12 +5,12 @@ use Rattle.std.specs.List.{list_any}
 use Rattle.pb_place_types.specs.Paths.{is_below, is_at_or_below}
 use Rattle.pb_place_types.specs.World.{World, Map, put_files, is_same_path}
 
--- the map after the option's bytes are put at a path; without bytes the map does not change
+-- the map after these bytes are put at a path; without bytes, the map is unchanged
 abbrev pub put_one : List ℕ → Option (List ℕ) → Map → Map
 put_one path None m = m
 put_one path (Some bytes) m = map.insert m path bytes
 
--- the map after the files of another map at these paths are copied into it, one by one
+-- a map, into which the files at these paths are copied from another map, one by one
 abbrev pub put_from : Map → List (List ℕ) → Map → Map
 put_from from [] m = m
 put_from from (path ∷ paths) m = put_from from paths (put_one path (map.get from path) m)
@@ -20,15 +20,15 @@ abbrev pub PutsSome : Map → List (List ℕ) → Map → Map → Type 0
 PutsSome from [] old new = new ≡ old
 PutsSome from (path ∷ paths) old new = (new ≡ old) ⊎ PutsSome from paths (put_one path (map.get from path) old) new
 
--- the first half of a list of paths; its length is rounded down
+-- the first half of a list of paths; half of an odd length is rounded down
 abbrev pub first_half : List (List ℕ) → List (List ℕ)
 first_half paths = take (length paths / 2) paths
 
--- the files of a map, without those at these paths
+-- the files of a map, except the files at these paths
 abbrev pub but_at : List (List ℕ) → Map → Map
 but_at paths m = map.retain_keys m (λ q. not (list_any (is_same_path q) paths))
 
--- the map without half of its files at or below a path: the first half in byte order is gone
+-- the map after half of the files at or below a path are removed: the first half in byte order
 abbrev pub half_removed : List ℕ → Map → Map
 half_removed path m = but_at (first_half (map.keys (map.retain_keys m (is_at_or_below path)))) m
 

@@ -13,16 +13,15 @@ use Rattle.pb_place_types.specs.declared.place.StartFault.{StartFault}
 use Rattle.pb_place_types.specs.declared.place.StartFault.TheVariants as start
 
 -- The counters of starts. `count` is the number of calls of `spawn` and `start`. `flying` lists the
--- children in flight, in the order of their spawns. `settings` says how many times a test has set
+-- children in flight, in the order of their spawns. `settings` counts how often a test has set
 -- calls of the place to fail. No call of a place changes `settings`.
 pub record Starts : Type 0 where
   pub count : ℕ
   pub flying : List ChildInFlight
   pub settings : ℕ
 
--- The counters of a place. No method returns the number of all calls, so no body can depend on it.
--- Each call may fail, so a fault and the counters determine which call failed and at which
--- position.
+-- The counters of a place. No method returns the number of all calls, so no body can depend on this
+-- number. A fault and the counters together determine which call failed and at which position.
 pub record Counts : Type 0 where
   -- the number of all calls except `finish`
   pub calls : ℕ
@@ -69,12 +68,11 @@ up n = min (n + 1) 0xffff_ffff_ffff_ffff
 abbrev pub up_starts : Starts → Starts
 up_starts s = record s { count = up s.count }
 
--- The counters after a call that did not fail. If a call failed before, one more call has come
--- since then.
+-- The counters after a call that did not fail. If an earlier call failed, `late` is one more.
 abbrev pub past_call : Counts → Counts
 past_call c = record c { calls = up c.calls; late = if c.failures == 0 then 0 else up c.late }
 
--- the counters after something outside failed, whichever call it was
+-- the counters after any call failed in this way
 abbrev pub past_fault : Failure → Counts → Counts
 past_fault f c = record c { failures = up c.failures; late = 0; last = Some f }
 
@@ -109,7 +107,7 @@ abbrev pub counted_spawn : (ℕ → ChildInFlight) → Result ℕ StartFault →
 counted_spawn spawned (Ok ticket) c = past_call record c { starts = record c.starts { count = up c.starts.count; flying = c.starts.flying ++ spawned ticket ∷ [] } }
 counted_spawn spawned (Err e) c = past_start_fault e (one_start c)
 
--- the counters when the ticket's child is no longer in flight
+-- the counters after the ticket's child is removed from the children in flight
 abbrev pub landed : ℕ → Counts → Counts
 landed ticket c = record c { starts = record c.starts { flying = without ticket c.starts.flying } }
 

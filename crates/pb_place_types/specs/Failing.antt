@@ -11,7 +11,7 @@ use Rattle.pb_place_types.specs.declared.place.PlaceFault.TheVariants as place
 use Rattle.pb_place_types.specs.declared.place.StartFault.{StartFault}
 use Rattle.pb_place_types.specs.declared.place.StartFault.TheVariants as start
 
--- after a failed write, every other path has its old content
+-- after a failed write at a path, the contents of all other paths are unchanged
 abbrev pub TornSparesOthers : Type 0
 TornSparesOthers = (path bytes q : List ℕ) (old new : World) → Torn path bytes old new → q ≢ path → map.get new.files q ≡ map.get old.files q
 
@@ -33,7 +33,8 @@ abbrev pub is_in_out : Option (List ℕ) → List ℕ → Bool
 is_in_out None q = false
 is_in_out (Some folder) q = is_below folder q
 
--- after a start, even a failed one, every path outside the child's folder has its old content
+-- after a start, every path outside the child's folder has its old content, even if the start
+-- failed
 abbrev pub StartSparesOthers : Type 0
 StartSparesOthers = (out : Option (List ℕ)) (q : List ℕ) (old new : World) → ChangesOnlyInSome out old new → is_in_out out q ≡ false → map.get new.files q ≡ map.get old.files q
 
@@ -47,8 +48,8 @@ PartlySparesVariables = (path : List ℕ) (old new : World) → PartlyRemoved pa
 abbrev pub StartSparesVariables : Type 0
 StartSparesVariables = (out : Option (List ℕ)) (old new : World) → ChangesOnlyInSome out old new → new.variables ≡ old.variables
 
--- If a call failed and memory did not run out, the call is counted. It is recorded as the last
--- failing call, and its fault as the last fault.
+-- If a call failed and memory did not run out, the call is counted. The call is recorded as the
+-- last failing call, and the call's fault as the last fault.
 abbrev pub CallTellsFault : Type 0
 CallTellsFault = (call : Call) (e : PlaceFault) (c : Counts) → e ≢ place.OutOfMemory → past_place_fault call e c ≡ record (past_fault (Called e) c) { calls = up c.calls; failing = Some call }
 

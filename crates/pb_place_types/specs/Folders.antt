@@ -73,7 +73,7 @@ LooksIn = (folder : List ℕ) (m : Map) (q : List ℕ) → map.get (files_in fol
 abbrev pub LooksAtSources : Type 0
 LooksAtSources = (target : List ℕ) (w : World) (q : List ℕ) → map.get (from_nothing target w).files q ≡ (if is_at_or_below target q then None else map.get w.files q)
 
--- a child sees all variables, and those files that its command shows
+-- a child sees all variables, and the files that the child's command shows
 abbrev pub LooksThrough : Type 0
 LooksThrough = (c : Command) (w : World) (q : List ℕ) → map.get (seen_by c w).files q ≡ (if is_shown c q then map.get w.files q else None)
 
@@ -85,8 +85,8 @@ SeesSources = (c : Command) (w : World) → c.reads ≡ [] → seen_by c w ≡ f
 abbrev pub SeesFolders : Type 0
 SeesFolders = (c : Command) (w : World) → seen_by c w ≡ record w { files = folders_over c.reads w.files (from_nothing c.target w).files }
 
--- a child sees the same in two worlds if their sources agree, and so do the folders that the child
--- reads
+-- a child sees the same in two worlds with the same sources and with the same files in the folders
+-- that the child reads
 abbrev pub SeesAlike : Type 0
 SeesAlike = (c : Command) (v w : World) → from_nothing c.target v ≡ from_nothing c.target w → FoldersAgree c.reads v w → seen_by c v ≡ seen_by c w
 

@@ -19,8 +19,8 @@ stays part = bytes_eq part [] || bytes_eq part (codes ".")
 abbrev pub leads_up : List ℕ → Bool
 leads_up part = bytes_eq part (codes "..")
 
--- the names after one more part: `..` removes the last name, if there is one, and a name is
--- appended
+-- the names after one more part: `..` removes the last name, a name is appended, and an empty part
+-- or `.` changes nothing
 abbrev pub walked : List (List ℕ) → List ℕ → List (List ℕ)
 walked names part = if stays part then names else (if leads_up part then take (length names - 1) names else names ++ part ∷ [])
 
@@ -82,8 +82,8 @@ is_path [] = false
 is_path (b ∷ []) = b == slash
 is_path (b ∷ c ∷ rest) = (b == slash) && is_relative (c ∷ rest)
 
--- how each path below a folder begins, up to the slash before the names: with the folder's path, or
--- with nothing for the root
+-- the beginning of each path below a folder, up to the slash before the names: the folder's path,
+-- or nothing for the root
 abbrev pub stem : List ℕ → List ℕ
 stem folder = if bytes_eq folder (codes "/") then [] else folder
 
@@ -99,12 +99,12 @@ leads_below [] (b ∷ c ∷ rest) = b == slash
 leads_below (a ∷ stem) [] = false
 leads_below (a ∷ stem) (b ∷ path) = (a == b) && leads_below stem path
 
--- The path is strictly below the folder, compared part by part. `/a/b` is below `/a`, but `/ab` is
--- not.
+-- The path is strictly below the folder. Paths are compared part by part. `/a/b` is below `/a`, but
+-- `/ab` is not.
 unfoldable pub is_below : List ℕ → List ℕ → Bool
 is_below folder path = leads_below (stem folder) path
 
--- a path is at or below a folder if it is the folder itself or strictly below it
+-- a path is at or below a folder if the path is the folder itself or is strictly below the folder
 unfoldable pub is_at_or_below : List ℕ → List ℕ → Bool
 is_at_or_below folder path = bytes_eq folder path || is_below folder path
 

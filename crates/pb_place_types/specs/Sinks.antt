@@ -10,8 +10,7 @@ pub record SinkState : Type 0 where
   -- how many writes failed
   pub faults : ℕ
 
--- a write failed if the sink refused it, or if the sink took none of the bytes although there were
--- some
+-- a write failed if the sink refused the write, or if there were bytes and the sink took none
 abbrev pub is_refusal : Option ℕ → List ℕ → Bool
 is_refusal None bytes = true
 is_refusal (Some n) bytes = (n == 0) && not (length bytes == 0)

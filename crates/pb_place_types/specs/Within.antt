@@ -8,7 +8,8 @@ use Rattle.pb_place_types.specs.Paths.{is_path, is_name, is_relative, below, is_
 abbrev pub BelowGoesOn : Type 0
 BelowGoesOn = (folder path : List ℕ) → (is_below folder path ≡ true) ↔ ((c : ℕ) × (rest : List ℕ) × (path ≡ below folder (c ∷ rest)))
 
--- a path is at or below a folder if and only if it is the folder itself or is below it
+-- a path is at or below a folder if and only if the path is the folder itself or is below the
+-- folder
 abbrev pub AtOrBelow : Type 0
 AtOrBelow = (folder path : List ℕ) → (is_at_or_below folder path ≡ true) ↔ ((folder ≡ path) ⊎ (is_below folder path ≡ true))
 
@@ -33,8 +34,8 @@ OneFolder = (f g : List ℕ) → is_at_or_below f g ≡ true → is_at_or_below 
 abbrev pub NotBelowItself : Type 0
 NotBelowItself = (f : List ℕ) → is_below f f ≡ false
 
--- Two folders share no path if neither is at or below the other.
--- Both must be normalised: as plain bytes, `/x` and `/x/` share `/x/a`.
+-- Two folders share no path if neither is at or below the other. Both folders must be normalised:
+-- as plain bytes, `/x` and `/x/` share `/x/a`.
 abbrev pub ShareNoPath : Type 0
 ShareNoPath = (f g q : List ℕ) → is_path f ≡ true → is_path g ≡ true → is_at_or_below f g ≡ false → is_at_or_below g f ≡ false → is_at_or_below f q ≡ true → is_at_or_below g q ≡ false
 
@@ -47,11 +48,12 @@ RootIsAbove = (path : List ℕ) → is_path path ≡ true → is_at_or_below (co
 abbrev pub NamesLieApart : Type 0
 NamesLieApart = (folder name other : List ℕ) → name ≢ [] → list_any (λ b. b == slash) other ≡ false → name ≢ other → is_at_or_below (below folder name) (below folder other) ≡ false
 
--- if a path's part inside a folder is put below the folder again, the result is the path
+-- take the part of a path inside a folder; if this part is put below the folder, the result is the
+-- path
 abbrev pub JoinsAgain : Type 0
 JoinsAgain = (folder path rest : List ℕ) → inside folder path ≡ Some rest → below folder rest ≡ path
 
--- if a text is put below a folder, the path inside the folder is the text
+-- if a text is put below a folder, the path of the result inside the folder is the text
 abbrev pub FoundInside : Type 0
 FoundInside = (folder rest : List ℕ) → rest ≢ [] → inside folder (below folder rest) ≡ Some rest
 
@@ -59,8 +61,8 @@ FoundInside = (folder rest : List ℕ) → rest ≢ [] → inside folder (below 
 abbrev pub InsideIsRelative : Type 0
 InsideIsRelative = (folder path rest : List ℕ) → is_path folder ≡ true → is_path path ≡ true → inside folder path ≡ Some rest → is_relative rest ≡ true
 
--- If a path is not the root, its folder and its last part make the path again. This last part is a
--- name without a slash.
+-- If a path is not the root, the path's last part, put below the path's folder, is the path again.
+-- This last part is a name without a slash.
 abbrev pub EndsWithLastPart : Type 0
 EndsWithLastPart = (path : List ℕ) → is_path path ≡ true → path ≢ codes "/" → below (folder_of path) (last_part path) ≡ path
 

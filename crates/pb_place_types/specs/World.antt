@@ -17,8 +17,8 @@ use Rattle.pb_place_types.specs.declared.child.Reply.{Reply}
 abbrev pub Map : Type 0
 Map = map.FinMap (slice_cmp nat_cmp) (List ℕ)
 
--- A world has the bytes of each file by its normalised absolute path, and the text of each variable
--- by its name.
+-- A world maps each file's normalised absolute path to the file's bytes, and each variable's name
+-- to the variable's text.
 pub record World : Type 0 where
   pub files : Map
   pub variables : Map
@@ -31,12 +31,12 @@ FilesHavePaths w = (path bytes : List ℕ) → map.get w.files path ≡ Some byt
 abbrev pub has_file : List ℕ → World → Bool
 has_file path w = is_some (map.get w.files path)
 
--- a child as a function: its reply is determined by its command and by the world that it sees
+-- a child as a function: the child's command and the world that the child sees determine the reply
 abbrev pub Answers : Type 0
 Answers = Command → World → Reply
 
--- A child sees the variables, the sources, and the files strictly below the folders that its
--- command reads.
+-- A child sees the variables, the sources, and the files strictly below the folders that the
+-- child's command reads.
 unfoldable pub is_shown : Command → List ℕ → Bool
 is_shown c path = not (is_at_or_below c.target path) || list_any (λ folder. is_below folder path) c.reads
 
@@ -64,7 +64,7 @@ is_directly_in folder path = is_below folder path && not (list_any (λ b. b == s
 abbrev pub listed_directly : List ℕ → World → List (List ℕ)
 listed_directly folder w = map.keys (map.retain_keys w.files (is_directly_in folder))
 
--- the first part of a path that has two or more parts
+-- the first of these parts, if there are two or more parts
 abbrev pub first_folder : List (List ℕ) → Option (List ℕ)
 first_folder [] = None
 first_folder (part ∷ []) = None
@@ -80,7 +80,8 @@ abbrev pub is_last : List ℕ → List (List ℕ) → Bool
 is_last path [] = false
 is_last path (first ∷ paths) = bytes_eq path (last_of first paths)
 
--- the folders after the given folder is appended, unless it is already the last folder
+-- The folders, and after them the new folder, if there is one. If the list already ends with the
+-- new folder, the list is unchanged.
 abbrev pub with_new : List (List ℕ) → Option (List ℕ) → List (List ℕ)
 with_new folders None = folders
 with_new folders (Some folder) = if is_last folder folders then folders else folders ++ folder ∷ []
@@ -90,17 +91,17 @@ with_new folders (Some folder) = if is_last folder folders then folders else fol
 abbrev pub folders_among : List ℕ → List (List ℕ) → List (List ℕ)
 folders_among folder paths = fold with_new [] (each (folder_towards folder) paths)
 
--- The folders directly in a folder that have a file below them. Files below one folder are adjacent
--- in byte order, so each folder is listed once.
+-- The folders that are directly in a given folder and have a file below them. Files below one
+-- folder are adjacent in byte order, so each folder is listed once.
 abbrev pub listed_folders : List ℕ → World → List (List ℕ)
 listed_folders folder w = folders_among folder (listed folder w)
 
--- The sources, given the target folder. These are all files that are not at or below the target
--- folder. A clean build sees nothing else.
+-- The sources, given the target folder: all files that are not at or below the target folder. A
+-- clean build sees nothing else.
 abbrev pub from_nothing : List ℕ → World → World
 from_nothing target w = removed target w
 
--- two maps agree at each path of which `may` is not true
+-- two maps agree at each path, except at paths of which `may` is true
 abbrev pub AgreeBut : (List ℕ → Bool) → Map → Map → Type 0
 AgreeBut may old new = (q : List ℕ) → may q ≡ false → map.get new q ≡ map.get old q
 
@@ -136,7 +137,8 @@ ChangesOnly may = Files (AgreeBut may)
 abbrev pub ChangesOnlyIn : List ℕ → World → World → Type 0
 ChangesOnlyIn folder = ChangesOnly (is_below folder)
 
--- nothing changes if there is no folder; otherwise only files strictly below the folder change
+-- if there is no folder, nothing changes; if there is one, only files strictly below the folder
+-- change
 abbrev pub ChangesOnlyInSome : Option (List ℕ) → World → World → Type 0
 ChangesOnlyInSome None old new = new ≡ old
 ChangesOnlyInSome (Some folder) old new = ChangesOnlyIn folder old new
@@ -151,8 +153,8 @@ abbrev pub put_reply : Option (List ℕ) → List (List ℕ × List ℕ) → Wor
 put_reply None files w = w
 put_reply (Some folder) files w = record w { files = put_files folder files w.files }
 
--- A child has ended with its reply to what it sees. The reply's files are in the command's output
--- folder, if there is one.
+-- A child has ended with the reply to what the child sees. The reply's files are in the command's
+-- output folder, if there is one.
 pub record Ends (child : World → Reply) (command : Command) (old : World) (ended : Ended) (new : World) : Type 0 where
   pub status : ended.status ≡ (child (seen_by command old)).status
   pub stdout : ended.stdout ≡ (child (seen_by command old)).stdout

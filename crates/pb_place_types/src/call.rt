@@ -9,8 +9,8 @@ use crate::place::PlaceFault;
 use pb_data::{Text, TryCopy};
 use std::alloc::{AllocError, Global};
 
-/// A call on files or variables, with its paths or its name. The bytes of a write are not kept. The
-/// set of calls is our own choice.
+/// A call on files or variables, with its paths or the variable's name. The bytes of a write are
+/// not kept. The set of calls is our own choice.
 #[derive(Debug, Drop)]
 pub enum Call {
     /// A file is read.

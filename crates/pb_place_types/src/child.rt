@@ -17,12 +17,12 @@ use thiserror::Error;
 pub struct Reply {
     /// The exit status; 0 is success.
     pub status: i32,
-    /// All that it writes to standard output.
+    /// All that the child writes to standard output.
     pub stdout: Bytes,
-    /// All that it writes to standard error.
+    /// All that the child writes to standard error.
     pub stderr: Bytes,
-    /// The files that it leaves in the command's `out`, by their paths there. If two files have the
-    /// same path, the later file counts.
+    /// The files that the child leaves in the command's `out`, by their paths inside `out`. If two
+    /// files have the same path, the later file counts.
     pub files: Items<(RelativePath, Bytes)>,
 }
 
@@ -75,7 +75,7 @@ pub trait View {
             → IfOk result (λ found. found ≡ map.get (shown self.now).files path.now) }
         ensures failed { IfErr result (λ e. e ≡ ViewFault.Failed → fails self.now) };
 
-    /// Returns the value of an inherited variable, or `None` if it is not set.
+    /// Returns the value of an inherited variable, or `None` if the variable is not set.
     ///
     /// Errors: `Failed`, if the variable cannot be read; `OutOfMemory`.
     fn variable(&self, alloc: Global, name: &str) -> Result<Option<Text>, ViewFault>
@@ -87,7 +87,7 @@ pub trait View {
 /// A child: a function that maps a command, and what the child sees, to a reply. A child has no
 /// state, so no call can change the function.
 pub trait Child {
-    /// The function.
+    /// The function from a command, and what the child sees, to the reply.
     ghost answers: { Answers };
 
     /// Returns the reply to a command. The contract determines the reply only if the view reports

@@ -9,13 +9,14 @@ use pb_data::{Bytes, Items};
 /// command's folder, and the folder's files at the spawn.
 #[derive(Drop)]
 pub struct ChildInFlight {
-    /// The number with which its end is requested. No two children in flight have the same number.
+    /// The number with which `finish` waits for the child's end. No two children in flight have the
+    /// same number.
     pub ticket: u64,
     /// The command that was spawned.
     pub command: Command,
-    /// How it ends, if it replies.
+    /// How the child ends, if it replies.
     pub ended: Ended,
-    /// The files that it leaves in the command's folder if it replies.
+    /// The files that the child leaves in the command's folder if it replies.
     pub files: Items<(RelativePath, Bytes)>,
     /// The files inside the command's folder when the command was spawned.
     pub before: FileMap,

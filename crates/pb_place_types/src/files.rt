@@ -68,7 +68,7 @@ impl FileMap {
         self.inside.get(path.as_text())
     }
 
-    /// Puts a file.
+    /// Puts a file into the map.
     ///
     /// Errors: out of memory only. Nothing changes then.
     #[tactic(auto, using(crate::proofs::MapLemmas::insert_laws))]
@@ -149,7 +149,7 @@ impl FileMap {
         self.get(path).is_some()
     }
 
-    /// Returns those folders directly in a folder that have a file below them. The folders are in
+    /// Returns those folders directly in `folder` that have a file below them. The folders are in
     /// the order of these files, without repeats. Files at or below the path `left_out` are
     /// ignored.
     ///
@@ -234,7 +234,8 @@ impl FileMap {
 
     /// Copies the files at these paths from another map, one after another.
     ///
-    /// Errors: out of memory only. Then the files at a prefix of these paths have been copied.
+    /// Errors: out of memory only. After an error, the files at the first n of these paths have
+    /// been copied, for some n.
     pub fn put_from(
         &mut self,
         alloc: Global,
@@ -262,7 +263,7 @@ fn stem_with(alloc: Global, folder: &str, end: &str) -> Result<Text, AllocError>
     Ok(Text::new(text))
 }
 
-/// Returns the keys between two texts, in byte order.
+/// Returns the keys of a map that are between two texts, in byte order.
 fn names_between(
     alloc: Global,
     files: &BTreeMap<Text, Bytes>,
@@ -329,7 +330,7 @@ fn names_at_or_below(
     Ok(names)
 }
 
-/// Returns the texts that are neither equal to a folder nor below it.
+/// Returns those of these texts that are neither equal to `left_out` nor below it.
 fn names_outside(
     alloc: Global,
     names: Vec<Text>,
@@ -365,7 +366,7 @@ fn has_slash(name: &[u8]) -> bool
     name.iter().any(|byte| *byte == b'/')
 }
 
-/// Returns the texts that are a folder, a slash and one name.
+/// Returns those of these texts that consist of a folder, a slash and one name.
 fn names_without_slash(
     alloc: Global,
     names: Vec<Text>,
@@ -405,7 +406,7 @@ fn paths_of(alloc: Global, names: Vec<Text>) -> Result<Items<PathText>, AllocErr
     Ok(paths)
 }
 
-/// Returns the first part, if there are two or more parts.
+/// Returns the first part of a path, if the path has two or more parts.
 fn first_folder<'a>(parts: &[&'a str]) -> Option<&'a str>
     ensures { option_copied result ≡ first_folder (each (λ part. part.now) parts.now) }
 {
@@ -460,7 +461,7 @@ fn put_new(folders: &mut Items<PathText>, folder: Option<PathText>) -> Result<()
     Ok(())
 }
 
-/// Returns those folders directly in a folder that contain some of these paths. The folders are in
+/// Returns those folders directly in `folder` that contain some of these paths. The folders are in
 /// the order of the paths, and no folder is repeated in a row.
 fn folders_among(
     alloc: Global,

@@ -101,7 +101,7 @@ pub fn last_word_stands()
     ensures variables { VariablesStand }
 {}
 
-/// A call that failed for a reason other than running out of memory is counted. Its fault is
+/// A call that failed for a reason other than running out of memory is counted. The call's fault is
 /// recorded as the last fault. A failed call on files or variables is itself recorded, too. For a
 /// sequence of calls, the counters therefore determine which call failed and at which position.
 pub fn failing_calls_are_told()

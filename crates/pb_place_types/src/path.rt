@@ -213,7 +213,7 @@ impl PathText {
         })
     }
 
-    /// Returns the folder that contains this path. For the root, this is the root itself.
+    /// Returns the folder that contains this path. The folder of the root is the root itself.
     ///
     /// Errors: out of memory only.
     #[tactic(auto, using(crate::proofs::PathLemmas::folder_laws))]

@@ -102,7 +102,7 @@ impl<T: Drop> From<AllocFailed<T>> for StartFault {
     }
 }
 
-/// Returns the first bytes, at most `most`.
+/// Returns the first `most` bytes, or all bytes if there are fewer.
 fn cut(bytes: Bytes, most: usize) -> Bytes
     ensures { result ≡ take most bytes }
 {
@@ -126,7 +126,7 @@ pub trait Place {
     /// modelled are constant.
     ghost at: { Self → At };
 
-    /// The child: a member of the type, so no call can change it.
+    /// The child as a function. This function is a member of the type, so no call can change it.
     ghost child: { Answers };
 
     /// Whether a call may fail for a reason other than running out of memory.
@@ -141,8 +141,8 @@ pub trait Place {
         ensures looks { LooksOnce (call.Read path.now) result (at self.old) (at self.new) }
         ensures fails { IfErr result (λ e. e ≢ PlaceFault.OutOfMemory → fails self.old) };
 
-    /// Returns the first bytes of a file, at most `most`, or `None` if no file is there. The call
-    /// is counted as a call of `read`.
+    /// Returns at most the first `most` bytes of a file, or `None` if no file is there. The call is
+    /// counted as a call of `read`.
     ///
     /// Errors: `Read`; `OutOfMemory`.
     fn read_first(
@@ -173,7 +173,7 @@ pub trait Place {
         ensures fails { IfErr result (λ e. e ≢ PlaceFault.OutOfMemory → fails self.old) };
 
     /// Returns the paths of all files below a folder, in byte order. The folder's own path is not
-    /// among them.
+    /// among these paths.
     ///
     /// Errors: `List`; `OutOfMemory`.
     fn list(&mut self, alloc: Global, folder: &PathText) -> Result<Items<PathText>, PlaceFault>
@@ -278,7 +278,7 @@ pub trait Place {
             (at self.old) (at self.new) }
         ensures fails { IfErr result (λ e. e ≢ PlaceFault.OutOfMemory → fails self.old) };
 
-    /// Returns the value of a variable, or `None` if it is not set.
+    /// Returns the value of a variable, or `None` if the variable is not set.
     ///
     /// Errors: `Variable`; `OutOfMemory`.
     fn variable(&mut self, alloc: Global, name: &str) -> Result<Option<Text>, PlaceFault>
@@ -287,13 +287,13 @@ pub trait Place {
         ensures looks { LooksOnce (call.Variable name.now) result (at self.old) (at self.new) }
         ensures fails { IfErr result (λ e. e ≢ PlaceFault.OutOfMemory → fails self.old) };
 
-    /// Spawns a child process, and returns its ticket, by which `finish` waits for it. No other
-    /// child in flight has this ticket. The folder `command.out` is created; until the child has
-    /// ended, that folder may contain anything.
+    /// Spawns a child process, and returns the ticket with which `finish` waits for this child. No
+    /// other child in flight has this ticket. The folder `command.out` is created; until the child
+    /// has ended, that folder may contain anything.
     ///
     /// Errors:
     ///
-    /// - `CannotStart`. Then no child is in flight.
+    /// - `CannotStart`. Then no child was spawned.
     /// - `OutOfMemory`.
     fn spawn(&mut self, alloc: Global, command: &Command) -> Result<u64, StartFault>
         ensures spawns { Spawns child command.now result (at self.old) (at self.new) }
@@ -301,9 +301,9 @@ pub trait Place {
         ensures later { fails self.new → fails self.old };
 
     /// Waits for the end of a child in flight. Whatever the result, the child's ticket is then used
-    /// up. Suppose that the child replies. Suppose also that nothing that it sees, and nothing in
-    /// its folder, has changed since the spawn. Then the world at the spawn determines the child's
-    /// reply and the contents of its folder.
+    /// up. Suppose that the child replies. Suppose also that neither what the child sees nor its
+    /// folder has changed since the spawn. Then the world at the spawn determines the child's reply
+    /// and the contents of its folder.
     ///
     /// Errors:
     ///

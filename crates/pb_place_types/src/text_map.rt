@@ -68,7 +68,7 @@ impl TextMap {
         Ok(())
     }
 
-    /// Removes a name.
+    /// Removes a name and its text.
     ///
     /// Errors: out of memory only. Nothing changes then.
     #[tactic(auto, using(crate::proofs::MapLemmas::unset_laws))]

@@ -30,8 +30,9 @@ fn write_some<O: Out>(out: &mut O, bytes: &[u8]) -> Option<usize>
     }
 }
 
-/// Writes all bytes, and returns whether the sink took them. If not, the sink counts more failures
-/// than before, and took only a prefix of the bytes. If there are no bytes, the sink is not called.
+/// Writes all bytes, and returns whether the sink took them. If the sink did not take all bytes,
+/// the sink counts more failures than before, and took only a prefix of the bytes. If there are no
+/// bytes, the sink is not called.
 pub fn write_all<O: Out>(out: &mut O, bytes: &[u8]) -> bool
     ensures all { IsTrue result
         → Appends (O.heard out.old).taken (O.heard out.new).taken bytes.now }

@@ -1,5 +1,5 @@
--- The line of a profile in the terms of The Cargo Book: a list of profiles, each of which inherits
--- from the next.
+-- The line of a profile in the terms of The Cargo Book: a list in which each profile inherits from
+-- the next profile.
 use Rattle.std.specs.Prelude.{◌≡◌, ℕ, List, [], ◌∷◌, Some, None, Ok, Err, IsSome}
 use Rattle.pb_profile_keys.specs.declared.key.ProfileKey.{ProfileKey}
 use Rattle.pb_manifest_types.specs.declared.profile.Profile.{Profile}
@@ -13,8 +13,8 @@ use Rattle.pb_profile.specs.Settings.{looked_up, lookups_of}
 abbrev pub InheritsFrom : List Profile → Seen → Seen → Type 0
 InheritsFrom profiles s t = above profiles s ≡ Ok (Some t)
 
--- If a profile inherits from no profile, its line is the profile alone. Otherwise its line is the
--- profile, followed by the line of the profile from which it inherits.
+-- If a profile inherits from no profile, the profile's line is the profile alone. Otherwise the
+-- line is the profile, followed by the line of the profile from which this profile inherits.
 pub data IsLine (profiles : List Profile) : Seen → List Seen → Type 0 where
   last : (s : Seen) (ends : above profiles s ≡ Ok None) → IsLine profiles s (s ∷ [])
   further : (s t : Seen) (line : List Seen) (inherits : InheritsFrom profiles s t) (rest : IsLine profiles t line) → IsLine profiles s (s ∷ line)
@@ -47,10 +47,10 @@ pub record ComesBack (profiles : List Profile) (from : Seen) : Type 0 where
   pub inherits : InheritsFrom profiles profile next
   pub back : IsAncestor profiles next profile
 
--- a cycle is reported only if some profile of the line inherits from itself
+-- a cycle is reported only if `ComesBack` is true of the requested profile
 abbrev pub TellsCycles : Type 0
 TellsCycles = (profiles : List Profile) (name : List ℕ) → line_of profiles name ≡ Err InheritsCycle → ComesBack profiles (seen_at profiles name)
 
--- along each line, some location has a value for each key, whatever the profiles contain
+-- The profiles may contain anything. Along each line, some location has a value for each key.
 abbrev pub FindsValues : Type 0
 FindsValues = (profiles : List Profile) (s : Seen) (line : List Seen) → IsLine profiles s line → (p : Package) (role : Side) (k : ProfileKey) → IsSome (looked_up k (lookups_of p role) line)

@@ -1,5 +1,5 @@
--- From which profile a profile inherits, and what its output folder is called (The Cargo Book,
--- Profiles).
+-- From which profile a profile inherits, and what the output folder of a profile is called (The
+-- Cargo Book, Profiles).
 use Rattle.std.specs.Prelude.{ℕ, zero, suc, ◌+◌, Bool, true, ◌&&◌, ◌||◌, if◌then◌else◌, codes, List, [], ◌∷◌, length, Option, Some, None, Result, Ok, Err, option_map, is_none}
 use Rattle.std.specs.List.{list_all, find}
 use Rattle.std.specs.Str.{bytes_eq}
@@ -28,7 +28,7 @@ folder_of name =
     if is_either (codes "dev") (codes "test") name then codes "debug"
     else (if is_either (codes "release") (codes "bench") name then codes "release" else name)
 
--- a profile of a line: its name, and its table if it is written
+-- a profile of a line: the profile's name, and its table if a table is written
 pub record Seen : Type 0 where
   pub name : List ℕ
   pub table : Option Profile
@@ -55,7 +55,7 @@ abbrev pub shown_parent : {P Q : Type 0} → (P → Q) → Result (Option P) Pro
 shown_parent shows (Ok parent) = Ok (option_map shows parent)
 shown_parent shows (Err fault) = Err fault
 
--- the profile with this name, and its table if it is written
+-- the profile with this name, and its table if a table is written
 abbrev pub seen_at : List Profile → List ℕ → Seen
 seen_at profiles name = record { name = name; table = named profiles name }
 
@@ -73,8 +73,8 @@ parent_of s =
 abbrev pub above : List Profile → Seen → Result (Option Seen) ProfileFault
 above profiles s = parent_of s >>= (λ parent. Ok (option_map (seen_at profiles) parent))
 
--- the profile's line: the profile alone if it has no parent, or else the profile and the line of
--- its parent
+-- The profile's line. If the profile has no parent, the line is the profile alone. Otherwise the
+-- line is the profile, followed by the parent's line.
 abbrev pub then_above : (Seen → Result (List Seen) ProfileFault) → Seen → Option Seen → Result (List Seen) ProfileFault
 then_above line_of s None = Ok (s ∷ [])
 then_above line_of s (Some parent) = line_of parent >>= (λ line. Ok (s ∷ line))
@@ -86,11 +86,11 @@ line_within zero profiles s = Err InheritsCycle
 line_within (suc n) profiles s = above profiles s >>= then_above (line_within n profiles) s
 
 -- The line of the profile with this name. A line has at most the written profiles and two built-in
--- ones. So a longer line contains some profile twice.
+-- profiles. So a longer line contains some profile twice.
 abbrev pub line_of : List Profile → List ℕ → Result (List Seen) ProfileFault
 line_of profiles name = line_within (length profiles + 2) profiles (seen_at profiles name)
 
--- each key that is set is one that an override may set: not `panic`, `lto` or `rpath`
+-- these values are allowed in an override: they set none of `panic`, `lto` and `rpath`
 abbrev pub may_override : Said → Bool
 may_override values = list_all (λ k. (row k).in_override || is_none (says values k)) keys
 
@@ -101,6 +101,7 @@ table_allows table = option_all may_override table.build_override && list_all (�
 abbrev pub allows : Seen → Bool
 allows s = option_all table_allows s.table
 
--- the line of a profile, or a fault if some override in the line sets a key that it may not set
+-- the line of a profile, or a fault if an override in the line sets a key that overrides may not
+-- set
 abbrev pub checked_line : List Profile → List ℕ → Result (List Seen) ProfileFault
 checked_line profiles name = line_of profiles name >>= (λ line. if list_all allows line then Ok line else Err NotInOverride)

@@ -1,5 +1,6 @@
--- Which value a profile's key has: that of the first location with a value. Each location is looked
--- up along `inherits` before the next location (The Cargo Book, Profiles).
+-- Which value a profile's key has: the value at the first location that has a value. All profiles
+-- of the line are searched at one location before the next location counts (The Cargo Book,
+-- Profiles).
 use Rattle.std.specs.Prelude.{ℕ, Bool, if◌then◌else◌, codes, List, [], ◌∷◌, ◌++◌, map, Option, Some, None, Result, Ok, option_and_then, option_map, unwrap_or}
 use Rattle.std.specs.List.{find}
 use Rattle.std.specs.Option.{option_or}
@@ -31,7 +32,8 @@ said_by values k = option_and_then (λ set. says set k) values
 abbrev pub own : Lookup
 own s k = said_by (option_map (λ (p : Profile). p.keys) s.table) k
 
--- The keys that the override `package.NAME` of a profile sets. `in_package` is their location.
+-- The keys that the override `package.NAME` of a profile sets. `in_package` is the location of
+-- these keys.
 abbrev pub override_named : List ℕ → Profile → Option Said
 override_named name p = option_map (λ (o : ProfileOverride). o.keys) (find (λ (o : ProfileOverride). bytes_eq o.name name) p.packages)
 
@@ -54,7 +56,8 @@ built_in s k = if bytes_eq s.name (codes "dev") then Some (defaults k).dev else 
 abbrev pub of_others : Bool → List Lookup
 of_others is_member = if is_member then [] else in_package (codes "*") ∷ []
 
--- the locations of `build-override` and of its built-in values, which count only for host roles
+-- the locations of `build-override` and of the built-in values for host roles; both count only for
+-- host roles
 abbrev pub of_role : Side → List Lookup
 of_role Target = []
 of_role Host = in_build_override ∷ of_hosts ∷ []
@@ -68,7 +71,7 @@ abbrev pub along : ProfileKey → Lookup → List Seen → Option Setting
 along k lookup [] = None
 along k lookup (s ∷ line) = option_or (lookup s k) (along k lookup line)
 
--- the value of a key at the first location that has a value for it
+-- the value of a key at the first location that has a value for this key
 abbrev pub looked_up : ProfileKey → List Lookup → List Seen → Option Setting
 looked_up k [] line = None
 looked_up k (lookup ∷ lookups) line = option_or (along k lookup line) (looked_up k lookups line)

@@ -10,7 +10,7 @@ use Rattle.pb_profile_keys.specs.declared.setting.Setting.TheVariants as setting
 use Rattle.pb_profile_keys.specs.declared.setting.Word.{Word}
 use Rattle.pb_profile_keys.specs.declared.setting.Word.TheVariants as word
 
--- for each key, in order, the value that a profile or an override sets, if it sets one
+-- for each key, in order, the value that a profile or an override sets, if there is such a value
 abbrev pub Said : Type 0
 Said = List (Option Setting)
 

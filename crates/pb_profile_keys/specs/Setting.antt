@@ -36,7 +36,7 @@ words =
     word.Abort ∷ word.DebugInfo ∷ word.Fat ∷ word.Full ∷ word.Limited ∷ word.LineDirectivesOnly ∷ word.LineTablesOnly ∷ word.Nothing ∷ word.Off
     ∷ word.One ∷ word.Size ∷ word.SmallestSize ∷ word.Symbols ∷ word.Thin ∷ word.Three ∷ word.Two ∷ word.Unwind ∷ word.Zero ∷ []
 
--- The word, if it is spelled as this text. `word_of` is the word that a text spells.
+-- The word, if this text is the word's spelling. `word_of` is the word that a text spells.
 abbrev pub if_spelled : List ℕ → Word → Option Word
 if_spelled text w = if bytes_eq (spelled w) text then Some w else None
 

@@ -40,14 +40,14 @@ row key.Panic = record plain { name = codes "panic"; in_override = false; option
 row key.Rpath = record plain { name = codes "rpath"; in_override = false; option = codes "rpath="; yes = codes "yes"; untold = Some (Truth false) }
 row key.Strip = record plain { name = codes "strip"; option = codes "strip="; untold = Some (Word word.Nothing) }
 
--- the values that a key has if nobody writes it
+-- the values that a key has if no manifest sets the key
 pub record Defaults : Type 0 where
   -- the value in the profile `dev`, and then the value in `release`
   pub dev : Setting
   pub release : Setting
-  -- the built-in value for host roles, if there is one; it counts after `build-override`
+  -- the built-in value for host roles, if there is one; this value counts after `build-override`
   pub beside_override : Option Setting
-  -- the value that host roles have whatever is written, if there is one
+  -- the fixed value of the key in host roles, if there is one; no manifest can change this value
   pub in_hosts : Option Setting
 
 -- the built-in values of a key

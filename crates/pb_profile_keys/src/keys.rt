@@ -33,7 +33,7 @@ impl ProfileKeys {
         }
     }
 
-    /// Returns the value of a key, if it is set.
+    /// Returns the value of a key, if the key is set.
     pub fn get(&self, key: ProfileKey) -> Option<Setting>
         ensures { result ≡ says self.now key }
     {

@@ -7,7 +7,7 @@ pub fn keys_are_at_their_index()
     ensures { KeysAreAtTheirIndex }
 {}
 
-/// The compiler gets the option of each key exactly once.
+/// Each key occurs exactly once among the keys in the order of the compiler's options.
 pub fn keys_are_told_once()
     ensures { KeysAreToldOnce }
 {}

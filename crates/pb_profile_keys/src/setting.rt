@@ -178,7 +178,7 @@ pub fn meaning(choices: &[Choice], written: Setting) -> Option<Setting>
     None
 }
 
-/// A choice of a key: one value or several that the key may have, and what each value means.
+/// One or several values that a key may have, and what each value means.
 #[derive(Clone, Copy, Debug)]
 pub enum Choice {
     /// A value that means itself.

@@ -11,7 +11,7 @@ use crate::setting::{Choice, Setting, Word};
 pub struct Row {
     /// Its name in a manifest.
     pub name: &'static str,
-    /// The values that it may have.
+    /// The values that the key may have.
     pub choices: &'static [Choice],
     /// Its value in `dev`.
     pub dev: Setting,

@@ -39,7 +39,7 @@ asked_with c (Some out) = if are_sorted c.pairs then Some (of_parts c out) else 
 abbrev pub asked_in : Command → Option RecordedCommand
 asked_in c = asked_with c c.out
 
--- the record and the command agree, except perhaps in their variables
+-- the record and the command agree in all parts; their variables may differ
 pub record AsksAs (a : RecordedCommand) (c : Command) : Type 0 where
   pub program : a.program ≡ c.program
   pub words : a.words ≡ c.words

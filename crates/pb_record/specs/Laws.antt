@@ -24,9 +24,9 @@ FirstPartsSayNothing = (n : ℕ) (r s : Record) → n < length (record_bytes r) 
 abbrev pub MoreBytesSayNothing : Type 0
 MoreBytesSayNothing = (r s : Record) (b : ℕ) (more : List ℕ) → Says (record_bytes r ++ b ∷ more) s → ⊥
 
--- If the bytes of a value are the text of a record, the value is itself a record. So its texts are
--- UTF-8, its paths are normalised, its numbers are not too large, and its variables are sorted,
--- each name once.
+-- If the bytes of a value are the text of a record, the value is itself a record. So the value's
+-- texts are UTF-8, the paths are normalised, the numbers are not too large, and the variables are
+-- sorted, each name once.
 abbrev pub OnlyRecordsAreSaid : Type 0
 OnlyRecordsAreSaid = (r s : Record) → Says (record_bytes r) s → IsRecord r
 
@@ -35,7 +35,7 @@ abbrev pub PathsHaveNoByte0 : Type 0
 PathsHaveNoByte0 = (path : List ℕ) → IsUtf8Path path → has_byte_0 path ≡ false
 
 -- If the text of a number begins with 0, the number is 0. `NumbersHaveDigits` says that each number
--- has at least one digit. Both are true whatever bytes follow.
+-- has at least one digit. In both laws, any bytes may follow the number.
 abbrev pub NoZeroLeads : Type 0
 NoZeroLeads = (n d : ℕ) (rest more : List ℕ) → number n ++ rest ≡ 48 ∷ d ∷ more → (n ≡ 0) × (d ≡ 10)
 

@@ -6,8 +6,8 @@ use Rattle.pb_record.specs.declared.record.Needed.{Needed}
 use Rattle.pb_record.specs.declared.record.Needed.TheVariants as needed
 use Rattle.pb_record.specs.declared.record.Record.{Record}
 
--- A record's own run number, and the numbers that it has for the units that it needs. A record of
--- format 1 has no numbers.
+-- A record's own run number, and the run numbers with which the record names the needed units. A
+-- record of format 1 has no numbers.
 abbrev pub numbered_in : Needed → Option (ℕ × List (List ℕ × ℕ))
 numbered_in (needed.Copies copies) = None
 numbered_in (needed.Numbers own needs) = Some (own, needs)
@@ -16,11 +16,12 @@ numbered_in (needed.Numbers own needs) = Some (own, needs)
 abbrev pub numbers_of : Record → Numbers
 numbers_of r = record { key = r.key; numbered = numbered_in r.needed }
 
--- `found` has the numbers of the record if the text is that of a record, and is nothing otherwise
+-- `found` has the numbers of the record if the text is the text of a record, and is `None`
+-- otherwise
 abbrev pub AreNumbersOf : List ℕ → Option Numbers → Type 0
 AreNumbersOf text found = (read : List ℕ → Option Record) → FindsAsReading read → found ≡ option_map numbers_of (read text)
 
--- the text is that of a record, and the record has these numbers
+-- the text is the text of a record, and the record has these numbers
 pub record SaysNumbers (text : List ℕ) (numbers : Numbers) : Type 0 where
   pub kept : Record
   pub says : Says text kept

@@ -1,5 +1,6 @@
--- What a record is, apart from its text. Texts are UTF-8, and paths are normalised. Names inside a
--- folder stay inside it, and numbers fit in 64 bits. Variables are sorted by name, each name once.
+-- What a record is, apart from its text. Texts are UTF-8, and paths are normalised. Paths inside a
+-- folder are relative paths, and numbers fit in 64 bits. Variables are sorted by name, each name
+-- once.
 use Rattle.std.specs.Prelude.{◌≡◌, ◌↔◌, ◌<◌, ◌^◌, ℕ, true, List, Option, Some, None}
 use Rattle.std.specs.List.{AllByRecursion}
 use Rattle.std.specs.Str.{IsUtf8}
@@ -65,15 +66,15 @@ pub record IsRecord (r : Record) : Type 0 where
   pub inputs : AllByRecursion IsInput r.inputs
   pub needed : AreNeeded r.needed
 
--- the text is that of the record
+-- `r` is a record, and the text is the text of `r`
 pub record Says (text : List ℕ) (r : Record) : Type 0 where
   pub is : IsRecord r
   pub same : text ≡ record_bytes r
 
--- `found` is the record whose text this is, or nothing if this is not the text of a record
+-- `found` is the record with this text, or `None` if the text is not the text of a record
 abbrev pub ReadsAs : List ℕ → Option Record → Type 0
 ReadsAs text found = (r : Record) → (found ≡ Some r) ↔ Says text r
 
--- for each text, the function returns the record whose text it is, as `ReadsAs` defines
+-- for each text, the function returns what `ReadsAs` defines: the record with this text, or `None`
 abbrev pub FindsAsReading : (List ℕ → Option Record) → Type 0
 FindsAsReading read = (text : List ℕ) → ReadsAs text (read text)

@@ -8,7 +8,7 @@ abbrev pub leads : List ℕ → List (List ℕ × List ℕ) → Bool
 leads name [] = true
 leads name (next ∷ pairs) = is_lt (slice_cmp nat_cmp name next.0)
 
--- each name is less than the next one, so that the names are sorted and all different
+-- each name is less than the next name, so that the names are sorted and all different
 abbrev pub are_sorted : List (List ℕ × List ℕ) → Bool
 are_sorted [] = true
 are_sorted (pair ∷ pairs) = leads pair.0 pairs && are_sorted pairs

@@ -71,7 +71,8 @@ AreRest = AreBoth (AreBoth IsAsked (AllByRecursion IsInput)) (AreBoth (AllByRecu
 abbrev pub IsRest : List ℕ → RestParts → Type 0
 IsRest text p = AreRest p × (text ≡ rest_spelled p ++ line (codes "end"))
 
--- the text consists of such parts and the last line, and the needed units are these
+-- the text consists of `RestParts` and the last line, and `needs` are the needed units in these
+-- parts
 pub record EndsInNeeds (text : List ℕ) (needs : List (List ℕ × ℕ)) : Type 0 where
   pub parts : RestParts
   pub is : IsRest text parts

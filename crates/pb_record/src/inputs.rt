@@ -158,7 +158,7 @@ fn skip_value(alloc: Global, text: &[u8]) -> Result<Option<&[u8]>, AllocError>
     }
 }
 
-/// Adds a line and the two parts after it.
+/// Adds a line and two parts after the line.
 fn write_behind<A: Part, B: Part>(
     line: &[u8],
     first: &A,

@@ -14,10 +14,10 @@ pub fn records_lie_apart()
     ensures longer { MoreBytesSayNothing }
 {}
 
-/// A successful read returns a record. Its texts are UTF-8, its paths are normalised, and no number
-/// exceeds the maximum. The variables are sorted by name, and each name occurs once. If a value
-/// lacks one of these properties, the bytes that spell the value are not a record. A path has no
-/// byte 0.
+/// A successful read returns a record. The record's texts are UTF-8, its paths are normalised, and
+/// no number exceeds the maximum. The variables are sorted by name, and each name occurs once. If a
+/// value lacks one of these properties, the bytes that spell the value are not a record. A path has
+/// no byte 0.
 pub fn only_records_are_read()
     ensures said { OnlyRecordsAreSaid }
     ensures paths { PathsHaveNoByte0 }
@@ -45,8 +45,8 @@ pub fn texts_have_a_reading()
 {}
 
 /// A command, turned into a request and back, is the same command. A request, turned into a command
-/// and back, is the same request. If a command requests the same (`asks_as`) and sets the same
-/// variables (`sets_as`), it is the requested command.
+/// and back, is the same request. If a command agrees with a request (`asks_as`) and sets the same
+/// variables (`sets_as`), the command is the requested command.
 pub fn commands_are_asked()
     ensures command { AskedIsCommand }
     ensures asked { CommandIsAsked }

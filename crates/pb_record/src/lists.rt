@@ -52,7 +52,7 @@ impl<A: Part, B: Part> Part for (A, B) {
     }
 }
 
-/// Returns n parts with which a text begins, and what follows them.
+/// Returns n parts with which a text begins, and what follows these parts.
 fn read_items<T: Part>(
     alloc: Global,
     text: &[u8],

@@ -8,7 +8,7 @@ ghost use Rattle.pb_record.specs.Reading.{BeginsWith, StandsNone, HasNoFeed, beg
 use itoa::Buffer;
 use std::alloc::AllocError;
 
-/// Returns the text before the first line feed, and the text after it.
+/// Returns the text before the first line feed, and the text after this line feed.
 fn split_line(text: &[u8]) -> Option<(&[u8], &[u8])>
     ensures { MatchOption result ((line rest : List ℕ) → text.now ≡ line ++ 10 ∷ rest →
         ⊥) (λ p. (text.now ≡ p.0.now ++ 10 ∷ p.1.now) × HasNoFeed p.0.now) }

@@ -90,8 +90,8 @@ fn numbers_numbered(alloc: Global, text: &[u8]) -> Result<Option<Numbers>, Alloc
     }
 }
 
-/// Returns the `Numbers` of a record of format 1, from its text after the first line. They contain
-/// only the key of the record's unit, since such a record has no run numbers.
+/// Returns the `Numbers` of a record of format 1, from its text after the first line. The result
+/// contains only the key of the record's unit, since such a record has no run numbers.
 fn numbers_copied(alloc: Global, text: &[u8]) -> Result<Option<Numbers>, AllocError>
     ensures { IfOk result (λ found. MatchOption found
         ((r : Record) → Says (line (codes "record 1") ++ text.now) r → ⊥)

@@ -96,7 +96,7 @@ impl<T: Put> Put for Items<T> {
     }
 }
 
-/// Adds a line and the two parts after it.
+/// Adds a line and two parts after the line.
 fn put_behind<A: Put, B: Put>(
     line: &[u8],
     first: A,

@@ -1,5 +1,5 @@
--- How a command differs from the recorded one: in one of its parts, which are compared in a fixed
--- order, or in a variable.
+-- How a command differs from the recorded command: in a part or in a variable. The parts are
+-- compared in a fixed order.
 use Rattle.std.specs.Prelude.{◌≡◌, ◌++◌, ◌∷◌, ◌&&◌, if◌then◌else◌, true, ℕ, List, [], Option, Some, None}
 use Rattle.std.specs.Str.{bytes_eq}
 use Rattle.std.specs.Ordering.{nat_cmp, is_lt}
@@ -12,7 +12,7 @@ use Rattle.pb_record.specs.declared.recorded_command.RecordedCommand.{RecordedCo
 use Rattle.pb_store.specs.declared.difference.CommandPart.{CommandPart}
 use Rattle.pb_store.specs.declared.difference.CommandPart.TheVariants.{Program, Words, Folder, Out, Target, Toolchain, Reads}
 
--- the parts of a command in the order in which they are compared; the variables are not among them
+-- the parts of a command, without the variables, in the order in which they are compared
 abbrev pub parts : List CommandPart
 parts = Program ∷ Words ∷ Folder ∷ Out ∷ Target ∷ Toolchain ∷ Reads ∷ []
 
@@ -31,15 +31,15 @@ abbrev pub lesser : List ℕ → List ℕ → List ℕ
 lesser name other = if is_lt (slice_cmp nat_cmp other name) then other else name
 
 -- The first variables of the two rows differ, and `name` is the lesser of their names. If one row
--- is empty, `name` is that of the other row's first variable.
+-- is empty, `name` is the name of the other row's first variable.
 abbrev pub IsNextName : List (List ℕ × List ℕ) → List (List ℕ × List ℕ) → List ℕ → Type 0
 IsNextName [] [] name = ⊥
 IsNextName [] (y ∷ ys) name = name ≡ y.0
 IsNextName (x ∷ xs) [] name = name ≡ x.0
 IsNextName (x ∷ xs) (y ∷ ys) name = (x ≡ y → ⊥) × (name ≡ lesser x.0 y.0)
 
--- The first name at which two rows of variables differ. Both rows are sorted by name, and begin
--- with the same variables. After these, `name` is as `IsNextName` says.
+-- `name` is the first name at which two rows of variables differ. Both rows begin with the same
+-- variables, `before`. `IsNextName` is true of `name` for what follows in the two rows.
 pub record IsFirstName (row other : List (List ℕ × List ℕ)) (name : List ℕ) : Type 0 where
   pub before : List (List ℕ × List ℕ)
   pub after : List (List ℕ × List ℕ)
@@ -48,7 +48,7 @@ pub record IsFirstName (row other : List (List ℕ × List ℕ)) (name : List �
   pub other_split : other ≡ before ++ behind
   pub next : IsNextName after behind name
 
--- the two rows have different variables at this name, and agree at each lesser name
+-- the two rows differ at this name, and agree at each lesser name
 pub record IsLeastName (row other : List (List ℕ × List ℕ)) (name : List ℕ) : Type 0 where
   pub here : find (slice_cmp nat_cmp) name row ≡ find (slice_cmp nat_cmp) name other → ⊥
   pub below : (less : List ℕ) → slice_cmp nat_cmp less name ≡ Less → find (slice_cmp nat_cmp) less row ≡ find (slice_cmp nat_cmp) less other

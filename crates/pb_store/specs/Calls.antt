@@ -1,5 +1,5 @@
--- How a call of the store changes the place, which call of the place failed, and what its fault
--- was.
+-- How a call of the store changes the place, which call of the place failed, and what the failed
+-- call's fault was.
 use Rattle.std.specs.Prelude.{◌≡◌, ◌⊎◌, ℕ, List, Option, Some, None, Result, MatchResult, Bool, true, false, IsTrue, Contains, IfErr}
 use Rattle.pb_place_types.specs.At.{At}
 use Rattle.pb_place_types.specs.CallsInTurn.{Fails}
@@ -28,7 +28,7 @@ abbrev pub fault_in_opening : List ℕ → PlaceFault → OpenFault
 fault_in_opening path place.OutOfMemory = open_fault.OutOfMemory
 fault_in_opening path fault = open_fault.Place path fault
 
--- a call of the place failed in this way, and no call came after it
+-- a call of the place failed in this way, and no call came after the failed call
 abbrev pub FailedLast : Failure → Counts → Counts → Type 0
 FailedLast failure old new = (new.failures ≡ up old.failures) × (new.late ≡ 0) × (new.last ≡ Some failure)
 
@@ -40,7 +40,7 @@ HasCause NumbersSpent old new = new.failures ≡ old.failures
 HasCause OutOfMemory old new = new.failures ≡ old.failures
 
 -- How a call of the store changes the counters. The call starts no child. If the call succeeds, no
--- call of the place failed. If not, the fault is allowed and has its cause.
+-- call of the place failed. If the call fails, the call's fault is allowed and has its cause.
 abbrev pub CountsAs : {T : Type 0} → (StoreFault → Type 0) → Result T StoreFault → Counts → Counts → Type 0
 CountsAs May result old new = (new.starts ≡ old.starts) × MatchResult result (λ x. new.failures ≡ old.failures) (λ e. May e × HasCause e old new)
 
@@ -96,20 +96,21 @@ abbrev pub FailsToOpen : OpenFault → Counts → Counts → Type 0
 FailsToOpen (open_fault.Place path fault) old new = ((fault ≡ place.List) ⊎ (fault ≡ place.Read)) × FailedLast (Called fault) old new × (named_in new ≡ path)
 FailsToOpen open_fault.OutOfMemory old new = new.failures ≡ old.failures
 
--- How opening changes the counters. Opening starts no child. After a success no call of the place
--- has failed. A fault has its cause.
+-- How opening changes the counters. Opening starts no child. If opening succeeds, no call of the
+-- place failed. If opening fails, the fault has its cause.
 abbrev pub CountsAsOpen : {T : Type 0} → Result T OpenFault → Counts → Counts → Type 0
 CountsAsOpen result old new = (new.starts ≡ old.starts) × MatchResult result (λ x. new.failures ≡ old.failures) (λ e. FailsToOpen e old new)
 
--- How one call of the place ended with this fault of the store. If it is a fault of the place, the
--- call failed with this fault. If no number is left, the call was not made. If memory ran out, the
--- call may have been made.
+-- How one call of the place ended, given the fault of the store. If the store's fault is a fault of
+-- the place, the call failed with this fault. If no number is left, the call was not made. If
+-- memory ran out, the call may have been made.
 abbrev pub EndsOnce : Call → StoreFault → Counts → Counts → Type 0
 EndsOnce call (Place fault) old new = Fails fault call old new
 EndsOnce call NumbersSpent old new = new ≡ old
 EndsOnce call OutOfMemory old new = (new ≡ old) ⊎ (new ≡ past_call old)
 
--- this one call of the place was made, and if it failed, its fault is reported
+-- after a success this one call of the place was made; after an error the call ended as `EndsOnce`
+-- says
 abbrev pub CallsOnce : {T : Type 0} → Call → Result T StoreFault → Counts → Counts → Type 0
 CallsOnce call result old new = MatchResult result (λ x. new ≡ past_call old) (λ e. EndsOnce call e old new)
 
@@ -117,8 +118,7 @@ CallsOnce call result old new = MatchResult result (λ x. new ≡ past_call old)
 abbrev pub FailsToWrite : {T : Type 0} → List ℕ → Result T StoreFault → Counts → Type 0
 FailsToWrite path result new = IfErr result (λ e. e ≡ Place place.Write → new.failing ≡ Some (call.Write path))
 
--- the fault is that of a call that looks: a call that reads a file, lists a folder or reads a
--- variable
+-- the fault comes from a call that reads a file, lists a folder or reads a variable
 abbrev pub is_look : PlaceFault → Bool
 is_look place.Read = true
 is_look place.List = true
@@ -127,41 +127,41 @@ is_look place.Remove = false
 is_look place.Variable = true
 is_look place.OutOfMemory = false
 
--- the fault comes from a call that looks
+-- the store's fault comes from a call that reads a file, lists a folder or reads a variable
 abbrev pub looked : StoreFault → Bool
 looked (Place fault) = is_look fault
 looked NumbersSpent = false
 looked OutOfMemory = false
 
--- either a record among these files could not be read, and the fault names this file, or memory ran
--- out
+-- either memory ran out, or a record could not be read and the fault names the record's path, which
+-- is one of these paths
 abbrev pub ReadsOneOf : List (List ℕ) → OpenFault → Type 0
 ReadsOneOf paths (open_fault.Place at fault) = (fault ≡ place.Read) × Contains paths at × (ends_as_record at ≡ true)
 ReadsOneOf paths open_fault.OutOfMemory = Unit {0}
 
--- The fault says that the folder could not be listed, that a record directly in it could not be
--- read, or that memory ran out.
+-- The fault says that memory ran out, that the folder could not be listed, or that a record
+-- directly in the folder could not be read.
 abbrev pub OpensBy : Bool → List ℕ → World → OpenFault → Type 0
 OpensBy is_modelled folder w (open_fault.Place at fault) = ((fault ≡ place.List) × (at ≡ folder)) ⊎ ((fault ≡ place.Read) × (ends_as_record at ≡ true) × (IsTrue is_modelled → Contains (listed_directly folder w) at))
 OpensBy is_modelled folder w open_fault.OutOfMemory = Unit {0}
 
--- A call of the store only looks: it changes nothing but the counters. If a call of the place
--- failed, its fault is allowed, and no call came after it.
+-- This call of the store changes nothing but the counters. If a call of the place failed, the
+-- failed call's fault is allowed, and no call came after the failed call.
 pub record OnlyLooks {T : Type 0} (May : StoreFault → Type 0) (result : Result T StoreFault) (old new : At) : Type 0 where
   pub world : new.world ≡ old.world
   pub most : new.most ≡ old.most
   pub still : KeepsStill old.still new.still
   pub takes : CountsAs May result old.counts new.counts
 
--- Opening only looks: nothing changes but the counters. A fault of opening has its cause.
+-- Opening a store changes nothing but the counters. A fault of opening has its cause.
 pub record OnlyOpens {T : Type 0} (result : Result T OpenFault) (old new : At) : Type 0 where
   pub world : new.world ≡ old.world
   pub most : new.most ≡ old.most
   pub still : KeepsStill old.still new.still
   pub takes : CountsAsOpen result old.counts new.counts
 
--- A call of the store changes files only at these paths, and starts no child. If a call of the
--- place failed, its fault is allowed, and no call came after it.
+-- This call of the store changes files only at these paths, and starts no child. If a call of the
+-- place failed, the failed call's fault is allowed, and no call came after the failed call.
 pub record ChangesOnlyAt {T : Type 0} (inside : List ℕ → Bool) (May : StoreFault → Type 0) (result : Result T StoreFault) (old new : At) : Type 0 where
   pub only : ChangesOnly inside old.world new.world
   pub most : new.most ≡ old.most

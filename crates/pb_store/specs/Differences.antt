@@ -24,8 +24,8 @@ use Rattle.pb_store.specs.declared.replaying.Compared.{Compared}
 use Rattle.pb_store.specs.declared.replaying.Compared.TheVariants.{Differs, Same}
 use Rattle.pb_store.specs.declared.replaying.Replayed.{Replayed}
 
--- `b` is what `told` says about the first item of the row for which `Holds` is false. For all items
--- before that one, `Holds` is true.
+-- `b` is `told` of the first item of the row for which `Holds` is false. `Holds` is true for all
+-- items before this item.
 pub record IsFirst {A B : Type 0} (Holds : A → Type 0) (told : A → B) (row : List A) (b : B) : Type 0 where
   pub before : List A
   pub here : A
@@ -36,17 +36,17 @@ pub record IsFirst {A B : Type 0} (Holds : A → Type 0) (told : A → B) (row :
   pub tells : b ≡ told here
 
 -- If no name is reported, `Holds` is true for all items of the row. Otherwise the reported name is
--- that of the first item for which `Holds` is false.
+-- the name of the first item for which `Holds` is false.
 abbrev pub FirstOrAll : {A : Type 0} → ((List ℕ × A) → Type 0) → List (List ℕ × A) → Option (List ℕ) → Type 0
 FirstOrAll Holds row None = AllByRecursion Holds row
 FirstOrAll Holds row (Some b) = IsFirst Holds (λ x. x.0) row b
 
--- the input has the value that the world now has for it
+-- the recorded value of the input is its value in this world
 abbrev pub IsPresent : List ℕ → World → inputs.Input → Type 0
 IsPresent target w i = input_in target w (name_of i) ≡ i
 
--- The report on a row of inputs: the name of the first input without its present value. If each
--- input has its present value, no name is reported.
+-- The report on a row of recorded inputs: the name of the first input with a value that has
+-- changed. If no value has changed, no name is reported.
 abbrev pub FirstInput : List ℕ → List inputs.Input → World → Option InputName → Type 0
 FirstInput target row w None = Agrees target row w
 FirstInput target row w (Some name) = IsFirst (IsPresent target w) name_of row name
@@ -55,13 +55,13 @@ FirstInput target row w (Some name) = IsFirst (IsPresent target w) name_of row n
 abbrev pub HasNumber : RecordMap → (List ℕ × ℕ) → Type 0
 HasNumber at need = number_if (at need.0) ≡ Some need.1
 
--- the needed unit is named by a relative path, and its folder contains exactly the files in the
--- pair
+-- the pair names the needed unit by a relative path, and the unit's folder contains exactly the
+-- files in the pair
 abbrev pub HasFiles : List ℕ → Map → (List ℕ × List (List ℕ × List ℕ)) → Type 0
 HasFiles folder files need = (is_relative need.0 ≡ true) × (contents (out_of folder need.0) files ≡ need.1)
 
--- The needed units are as the record names them, by numbers or by copies. `FirstNeed` is the first
--- unit, in the record's order, that is not as the record names it.
+-- The needed units are still as the record names them: by run numbers, or by copies of their files.
+-- `FirstNeed` is the first needed unit, in the record's order, for which this is false.
 abbrev pub AreNeeded : List ℕ → RecordMap → Map → Needed → Type 0
 AreNeeded folder at files (Copies copies) = AllByRecursion (HasFiles folder files) copies
 AreNeeded folder at files (Numbers number needs) = AllByRecursion (HasNumber at) needs
@@ -70,8 +70,8 @@ abbrev pub FirstNeed : List ℕ → RecordMap → Map → Needed → List ℕ �
 FirstNeed folder at files (Copies copies) need = IsFirst (HasFiles folder files) (λ c. c.0) copies need
 FirstNeed folder at files (Numbers number needs) need = IsFirst (HasNumber at) (λ n. n.0) needs need
 
--- Nothing differs from the record. The record has this command, and its inputs have their present
--- values. The needed units are as the record names them.
+-- Nothing differs from the record. The record has this command, and each recorded input has the
+-- recorded value now. The needed units are as the record names them.
 pub record IsAsRecorded (folder : List ℕ) (at : RecordMap) (c : commands.Command) (w : World) (r : Record) : Type 0 where
   pub asked : command_of r.asked ≡ c
   pub inputs : Agrees c.target r.inputs w
@@ -91,8 +91,9 @@ abbrev pub FirstFrom : List ℕ → RecordMap → commands.Command → World →
 FirstFrom folder at c w r None = IsAsRecorded folder at c w r
 FirstFrom folder at c w r (Some d) = DiffersFrom folder at c w r d
 
--- The report on a unit. If no record counts for the unit, this is `NoRecord`. Otherwise it is the
--- report on the unit's record. `FirstDifference` is this report for a folder of a world.
+-- The report on a unit. If no record counts for the unit, the report is `NoRecord`. Otherwise the
+-- report is `FirstFrom` for the unit's record. `FirstDifference` is this report for a folder of a
+-- world.
 abbrev pub FirstOf : List ℕ → RecordMap → commands.Command → World → Option Record → Option Difference → Type 0
 FirstOf folder at c w None found = found ≡ Some NoRecord
 FirstOf folder at c w (Some r) found = FirstFrom folder at c w r found
@@ -109,8 +110,8 @@ NamesPaths (Numbers number needs) = Unit {0}
 abbrev pub NothingDiffers : List ℕ → List ℕ → World → Type 0
 NothingDiffers folder key w = (c : commands.Command) × FirstDifference folder key c w None
 
--- If nothing differs from a unit's record, `IsSame` is true of the record. The converse is true if
--- the record names each unit by a relative path.
+-- If nothing differs from a unit's record, `IsSame` is true of the record. If `NamesPaths` is true
+-- of the needed units in the record, the converse is true, too.
 pub record UnchangedIsSame : Type 0 where
   pub same : (folder key : List ℕ) (c : commands.Command) (w : World) → FirstDifference folder key c w None → (r : Record) × IsSame reading folder key c w r
   pub none : (folder key : List ℕ) (c : commands.Command) (w : World) (r : Record) → IsSame reading folder key c w r → NamesPaths r.needed → FirstDifference folder key c w None
@@ -126,8 +127,8 @@ same_files [] (y ∷ ys) = false
 same_files (x ∷ xs) [] = false
 same_files (x ∷ xs) (y ∷ ys) = (bytes_eq x.0 y.0 && bytes_eq x.1 y.1) && same_files xs ys
 
--- What a record replays: a child that ended well and wrote the recorded streams, and whether the
--- record has a number.
+-- What a record replays: a child that ended well and wrote the recorded streams. It also says
+-- whether the record has a number.
 abbrev pub replayed : Record → Replayed
 replayed r = record { ended = record { status = pos 0; stdout = r.stdout; stderr = r.stderr }; numbered = is_some (number_of r) }
 
@@ -140,7 +141,7 @@ abbrev pub difference_in : Compared → Option Difference
 difference_in (Differs difference) = Some difference
 difference_in (Same again) = None
 
--- if a comparison found no difference, it contains what the record replays
+-- if a comparison found no difference, the comparison contains what the record replays
 abbrev pub CarriesReplayed : Option Record → Compared → Type 0
 CarriesReplayed found (Differs difference) = Unit {0}
 CarriesReplayed found (Same again) = IsReplayed found again

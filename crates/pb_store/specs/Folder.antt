@@ -1,4 +1,4 @@
--- How each call of the store changes the store's run numbers and the records in its folder.
+-- How each call of the store changes the store's run numbers and the records in the store's folder.
 use Rattle.std.specs.Prelude.{◌≡◌, ℕ, List, Option, Some, None, ◌⊎◌, pos, ◌↔◌, ◌<◌, true, map, Contains, Bool, false, not, is_some, Result, IfErr, if◌then◌else◌, max, Err, OnOk, MatchResult}
 use Rattle.std.specs.FinMap as finite
 use Rattle.std.specs.List.{fold}
@@ -30,16 +30,16 @@ use Rattle.pb_store.specs.declared.fault.StoreFault.TheVariants.{Place, NumbersS
 use Rattle.pb_store.specs.declared.replaying.Compared.{Compared}
 use Rattle.pb_store.specs.declared.store.Store.{Store}
 
--- the run number that a table has for a key, if it has one
+-- the run number that a table has for a key, if there is such a number
 abbrev pub number_in : List (List ℕ × Option ℕ) → List ℕ → Option ℕ
 number_in table key = option_and_then (λ (number : Option ℕ). number) (value_at key table)
 
--- the table has, for the pair's key, the pair's number
+-- the table has the pair's number for the pair's key
 abbrev pub IsHeld : List (List ℕ × Option ℕ) → (List ℕ × ℕ) → Type 0
 IsHeld table need = number_in table need.0 ≡ Some need.1
 
--- the table has, for each key, the run number of the record that counts for the key, if there is
--- one
+-- for each key, the table has the number of the record that counts for the key, or no number if no
+-- record counts
 abbrev pub HasNumbers : RecordMap → List (List ℕ × Option ℕ) → Type 0
 HasNumbers at table = (key : List ℕ) → number_in table key ≡ number_if (at key)
 
@@ -50,7 +50,8 @@ pub data ReadBy (at : RecordMap) (folder : List ℕ) (needs : List (List ℕ)) (
   further : (need : List ℕ) (s : Record) → Contains needs need → at need ≡ Some s → Contains s.asked.reads f → ReadBy at folder needs f
 
 -- Each needed unit has a record of format 2, with a number below `number`. The folders in `reads`
--- are exactly the folders of these units and the folders that the commands in their records read.
+-- are exactly the folders of these units and the folders that the commands in these units' records
+-- read.
 pub record HasNeeds (at : RecordMap) (folder : List ℕ) (reads : List (List ℕ)) (needs : List (List ℕ)) (number : ℕ) : Type 0 where
   pub stand : (need : List ℕ) → Contains needs need → (s : Record) × (at need ≡ Some s) × ((n : ℕ) × (number_of s ≡ Some n) × (n < number))
   pub reads_are : (f : List ℕ) → Contains reads f ↔ ReadBy at folder needs f
@@ -59,7 +60,7 @@ abbrev pub or_zero : Option ℕ → ℕ
 or_zero None = 0
 or_zero (Some n) = n
 
--- the needed units, each with the number of its record
+-- each needed unit, with the number of the unit's record
 abbrev pub numbered : RecordMap → List (List ℕ) → List (List ℕ × ℕ)
 numbered at needs = map (λ (need : List ℕ). (need, or_zero (number_if (at need)))) needs
 
@@ -73,7 +74,7 @@ pub record IsEarned (judge : Judge) (child : Answers) (folder key : List ℕ) (c
   pub stderr : (reply_in child c w).stderr ≡ ended.stderr
   pub files : replied_files (out_of folder key) (reply_in child c w) ≡ files_in (out_of folder key) w.files
 
--- the record that is kept for a unit
+-- the record that the store keeps for a unit, made of these parts
 abbrev pub kept_of : List ℕ → List ℕ → Command → List Input → ℕ → List (List ℕ × ℕ) → Ended → Record
 kept_of folder key c inputs number pairs ended = record { key = key; asked = of_parts c (out_of folder key); inputs = inputs; needed = Numbers number pairs; stdout = ended.stdout; stderr = ended.stderr }
 
@@ -82,8 +83,8 @@ kept_of folder key c inputs number pairs ended = record { key = key; asked = of_
 abbrev pub Leaves : Option Record → Option Record → Option Record → Type 0
 Leaves put old new = (new ≡ None) ⊎ ((new ≡ old) ⊎ (new ≡ put))
 
--- When a record may be kept. The answer is earned, the needed units have their records, and no
--- record has or names this number. The kept record is then true.
+-- When a record may be kept. The unit's answer is earned, the needed units have their records, and
+-- no record has or names the new number. The kept record is then true.
 pub record IsKept (judge : Judge) (child : Answers) (folder key : List ℕ) (c : Command) (needs : List (List ℕ)) (names : List InputName) (ended : Ended) (number : ℕ) (w : World) : Type 0 where
   pub earned : IsEarned judge child folder key c names ended w
   pub needs_stand : HasNeeds (records folder w) folder c.reads needs number
@@ -91,7 +92,7 @@ pub record IsKept (judge : Judge) (child : Answers) (folder key : List ℕ) (c :
 
 -- When a record may be put into the folder. The record contains the reply of an honest child in
 -- this world. Each unit that the record names has a record with the named number. No record that
--- counts contains this unit's key together with this run number.
+-- counts names this unit with this run number.
 pub record MayPut (read : RecordParser) (judge : Judge) (child : Answers) (folder key : List ℕ) (w : World) (r : Record) (number : ℕ) : Type 0 where
   pub honest : IsHonest judge child (command_of r.asked) w
   pub agree : Agrees r.asked.target r.inputs w
@@ -125,7 +126,7 @@ migrated next pairs None = None
 migrated next pairs (Some r) = migrated_by (number_of r) next pairs r
 
 -- When a record may be migrated. Nothing differs from the old record, and the child is honest on
--- its command. All units with a folder in the command's `reads` are grounded. The needed units have
+-- the command. All units with a folder in the command's `reads` are grounded. The needed units have
 -- their records. No record has or names the new number. The new record is then true.
 pub record IsMigrated (judge : Judge) (child : Answers) (folder key : List ℕ) (c : Command) (needs : List (List ℕ)) (number : ℕ) (w : World) (r : Record) : Type 0 where
   pub same : IsSame reading folder key c w r
@@ -134,7 +135,7 @@ pub record IsMigrated (judge : Judge) (child : Answers) (folder key : List ℕ) 
   pub needs_stand : HasNeeds (records folder w) folder c.reads needs number
   pub unnamed : NoneNames (records folder w) number
 
--- the next number was taken, and the number after it is now the next number
+-- the old next number was taken, and the number after the taken number is the new next number
 abbrev pub TakesNext : Option ℕ → Option ℕ → Type 0
 TakesNext old new = (number : ℕ) × (old ≡ Some number) × (new ≡ after number)
 
@@ -142,8 +143,8 @@ TakesNext old new = (number : ℕ) × (old ≡ Some number) × (new ≡ after nu
 abbrev pub TakesNumber : Option ℕ → Option ℕ → Type 0
 TakesNumber old new = (new ≡ old) ⊎ TakesNext old new
 
--- How a migration changes the next number. If a look failed, no number was taken. If the write
--- failed, the number was taken.
+-- How a migration changes the next number. If reading a file, listing a folder or reading a
+-- variable failed, no number was taken. If the write failed, the number was taken.
 pub record MigratesNext (result : Result Unit StoreFault) (old new : Option ℕ) : Type 0 where
   pub next : TakesNumber old new
   pub before : IfErr result (λ e. looked e ≡ true → new ≡ old)
@@ -159,7 +160,7 @@ greatest_if None = 0
 greatest_if (Some r) = greatest_named r.needed
 
 -- The greatest number that the record at a path has or names, even if the record does not count.
--- `greatest_of` is the greatest number for any of these paths.
+-- `greatest_of` is the greatest such number for a list of paths.
 abbrev pub greatest_at : Map → List ℕ → ℕ
 greatest_at m path = if ends_as_record path then greatest_if (read_text reading (finite.get m path)) else 0
 
@@ -172,15 +173,15 @@ greatest_of m paths = fold (λ g path. max g (greatest_at m path)) 0 paths
 abbrev pub next_in : List ℕ → World → Option ℕ
 next_in folder w = after (greatest_of w.files (listed_directly folder w))
 
--- The store of a folder has the folder's next run number and the run numbers of its records. The
--- next number is above all numbers that a record has or names.
+-- The store of a folder has the folder's next run number and the run numbers of the folder's
+-- records. The next number is above all numbers that a record has or names.
 pub record OpensStore (folder : List ℕ) (w : World) (store : Store) : Type 0 where
   pub next : store.next ≡ next_in folder w
   pub ahead : IsAhead (records folder w) store.next
   pub numbers : HasNumbers (records folder w) store.numbers
 
--- A comparison of a unit contains the unit's first difference. If nothing differs, it contains what
--- the unit's record replays.
+-- A comparison of a unit contains the unit's first difference. If nothing differs, the comparison
+-- contains what the unit's record replays.
 pub record Compares (folder key : List ℕ) (c : Command) (w : World) (compared : Compared) : Type 0 where
   pub first : FirstDifference folder key c w (difference_in compared)
   pub carries : CarriesReplayed (records folder w key) compared
@@ -189,8 +190,8 @@ pub record Compares (folder key : List ℕ) (c : Command) (w : World) (compared 
 abbrev pub IsGiven : ℕ → Option ℕ → Option ℕ → Type 0
 IsGiven number old new = (old ≡ Some number) × (new ≡ after number)
 
--- A unit's record after a call. After a success this is `put`, the record that the call was to
--- keep. After a fault it is as `Leaves` says.
+-- A unit's record after a call. After a success the record is `put`, which the call was to keep.
+-- After a fault the record is as `Leaves` says.
 abbrev pub IsAfterPut : {T : Type 0} → Result T StoreFault → Option Record → Option Record → Option Record → Type 0
 IsAfterPut result put old new = MatchResult result (λ x. new ≡ put) (λ e. Leaves put old new)
 
@@ -220,8 +221,8 @@ pub record PutsRecord (child : Answers) (folder key : List ℕ) (r : Record) (re
   pub ahead : (next : Option ℕ) → NamesBefore next r → IsAhead (records folder old) next → IsAhead (records folder new) next
 
 -- What keeping a record guarantees. If `IsKept` is true, the folder stays sound. If `number` was
--- taken before and the needed units have their records, the next number stays above all others.
--- After a success the store has the numbers of the records. If a look failed, nothing has changed.
+-- taken and the needed units have records, the next number stays above all others. After a success
+-- the store has the records' numbers. If a look failed, nothing changed.
 pub record KeepsRecord (child : Answers) (key : List ℕ) (c : Command) (needs : List (List ℕ)) (names : List InputName) (ended : Ended) (number : ℕ) (result : Result Unit StoreFault) (old new : Store) (before now : World) : Type 0 where
   pub sound : (judge : Judge) → IsKept judge child old.folder key c needs names ended number before → Sound reading judge child old.folder before.files → Sound reading judge child old.folder now.files
   pub stands : IsAfterPut result (Some (kept_of old.folder key c (map (input_in c.target before) names) number (numbered (records old.folder before) needs) ended)) (records old.folder before key) (records old.folder now key)

@@ -7,7 +7,7 @@ use Rattle.pb_store.specs.declared.comparing.Matching.{Matching}
 abbrev pub Files : Type 0
 Files = List (List ℕ × List ℕ)
 
--- the result of the comparison: nothing has differed so far, and these files are the recorded files
--- that are left
+-- the result of the comparison: nothing has differed so far, and `files` are the recorded files
+-- that are left to compare
 abbrev pub matched : Matching → Files → Bool
 matched matching files = if matching.same then same_files files matching.left.now else false

@@ -36,7 +36,7 @@ fn is_same_file(file: &(RelativePath, Bytes), other: &(RelativePath, Bytes)) -> 
 struct Matching<'a> {
     /// Whether all files so far are equal to the recorded files.
     same: bool,
-    /// The recorded files that are left.
+    /// The recorded files that are left to compare.
     left: &'a [(RelativePath, Bytes)],
 }
 
@@ -145,8 +145,7 @@ pub(crate) fn are_files<P: Place>(
 }
 
 /// Returns whether the file at a path has these bytes. If there is no file at the path, the
-/// function looks for a folder there. The function that reads the present value makes the same
-/// calls.
+/// function looks for a folder there. `path_now` makes the same calls to read the present value.
 fn is_file_present<P: Place>(
     alloc: Global,
     place: &mut P,

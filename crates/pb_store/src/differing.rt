@@ -66,7 +66,7 @@ fn first_input<P: Place>(
     Ok(None)
 }
 
-/// Returns the path of a unit's output folder, or none if the text is not a relative path.
+/// Returns the path of a unit's output folder, or none if the unit's key is not a relative path.
 fn out_path(alloc: Global, folder: &PathText, key: &Text) -> Result<Option<PathText>, AllocError>
     ensures { IfOk result (λ found. MatchOption found (is_relative key.now ≡ false)
         (λ path. (is_relative key.now ≡ true) × (path ≡ out_of folder.now key.now))) }
@@ -219,9 +219,9 @@ fn first_from<P: Place>(
 impl Store {
     /// Returns the first difference between a unit and its record. `command` is the command with
     /// which the unit would be built now. If nothing differs, the recorded answer is returned. The
-    /// inputs are read and compared one after another, up to and including the first that differs.
-    /// The records of needed units are not read, because the store has their run numbers. The rule
-    /// for when a unit is built again is our own choice.
+    /// inputs are read and compared one after another, up to and including the first input that
+    /// differs. The records of needed units are not read, because the store has their run numbers.
+    /// The rule for when a unit is built again is our own choice.
     ///
     /// Errors:
     ///
@@ -239,7 +239,7 @@ impl Store {
         ensures compares { IsTrue P.is_modelled →
             IfOk result (Compares self.now.folder key.now command.now (P.at place.old).world) }
 
-        // The call only looks, and no further than the first difference.
+        // The call changes only counters, and looks no further than the first difference.
         ensures quiet { OnlyLooks MayLook result (P.at place.old) (P.at place.new) }
         ensures looks { IsTrue P.is_modelled →
             Looks result (unit_looked self.now.folder key.now command.now (P.at place.old).world)
@@ -265,8 +265,8 @@ impl Store {
         }
     }
 
-    /// Returns the first difference between a unit and its record, or none. The calls are those of
-    /// `compare`.
+    /// Returns the first difference between a unit and its record, or none. The function makes the
+    /// same calls as `compare`.
     ///
     /// Errors: those of `compare`.
     pub fn differs<P: Place>(
@@ -282,7 +282,7 @@ impl Store {
             IfOk result
             (FirstDifference self.now.folder key.now command.now (P.at place.old).world) }
 
-        // The call only looks, and no further than the first difference.
+        // The call changes only counters, and looks no further than the first difference.
         ensures quiet { OnlyLooks MayLook result (P.at place.old) (P.at place.new) }
         ensures looks { IsTrue P.is_modelled →
             Looks result (unit_looked self.now.folder key.now command.now (P.at place.old).world)

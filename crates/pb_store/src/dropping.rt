@@ -27,7 +27,7 @@ pub(crate) fn number_after(number: u64) -> Option<u64>
     }
 }
 
-/// Removes a path.
+/// Removes everything at or below a path.
 fn remove<P: Place>(alloc: Global, place: &mut P, path: &PathText) -> Result<(), StoreFault>
     ensures ok { IsTrue P.is_modelled →
         OnOk result ((P.at place.new).world ≡ removed path.now (P.at place.old).world) }
@@ -72,9 +72,10 @@ fn remove_record<P: Place>(
 }
 
 impl Store {
-    /// Removes the record of a unit, and returns the run number of its next record. If no number is
-    /// left, the function removes nothing. After an error no number is taken, and the record may
-    /// still exist. The contract then promises nothing about the run numbers in the store.
+    /// Removes the record of a unit, and returns the run number of the unit's next record. If no
+    /// number is left, the function removes nothing. After an error no number is taken, and the
+    /// record may still exist. After an error the contract promises nothing about the run numbers
+    /// in the store.
     ///
     /// Errors:
     ///
@@ -107,7 +108,7 @@ impl Store {
         ensures calls { CallsOnce (call.Remove (record_path self.old.folder key.now)) result
             (P.at place.old).counts (P.at place.new).counts }
     {
-        // The number comes first: if no number is left, nothing is removed.
+        // The number is checked before the removal: if no number is left, nothing is removed.
         let number = match self.next {
             None => return Err(StoreFault::NumbersSpent),
             Some(number) => number,

@@ -163,7 +163,7 @@ fn sources_in<P: Place>(
     }
 }
 
-/// Returns the text of a variable, or none if it is not set.
+/// Returns the text of a variable, or none if the variable is not set.
 #[tactic(auto, using(crate::proofs::Looking::stops_once))]
 pub(crate) fn text_in<P: Place>(
     alloc: Global,
@@ -182,7 +182,7 @@ pub(crate) fn text_in<P: Place>(
     }
 }
 
-/// Returns the present value of a path: a file, or a folder.
+/// Returns the present value of a path: the bytes of a file, or the files of a folder.
 fn path_now<P: Place>(
     alloc: Global,
     place: &mut P,

@@ -235,7 +235,8 @@ fn stood_still<P: Place>(
 }
 
 /// Writes a record, unless the child of this command read something that has moved. The check comes
-/// after the record is made. So whatever changes after the check differs from the recorded value.
+/// after the recorded values are read. So a value that changes after the check differs from the
+/// recorded value.
 fn put_still<P: Place>(
     alloc: Global,
     place: &mut P,
@@ -268,9 +269,9 @@ impl Store {
     /// returned.
     ///
     /// `needs` are the keys of the units that the unit needs, in plan order. `names` are the inputs
-    /// found in the unit's answer. The function reads and records their present values. After an
-    /// error the unit has no record, its old record, or the new record. The contract then promises
-    /// nothing about the run numbers in the store.
+    /// found in the unit's answer. The function reads and records the present values of these
+    /// inputs. After an error the unit has no record, its old record, or the new record. After an
+    /// error the contract promises nothing about the run numbers in the store.
     ///
     /// Errors: `Place` if an input cannot be read or the record cannot be written; `OutOfMemory`.
     ///
@@ -295,8 +296,8 @@ impl Store {
         requires numbers { IsTrue P.is_modelled →
             HasNumbers (records self.old.folder (P.at place.old).world) self.old.numbers }
 
-        // The unit has the new record. After an error it has the new record, its old record, or no
-        // record.
+        // The unit has the new record. After an error the unit has the new record, its old record,
+        // or no record.
         ensures record { IsTrue P.is_modelled →
             KeepsRecord P.child key.now command.now needs.now names.now ended.now number result
             self.old self.new (P.at place.old).world (P.at place.new).world }

@@ -5,7 +5,7 @@ ghost use Rattle.pb_store.specs.Differences.{DifferencesAreOne, UnchangedIsSame}
 ghost use Rattle.pb_store.specs.Looking.{TestsDecide};
 
 /// States that the world determines the first difference of a unit. If two calls of `differs` in
-/// the same world return no error, both return the same.
+/// the same world return no error, both return the same difference, or both return none.
 pub fn differences_are_one()
     ensures { DifferencesAreOne }
 {}
@@ -28,8 +28,9 @@ pub fn tests_decide()
     ensures { TestsDecide }
 {}
 
-/// States that nothing differs from a unit's record if and only if the record contains what a child
-/// would answer.
+/// States how the comparison and `IsSame` agree. If nothing differs from a unit's record, `IsSame`
+/// is true of the record. The converse is true if `NamesPaths` is true of the needed units in the
+/// record.
 pub fn unchanged_is_same()
     ensures { UnchangedIsSame }
 {}

@@ -1,5 +1,5 @@
-//! The records of a profile folder. They are opened, compared with the present, replayed, dropped,
-//! kept and renewed, and the folder is sound after every call.
+//! The records of a profile folder. Records are compared with the present, replayed, dropped, kept
+//! and migrated, and the folder is sound after every call.
 #![tactic(auto)]
 
 mod asking;

@@ -98,8 +98,8 @@ impl Store {
     /// names the needed units by their numbers. If the record is of format 2, or no record counts,
     /// the function changes nothing. `needs` are the keys of the units that the unit needs, in plan
     /// order. After an error the unit has its old record, no record, or the new record. If the
-    /// write failed, the number is taken; after any other error it may be taken. The contract then
-    /// promises nothing about the run numbers in the store.
+    /// write failed, the number is taken; after any other error it may be taken. After an error the
+    /// contract promises nothing about the run numbers in the store.
     ///
     /// Errors:
     ///

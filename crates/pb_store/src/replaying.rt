@@ -23,7 +23,7 @@ pub struct Replayed {
 pub enum Compared {
     /// The first difference.
     Differs(Difference),
-    /// Nothing differs, and the record replays this instead of the unit's child.
+    /// Nothing differs; this is what the record replays, without a child.
     Same(Replayed),
 }
 

@@ -20,8 +20,9 @@ use std::alloc::{AllocError, Global};
 pub struct Store {
     /// The profile folder.
     pub folder: PathText,
-    /// The next run number. It is above each number that a record of the folder has or names. It is
-    /// also above each number that was taken since the store was opened. None if no number is left.
+    /// The next run number, or `None` if no number is left. This number is above each number that a
+    /// record of the folder has or names. This number is also above each number that was taken
+    /// since the store was opened.
     pub next: Option<u64>,
     /// The run numbers of the records that count in the folder, by the units' keys. After a failed
     /// removal or write of a record, contracts promise nothing about these numbers.

@@ -1,5 +1,5 @@
--- What a unit's answer rests on, apart from its command and the units that it reaches, and when a
--- child repeats a good reply.
+-- Inputs: what a unit's answer rests on, besides the unit's command and the units that this unit
+-- reaches. `IsHonest` says when a child repeats a good reply.
 use Rattle.std.specs.Prelude.{◌≡◌, ℕ, true, List, map, length, drop, ◌+◌, Option, Some, None}
 use Rattle.std.specs.FinMap as finite
 use Rattle.std.specs.List.{AllByRecursion, list_any}
@@ -36,7 +36,7 @@ name_of (File path bytes) = Path path
 name_of (Tree path files) = Path path
 name_of (Value name text) = Variable name
 
--- these inputs have the values that the world now has for them
+-- in this world, each of these inputs has the recorded value
 abbrev pub Agrees : List ℕ → List Input → World → Type 0
 Agrees target inputs w = AllByRecursion (λ i. input_in target w (name_of i) ≡ i) inputs
 
@@ -48,13 +48,14 @@ SameBelow folders m n = (q : List ℕ) → list_any (λ folder. is_below folder 
 abbrev pub reply_in : Answers → Command → World → Reply
 reply_in child c w = child c (seen_by c w)
 
--- for a good reply to a command a judge returns the names of the inputs, for a bad reply `None`
+-- A judge decides whether a reply to a command is good. For a good reply the judge returns the
+-- names of the inputs, and for a bad reply `None`.
 abbrev pub Judge : Type 0
 Judge = Command → Reply → Option (List InputName)
 
--- A child is honest on a command in a world if the child repeats its good reply in each world that
--- agrees on two things. These are the values of the inputs that the reply has, and the files below
--- the folders that the command may read. A bad reply need not be repeated.
+-- A child is honest on a command in a world if the child repeats a good reply in each world that
+-- agrees on two things: the values of the reply's inputs and the files below the folders that the
+-- command may read. A bad reply need not be repeated.
 abbrev pub IsHonest : Judge → Answers → Command → World → Type 0
 IsHonest judge child c v = (w : World) (names : List InputName) → judge c (reply_in child c v) ≡ Some names
     → AllByRecursion (λ name. input_in c.target w name ≡ input_in c.target v name) names → SameBelow c.reads v.files w.files → reply_in child c w ≡ reply_in child c v

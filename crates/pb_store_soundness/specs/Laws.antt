@@ -10,13 +10,13 @@ use Rattle.pb_store_soundness.specs.Records.{RecordParser, is_key, out_of, recor
 use Rattle.pb_store_soundness.specs.Grounded.{RecordMap}
 use Rattle.pb_store_soundness.specs.Sound.{Sound, IsTrueRecord}
 
--- among the records that count, none contains this unit's key together with this run number
+-- no record that counts names this unit with this run number
 abbrev pub Unnamed : RecordMap → List ℕ → ℕ → Type 0
 Unnamed at key number = (other : List ℕ) (r : Record) → at other ≡ Some r → Contains (needs_of r) (key, number) → ⊥
 
 -- What became of a unit. Either no record counts for the unit, or the unit's record and files are
 -- unchanged, or the unit has a new record. `Said` is true of the new record. No old record names
--- the unit together with the new record's number.
+-- the unit with the new record's number.
 pub data Became (read : RecordParser) (folder : List ℕ) (old new : Map) (Said : List ℕ → Record → Type 0) (key : List ℕ) : Type 0 where
   gone : record_at read folder new key ≡ None → Became read folder old new Said key
   stays : record_at read folder new key ≡ record_at read folder old key → files_in (out_of folder key) new ≡ files_in (out_of folder key) old → Became read folder old new Said key
@@ -45,8 +45,8 @@ abbrev pub WithoutRecordLaw : Type 0
 WithoutRecordLaw = (read : RecordParser) (judge : Judge) (child : Answers) (folder : List ℕ) (old new : Map) (key : List ℕ) → is_path folder ≡ true → is_key key ≡ true
     → record_at read folder new key ≡ None → AgreeBut (is_at_or_below (record_path folder key)) old new → Sound read judge child folder old → Sound read judge child folder new
 
--- A folder stays sound if a true record of format 2 is written. No record that counts may contain
--- the key of this record's unit together with this record's number.
+-- A folder stays sound if a true record of format 2 is written. No record that counts may name this
+-- record's unit with this record's number.
 abbrev pub PutLaw : Type 0
 PutLaw = (read : RecordParser) (judge : Judge) (child : Answers) (folder : List ℕ) (old new : Map) (key : List ℕ) (r : Record) (number : ℕ) → is_path folder ≡ true → is_key key ≡ true
     → record_at read folder new key ≡ Some r → number_of r ≡ Some number → Unnamed (record_at read folder old) key number → AgreeBut (is_at_or_below (record_path folder key)) old new

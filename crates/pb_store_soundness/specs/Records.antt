@@ -20,15 +20,15 @@ ends_as_record name = bytes_eq (drop (length name - 7) name) (codes ".record")
 unfoldable pub is_key : List ℕ → Bool
 is_key key = is_name key && (not (list_any (λ b. b == slash) key) && not (ends_as_record key))
 
--- The output folder of the unit with this key. `record_path` is the path of its record.
+-- The output folder of the unit with this key. `record_path` is the path of the unit's record.
 abbrev pub out_of : List ℕ → List ℕ → List ℕ
 out_of folder key = below folder key
 
 abbrev pub record_path : List ℕ → List ℕ → List ℕ
 record_path folder key = below folder (key ++ codes ".record")
 
--- A function that reads texts as records. For a text that is not the text of a record, it returns
--- `None`.
+-- A function that reads texts as records. For a text that is not the text of a record, the function
+-- returns `None`.
 abbrev pub RecordParser : Type 0
 RecordParser = List ℕ → Option Record
 
@@ -36,7 +36,8 @@ abbrev pub read_text : RecordParser → Option (List ℕ) → Option Record
 read_text read None = None
 read_text read (Some text) = read text
 
--- The record, if it has the key that names its file. A record with another key does not count.
+-- The record, if the key in the record is the key in the name of the record's file. A record with
+-- another key does not count.
 abbrev pub if_of_key : List ℕ → Option Record → Option Record
 if_of_key key None = None
 if_of_key key (Some r) = if bytes_eq r.key key then Some r else None
@@ -49,8 +50,8 @@ record_at read folder files key = if is_key key then if_of_key key (read_text re
 abbrev pub records : List ℕ → World → List ℕ → Option Record
 records folder w = record_at reading folder w.files
 
--- A record's own number, if it has one. `numbered_in` lists the units that the record names, each
--- with a number. A record of format 1 has neither.
+-- A record's own number, if the record has a number. `numbered_in` lists the units that the record
+-- names, each with a number. A record of format 1 has no number, and names no units with numbers.
 abbrev pub number_in : Needed → Option ℕ
 number_in (Copies copies) = None
 number_in (Numbers number needs) = Some number

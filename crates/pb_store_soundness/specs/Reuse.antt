@@ -1,4 +1,4 @@
--- When a record contains what its unit would answer, and what a new record rests on.
+-- When a record contains what the record's unit would answer, and what a new record rests on.
 use Rattle.std.specs.Prelude.{◌≡◌, ◌≢◌, ◌↔◌, ◌<◌, ℕ, true, List, Option, Some, None, Contains}
 use Rattle.pb_place_types.specs.Folders.{files_in}
 use Rattle.pb_place_types.specs.Paths.{is_path, is_at_or_below}
@@ -19,9 +19,9 @@ abbrev pub number_if : Option Record → Option ℕ
 number_if None = None
 number_if (Some r) = number_of r
 
--- The needed units are as the record names them. If the record names the units with numbers, these
--- are the present numbers of the units' records. If the record has copies, these are the units'
--- present files.
+-- The needed units are as the record names them. If the record names the units with numbers, the
+-- units' records have these numbers now. If the record has copies, the units' files are equal to
+-- the copies now.
 abbrev pub NeededNow : List ℕ → RecordMap → Map → Needed → Type 0
 NeededNow folder at files (Copies copies) = HoldsCopies folder copies files
 NeededNow folder at files (Numbers number needs) = (need : List ℕ) (n : ℕ) → Contains needs (need, n) → number_if (at need) ≡ Some n
@@ -34,7 +34,7 @@ pub record IsSame (read : RecordParser) (folder key : List ℕ) (c : Command) (w
   pub inputs : Agrees c.target r.inputs w
   pub needed : NeededNow folder (record_at read folder w.files) w.files r.needed
 
--- all units with an output folder among these folders are grounded
+-- each unit whose output folder is among these folders is grounded
 abbrev pub AreGrounded : RecordMap → List ℕ → List (List ℕ) → Type 0
 AreGrounded at folder reads = (v : List ℕ) → Contains reads (out_of folder v) → (n : ℕ) × Grounded at v n
 
@@ -46,7 +46,7 @@ GroundsLaw = (read : RecordParser) (judge : Judge) (child : Answers) (folder key
 
 -- Take a sound folder in which all units with a folder in the command's `reads` are grounded. If
 -- nothing differs from a unit's record, the child's reply would now be the recorded reply. The
--- files of the reply would be those in the unit's folder.
+-- files of the reply would be the files in the unit's folder.
 abbrev pub ReuseLaw : Type 0
 ReuseLaw = (read : RecordParser) (judge : Judge) (child : Answers) (folder key : List ℕ) (c : Command) (w : World) (r : Record) → Sound read judge child folder w.files
     → IsSame read folder key c w r → AreGrounded (record_at read folder w.files) folder c.reads → Backs judge r (out_of folder key) (files_in (out_of folder key) w.files) (reply_in child c w)
@@ -57,16 +57,16 @@ pub data ReadByNeeds (at : RecordMap) (folder : List ℕ) (needs : List (List �
   own : (need : List ℕ) (n : ℕ) → Contains needs (need, n) → f ≡ out_of folder need → ReadByNeeds at folder needs f
   beyond : (need : List ℕ) (n : ℕ) (s : Record) → Contains needs (need, n) → at need ≡ Some s → Contains s.asked.reads f → ReadByNeeds at folder needs f
 
--- The named units have records with the named numbers, which are less than the number of the naming
--- record. The naming record's command reads exactly the folders of these units and the folders that
--- the commands in their records read.
+-- Each named unit has a record with the named number. This number is less than the number of the
+-- record that names the unit. The naming record's command reads exactly the folders of the named
+-- units and the folders that the commands in these units' records read.
 pub record NamesNeeds (at : RecordMap) (folder : List ℕ) (r : Record) (number : ℕ) : Type 0 where
   pub stand : (need : List ℕ) (n : ℕ) → Contains (needs_of r) (need, n) → (s : Record) × (at need ≡ Some s) × (number_of s ≡ Some n)
   pub less : (need : List ℕ) (n : ℕ) → Contains (needs_of r) (need, n) → n < number
   pub reads : (f : List ℕ) → Contains r.asked.reads f ↔ ReadByNeeds at folder (needs_of r) f
 
--- This record was written, and nothing else has changed. No record contained the unit's key
--- together with this number.
+-- This record was written, and nothing else has changed. No old record names the new record's unit
+-- with the new record's number.
 pub record IsPut (read : RecordParser) (folder key : List ℕ) (r : Record) (number : ℕ) (old new : Map) : Type 0 where
   pub path : is_path folder ≡ true
   pub key_is : is_key key ≡ true
@@ -88,8 +88,9 @@ RenewLaw = (read : RecordParser) (judge : Judge) (child : Answers) (folder key :
 abbrev pub SparesLaw : Type 0
 SparesLaw = (old new : RecordMap) (key v : List ℕ) (n : ℕ) → ((l : List ℕ) → l ≢ key → new l ≡ old l) → Grounded old v n → v ≢ key → (Reaches old v key → ⊥) → Grounded new v n
 
--- Take a new record whose unit was not grounded before. The unit is grounded now if all named units
--- were grounded with the named numbers. These numbers must be lower than the record's own number.
+-- Take a new record of a unit that the old records do not ground. The unit is grounded if all units
+-- that the record names were grounded with the named numbers. These numbers must be lower than the
+-- record's own number.
 abbrev pub PutGroundsLaw : Type 0
 PutGroundsLaw = (old new : RecordMap) (key : List ℕ) (r : Record) (number : ℕ) → ((l : List ℕ) → l ≢ key → new l ≡ old l) → new key ≡ Some r → number_of r ≡ Some number → ((n : ℕ) → Grounded old key n → ⊥)
     → ((need : List ℕ) (n : ℕ) → Contains (needs_of r) (need, n) → (n < number) × Grounded old need n) → Grounded new key number

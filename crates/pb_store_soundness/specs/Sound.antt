@@ -25,13 +25,13 @@ pub record Backs (judge : Judge) (r : Record) (out : List ℕ) (made : Map) (rep
   pub stderr : reply.stderr ≡ r.stderr
   pub files : replied_files out reply ≡ made
 
--- for each unit in `copies`, the unit's files in the world are those of its copy
+-- each unit in `copies` has exactly the files that the copy contains
 abbrev pub HoldsCopies : List ℕ → List (List ℕ × List (List ℕ × List ℕ)) → Map → Type 0
 HoldsCopies folder copies m = (need : List ℕ) (files : List (List ℕ × List ℕ)) → Contains copies (need, files) → contents (out_of folder need) m ≡ files
 
--- A true record of format 1. The record's command reads the folder of each unit of which the record
--- has a copy. In each world that agrees with the inputs and the copies, the child's reply would be
--- the recorded reply.
+-- A true record of format 1. If the record has a copy of a unit's files, the record's command reads
+-- the unit's folder. In each world that agrees with the inputs and the copies, the child's reply
+-- would be the recorded reply.
 pub record TrueCopies (judge : Judge) (child : Answers) (folder : List ℕ) (made : Map) (r : Record) (out : List ℕ) (copies : List (List ℕ × List (List ℕ × List ℕ))) : Type 0 where
   pub read : (need : List ℕ) (files : List (List ℕ × List ℕ)) → Contains copies (need, files) → Contains r.asked.reads (out_of folder need)
   pub gives : (x : World) → Agrees r.asked.target r.inputs x → HoldsCopies folder copies x.files → Backs judge r out made (reply_in child (command_of r.asked) x)
@@ -59,6 +59,6 @@ TrueBy judge child folder at files key r (Numbers number needs) = TrueNumbers ju
 pub record IsTrueRecord (judge : Judge) (child : Answers) (folder : List ℕ) (at : RecordMap) (files : Map) (key : List ℕ) (r : Record) : Type 0 where
   pub says : TrueBy judge child folder at files key r r.needed
 
--- each record in a profile's folder is true, if it counts
+-- each record that counts in a profile's folder is true
 pub record Sound (read : RecordParser) (judge : Judge) (child : Answers) (folder : List ℕ) (files : Map) : Type 0 where
   pub each : (key : List ℕ) (r : Record) → record_at read folder files key ≡ Some r → IsTrueRecord judge child folder (record_at read folder files) files key r

@@ -26,8 +26,8 @@ pub fn soundness_stays()
 
 /// If nothing differs, and everything that the command reads is grounded, the unit is grounded.
 /// Then the unit's record and folder are what the unit's child would answer. A record of an honest
-/// child's reply may replace whatever was there. Grounded units stay grounded if a unit that they
-/// do not reach is built again.
+/// child's reply may replace any earlier record of the unit. Grounded units stay grounded if a unit
+/// that they do not reach is built again.
 pub fn records_are_reused()
     ensures grounds { GroundsLaw }
     ensures reuse { ReuseLaw }

@@ -1,5 +1,6 @@
-//! Sound folders of records: only definitions and laws. They state what a record promises, when a
-//! record is what its unit would answer, and which changes keep a profile folder sound.
+//! Sound folders of records: only definitions and laws. The definitions state what a record
+//! promises, when a record is what its unit would answer, and which changes keep a profile folder
+//! sound.
 #![tactic(auto)]
 
 mod laws;

@@ -16,7 +16,8 @@ use Rattle.pb_workspace.specs.Members.{means}
 use Rattle.pb_workspace.specs.Indices.{indices_of}
 use Rattle.pb_workspace.specs.Selected.{indices_where}
 
--- the workspace's entry for an entry that was read, with the index of the package to which it leads
+-- an entry that was read; it has the index of the package to which it leads, instead of this
+-- package's folder
 abbrev pub entry_at : List (List ℕ × ℕ) → Wanted → Entry
 entry_at indices w = record {
   key = w.key;
@@ -50,7 +51,7 @@ package_at indices d = record {
 abbrev pub packages_of : List UnresolvedPackage → List Package
 packages_of drafts = map (package_at (indices_of drafts)) drafts
 
--- the package is a member, and the text means its folder
+-- the package is a member, and the text means the package's folder
 abbrev pub is_meant_member : List ℕ → Package → List ℕ → Bool
 is_meant_member root p text = p.is_member && means root text p.folder
 
@@ -60,7 +61,7 @@ is_meant_member root p text = p.is_member && means root text p.folder
 abbrev pub is_known : List ℕ → List Package → List ℕ → Bool
 is_known root packages text = is_glob text || list_any (λ p. is_meant_member root p text) packages
 
--- the package is a member, and one of these texts means its folder
+-- the package is a member, and one of these texts means the package's folder
 abbrev pub is_default : List ℕ → List (List ℕ) → Package → Bool
 is_default root texts p = list_any (is_meant_member root p) texts
 

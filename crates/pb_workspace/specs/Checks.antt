@@ -1,5 +1,5 @@
--- What is refused after all packages were read. The checks come in this order. The order is our own
--- choice if The Cargo Book defines no order.
+-- What is refused after all packages were read. The checks come in the order of `fault_of`. The
+-- order is our own choice if The Cargo Book defines no order.
 use Rattle.std.specs.Prelude.{ℕ, Bool, true, not, is_some, ◌&&◌, if◌then◌else◌, List, [], map, Option, Some, None}
 use Rattle.std.specs.List.{filter_map, list_any}
 use Rattle.std.specs.Str.{bytes_eq}
@@ -15,8 +15,8 @@ use Rattle.pb_workspace_package.specs.Settling.{comes_again}
 abbrev pub has_same_names : List UnresolvedPackage → Bool
 has_same_names drafts = comes_again [] (map (λ (d : UnresolvedPackage). d.name) drafts)
 
--- an entry leads to a folder without a package, or to a package with another name than the entry
--- requests
+-- an entry leads to a folder without a package, or the package there has another name than the
+-- entry requests
 abbrev pub has_other_name : Wanted → Option UnresolvedPackage → Bool
 has_other_name w None = true
 has_other_name w (Some d) = not (bytes_eq w.name d.name)
@@ -25,13 +25,13 @@ abbrev pub matches_if : Option (List ℕ) → List ℕ → Bool
 matches_if None version = true
 matches_if (Some requirement) version = matches requirement version
 
--- an entry leads to a folder without a package, or to a package with a version that the entry does
--- not accept
+-- an entry leads to a folder without a package, or the entry does not accept the version of the
+-- package there
 abbrev pub has_other_version : Wanted → Option UnresolvedPackage → Bool
 has_other_version w None = true
 has_other_version w (Some d) = not (matches_if w.version d.version)
 
--- the test is true for some entry of some package and the package to which this entry leads
+-- the test is true for some entry and for the package to which this entry leads
 abbrev pub some_leads : (Wanted → Option UnresolvedPackage → Bool) → List UnresolvedPackage → Bool
 some_leads test drafts = list_any (λ (d : UnresolvedPackage). list_any (λ (w : Wanted). test w (draft_in drafts w.folder)) d.wanted) drafts
 

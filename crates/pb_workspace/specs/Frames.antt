@@ -22,14 +22,15 @@ abbrev pub keys_or_none : Option WorkspacePackage → WorkspacePackage
 keys_or_none None = no_keys
 keys_or_none (Some keys) = keys
 
--- What a root manifest says about its workspace. Without `[workspace]`, the workspace is the root
+-- What a root manifest says about the workspace. Without `[workspace]`, the workspace is the root
 -- package only.
 abbrev pub frame_of : List ℕ → List ℕ → Option WorkspaceTable → WorkspaceRoot
 frame_of root manifest None = record { root = root; manifest = manifest; is_workspace = false; members = []; exclude = []; default_members = None; given = nothing }
 frame_of root manifest (Some w) = record { root = root; manifest = manifest; is_workspace = true; members = w.members; exclude = w.exclude; default_members = w.default_members; given = record { «package» = keys_or_none w.package; dependencies = w.dependencies } }
 
 -- The root package is a member. In a workspace, each folder that `members` means is also a member.
--- So is each folder inside the root folder that `exclude` does not list.
+-- In a workspace, each folder inside the root folder is a member, too, if `exclude` lists neither
+-- this folder nor a folder above it.
 abbrev pub is_member : WorkspaceRoot → List (List ℕ × Unit {0}) → List ℕ → Bool
 is_member f meant folder = bytes_eq folder f.root || (f.is_workspace && (has folder meant || (is_at_or_below f.root folder && not (is_excluded f.root f.exclude folder))))
 

@@ -1,5 +1,6 @@
 -- The meaning of a glob, defined independently of how a match is computed. Texts are UTF-8 bytes.
--- We have chosen which signs of a glob we support. (The Cargo Book, Workspaces)
+-- Our own choice: the only special characters of a glob are `*` and `?`. (The Cargo Book,
+-- Workspaces)
 use Rattle.std.specs.Prelude.{◌≡◌, ◌↔◌, ℕ, Bool, true, false, not, ◌||◌, ◌==◌, List, [], ◌∷◌, ◌++◌}
 use Rattle.std.specs.List.{list_all}
 use Rattle.pb_data.specs.Ascii.{star, question_mark}
@@ -22,6 +23,6 @@ pub data Matches : List ℕ → List ℕ → Type 0 where
   one : (pattern : List ℕ) (first : ℕ) (more rest : List ℕ) (further : list_all goes_on more ≡ true) (whole : begins_whole rest ≡ true) (behind : Matches pattern rest) → Matches (question_mark ∷ pattern) (first ∷ more ++ rest)
   itself : (pattern : List ℕ) (b : ℕ) (rest : List ℕ) (plain : is_sign b ≡ false) (behind : Matches pattern rest) → Matches (b ∷ pattern) (b ∷ rest)
 
--- `matches` is true if and only if the pattern matches the name by this relation
+-- `matches` is true if and only if the pattern matches the name by the relation `Matches`
 abbrev pub DecidesGlobs : Type 0
 DecidesGlobs = (pattern name : List ℕ) → (matches pattern name ≡ true) ↔ Matches pattern name

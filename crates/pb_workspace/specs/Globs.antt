@@ -1,6 +1,6 @@
 -- Globs of members, with `*` and `?` within one part of a path. Texts are UTF-8 bytes. `GlobWords`
--- defines the same matches as a relation. We have chosen which signs of a glob we support. (The
--- Cargo Book, Workspaces)
+-- defines the same matches as a relation. Our own choice: the only special characters of a glob are
+-- `*` and `?`. (The Cargo Book, Workspaces)
 use Rattle.std.specs.Prelude.{ℕ, Bool, true, false, ◌&&◌, ◌||◌, ◌==◌, nat_le, if◌then◌else◌, List, [], ◌∷◌}
 use Rattle.std.specs.List.{list_any}
 use Rattle.pb_data.specs.Ascii.{star, question_mark}
@@ -9,7 +9,7 @@ use Rattle.pb_data.specs.Ascii.{star, question_mark}
 abbrev pub goes_on : ℕ → Bool
 goes_on b = nat_le 128 b && nat_le b 191
 
--- the text without the bytes at its beginning that continue a character
+-- the text without the leading bytes that continue a character
 abbrev pub past_character : List ℕ → List ℕ
 past_character [] = []
 past_character (b ∷ rest) = if goes_on b then past_character rest else b ∷ rest

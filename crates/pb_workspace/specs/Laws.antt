@@ -12,8 +12,8 @@ use Rattle.pb_workspace.specs.Loaded.{workspace_of}
 abbrev pub NamesDiffer : Type 0
 NamesDiffer = (manifest target : List ℕ) (w : World) (ws : Workspace) → workspace_of manifest target w ≡ Ok ws → IsDistinct bytes_eq (map (λ (p : Package). p.name) ws.packages)
 
--- A workspace has the target folder for which it was read. `HasRoot` says that its root is the
--- folder of the manifest.
+-- A workspace has the target folder for which it was read. `HasRoot` says that the workspace's root
+-- is the folder of the manifest.
 abbrev pub HasTargetFolder : Type 0
 HasTargetFolder = (manifest target : List ℕ) (w : World) (ws : Workspace) → workspace_of manifest target w ≡ Ok ws → ws.target ≡ target
 

@@ -39,8 +39,8 @@ unfoldable pub root_read : World → WorkspaceRoot → Tables → Option Package
 root_read sources f tables None = Ok nothing_read
 root_read sources f tables (Some p) = draft_of sources (at_root f) true f.given p tables >>= (λ d. Ok (with_draft nothing_read f.root d))
 
--- What was read once all other packages were read, too. The other members are read first. Then come
--- the packages to which path dependencies lead, in rounds.
+-- What was read of all packages. The root package comes first, and the other members come next. The
+-- packages to which path dependencies lead come last, in rounds.
 unfoldable pub others_read : World → WorkspaceRoot → LoadState → Result LoadState LoadFault
 others_read sources f begun =
     all_read (draft_at sources f (member_folders sources f)) begun (folders_of (member_folders sources f)) >>= (λ read.
@@ -49,7 +49,7 @@ others_read sources f begun =
 unfoldable pub packages_read : World → WorkspaceRoot → Tables → Option Package → Result LoadState LoadFault
 packages_read sources f tables p = root_read sources f tables p >>= (λ begun. others_read sources f begun)
 
--- The workspace, or the fault of a check that failed. All packages are checked together at the end.
+-- The workspace, or the fault of a check that failed. The checks come after all packages were read.
 abbrev pub unless : Option LoadFault → Workspace → Result Workspace LoadFault
 unless None ws = Ok ws
 unless (Some fault) ws = Err fault
@@ -57,7 +57,8 @@ unless (Some fault) ws = Err fault
 unfoldable pub workspace_from : List ℕ → WorkspaceRoot → List Profile → List UnresolvedPackage → Result Workspace LoadFault
 workspace_from target f profiles drafts = unless (fault_of drafts) (assembled target f profiles drafts)
 
--- the workspace, given what its root manifest says about it, and the root package if there is one
+-- the workspace that the root manifest describes, given what the manifest says about the root
+-- package, if there is one
 unfoldable pub workspace_in : World → List ℕ → WorkspaceRoot → List Profile → Tables → Option Package → Result Workspace LoadFault
 workspace_in sources target f profiles tables p = packages_read sources f tables p >>= (λ read. workspace_from target f profiles (values_of read.found))
 

@@ -31,7 +31,8 @@ abbrev pub package_looked : List ℕ → List ℕ → Option Package → List Ca
 package_looked target folder None = []
 package_looked target folder (Some p) = listings_at target folder
 
--- the calls for the package at a location: its manifest is read, and then its folder is looked at
+-- the calls for the package at a location: the call that reads the manifest, and then the calls for
+-- the package's folder
 unfoldable pub file_looked : List ℕ → World → PackageLocation → List Call
 file_looked target sources at = looked target (call.Read at.manifest) ++ after (parts_at sources at.manifest) (λ parts. package_looked target at.folder parts.found)
 
@@ -39,7 +40,8 @@ file_looked target sources at = looked target (call.Read at.manifest) ++ after (
 unfoldable pub folder_looked : List ℕ → World → WorkspaceRoot → List ℕ → List Call
 folder_looked target sources f folder = if bytes_eq folder f.root then [] else file_looked target sources (standing_in f folder)
 
--- The calls for one folder. No folder is looked at twice, and at most 256 folders are looked at.
+-- The calls for one folder. If the folder's package was read already, or if 256 packages were read,
+-- there are no calls.
 abbrev pub one_looked : (List ℕ → List Call) → LoadState → List ℕ → List Call
 one_looked look r folder = if has folder r.found then [] else (if nat_le max_packages (length r.found) then [] else look folder)
 
@@ -59,8 +61,8 @@ rounds_looked (suc n) read look r = round_looked read look r ++ after (round rea
 abbrev pub step_looked : List ℕ → Part → List ℕ → List Call
 step_looked target part folder = if is_fixed part then [] else looked target (call.ListFolders folder target)
 
--- The calls for the parts of a glob, part by part. Each part is looked at in all folders to which
--- the earlier parts lead.
+-- The calls for the parts of a glob, part by part. For each part there are calls in all folders to
+-- which the earlier parts lead.
 abbrev pub walk_looked : List ℕ → World → WorkspaceRoot → List Part → List (List ℕ) → List Call
 walk_looked target sources f [] folders = []
 walk_looked target sources f (part ∷ parts) folders = flat_map (step_looked target part) folders ++ walk_looked target sources f parts (flat_map (kept_step sources f part) folders)
@@ -69,12 +71,13 @@ walk_looked target sources f (part ∷ parts) folders = flat_map (step_looked ta
 abbrev pub manifest_looked : List ℕ → List ℕ → List Call
 manifest_looked target folder = looked target (call.IsFile (below folder (codes "Cargo.toml")))
 
--- The calls for a glob. The glob is walked first. Then one call for each folder to which the glob
--- leads asks whether the folder has a manifest. Folders of `exclude` are left out.
+-- The calls for a glob. The glob is walked first. Then, for each folder to which the glob leads,
+-- one call asks whether the folder has a manifest. Folders at or below a folder of `exclude` are
+-- left out.
 abbrev pub glob_looked : List ℕ → World → WorkspaceRoot → List Part → List Call
 glob_looked target sources f parts = walk_looked target sources f parts (codes "/" ∷ []) ++ flat_map (manifest_looked target) (folders_kept sources f parts)
 
--- the calls for a text of `members`; a folder that is written out needs no call
+-- the calls for a text of `members`; a text without `*` and `?` needs no call
 abbrev pub text_looked : List ℕ → World → WorkspaceRoot → List ℕ → List Call
 text_looked target sources f text = if is_glob text then glob_looked target sources f (parts_meant f.root text) else []
 
@@ -82,14 +85,14 @@ text_looked target sources f text = if is_glob text then glob_looked target sour
 abbrev pub members_looked : List ℕ → World → WorkspaceRoot → List Call
 members_looked target sources f = flat_map (text_looked target sources f) f.members
 
--- the calls for the members, and then those for the packages to which path dependencies lead
+-- the calls for the members, and then the calls for the packages to which path dependencies lead
 unfoldable pub others_looked : List ℕ → World → WorkspaceRoot → LoadState → List Call
 others_looked target sources f begun =
     members_looked target sources f
     ++ (all_looked (draft_at sources f (member_folders sources f)) (folder_looked target sources f) begun (folders_of (member_folders sources f))
     ++ after (all_read (draft_at sources f (member_folders sources f)) begun (folders_of (member_folders sources f))) (λ read. rounds_looked 257 (draft_at sources f (member_folders sources f)) (folder_looked target sources f) read))
 
--- the calls for all packages; if there is a root package, the calls for it come first
+-- the calls for all packages; if there is a root package, the calls for the root package come first
 unfoldable pub packages_looked : List ℕ → World → WorkspaceRoot → Tables → Option Package → List Call
 packages_looked target sources f tables p = package_looked target f.root p ++ after (root_read sources f tables p) (λ begun. others_looked target sources f begun)
 

@@ -21,7 +21,8 @@ abbrev pub is_fixed : Part → Bool
 is_fixed part = not (part.is_pattern && is_glob part.text)
 
 -- The folders to which a part leads from a folder. A fixed part leads to the folder with its name,
--- even if this folder does not exist. Any other part leads to the folders whose names it matches.
+-- even if this folder does not exist. Any other part leads to the folders with names that the part
+-- matches.
 abbrev pub one_step : World → Part → List ℕ → List (List ℕ)
 one_step sources part folder = if is_fixed part then below folder part.text ∷ [] else filter (λ found. matches part.text (last_part found)) (listed_folders folder sources)
 
@@ -40,7 +41,7 @@ led_to sources f [] folders = folders
 led_to sources f (part ∷ parts) folders = led_to sources f parts (flat_map (kept_step sources f part) folders)
 
 -- The folders to which a glob leads from `/`. A glob without parts leads to `/` itself. `exclude`
--- may leave out any of them.
+-- may leave out any of these folders.
 abbrev pub folders_kept : World → WorkspaceRoot → List Part → List (List ℕ)
 folders_kept sources f parts = filter (is_kept f) (led_to sources f parts (codes "/" ∷ []))
 
@@ -52,8 +53,9 @@ has_manifest sources folder = has_own_file folder sources (codes "Cargo.toml")
 abbrev pub folders_taken : World → WorkspaceRoot → List Part → List (List ℕ)
 folders_taken sources f parts = filter (has_manifest sources) (folders_kept sources f parts)
 
--- The folders that a text of `members` means. A glob means folders that have a manifest. A written
--- folder is meant even if it does not exist, and `exclude` never leaves it out.
+-- The folders that a text of `members` means. A glob means folders that have a manifest. Any other
+-- text means the folder that it spells, even if this folder does not exist or `exclude` lists this
+-- folder.
 abbrev pub folders_meant : World → WorkspaceRoot → List ℕ → List (List ℕ)
 folders_meant sources f text = if is_glob text then folders_taken sources f (parts_meant f.root text) else resolved f.root text ∷ []
 

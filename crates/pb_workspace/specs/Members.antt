@@ -13,21 +13,22 @@ use Rattle.pb_workspace_package.specs.Sources.{resolved}
 abbrev pub is_excluded : List ℕ → List (List ℕ) → List ℕ → Bool
 is_excluded root exclude folder = list_any (λ text. is_at_or_below (resolved root text) folder) exclude
 
--- A folder's names as parts. Each part matches only its own name, even if that contains `*` or `?`.
+-- A folder's names as parts. Each part matches only its own name, even if the name contains `*` or
+-- `?`.
 abbrev pub plain_parts : List (List ℕ) → List Part
 plain_parts names = map (λ name. record { text = name; is_pattern = false }) names
 
--- The given parts, after one more part of a text was read. An empty part or `.` changes nothing,
+-- The list of parts, extended by one more part of a text. An empty part or `.` changes nothing,
 -- `..` removes the last part, and any other part is appended as a pattern.
 abbrev pub further : List Part → List ℕ → List Part
 further parts part = if stays part then parts else (if leads_up part then take (length parts - 1) parts else parts ++ record { text = part; is_pattern = true } ∷ [])
 
--- the parts that come before those of a text: the root folder's names, or no parts if the text is
--- absolute
+-- the parts that come before the parts of a text: the root folder's names, or no parts if the text
+-- is absolute
 abbrev pub start_of : List ℕ → List ℕ → List Part
 start_of root text = if is_absolute text then [] else plain_parts (names_in root)
 
--- the parts that a folder must match if the text is to mean it
+-- the parts of a text; the text means a folder if the names in the folder's path match these parts
 abbrev pub parts_meant : List ℕ → List ℕ → List Part
 parts_meant root text = fold further (start_of root text) (parts_of text)
 

@@ -1,6 +1,6 @@
 -- Why 257 rounds are enough, and which folders contain the packages of a workspace (The Cargo Book,
 -- Workspaces and Specifying Dependencies). The definitions of folders are only used in proofs.
--- `Folders` of `pb_workspace_laws` defines these folders independently. `sources` is the world
+-- `Folders` of `pb_workspace_laws` defines package folders independently. `sources` is the world
 -- without the files at or below the target folder. `f` is what the root manifest says about its
 -- workspace.
 use Rattle.std.specs.Prelude.{◌≡◌, ℕ, ◌+◌, ◌≤◌, List, length, Option, Some, Ok, Result, Contains}
@@ -37,15 +37,16 @@ pub data IsRootOrMember (sources : World) (f : WorkspaceRoot) (found : Option Wr
   member : (text folder : List ℕ) (written : Contains f.members text) (means : Contains (folders_meant sources f text) folder) → IsRootOrMember sources f found folder
 
 -- The least set of folders that contains the folders of the root package and of the members. If a
--- package's folder is in the set, so is each folder to which an entry of this package leads.
+-- package's folder is in the set, each folder to which an entry of this package leads is in the
+-- set, too.
 abbrev pub IsPackageFolder : World → WorkspaceRoot → Option WrittenPackage → List ℕ → Type 0
 IsPackageFolder sources f found = Reached (IsRootOrMember sources f found) (LeadsTo sources f)
 
--- what this root manifest says about its workspace
+-- what this root manifest says about the workspace
 abbrev pub frame_at : List ℕ → Parts → WorkspaceRoot
 frame_at manifest parts = frame_of (folder_of manifest) manifest parts.workspace
 
--- 257 rounds are enough, because at most 256 packages are read. Further rounds would not change
--- what was read, or the fault.
+-- 257 rounds are enough, because at most 256 packages are read. More rounds would read the same
+-- packages, or end with the same fault.
 abbrev pub FuelIsEnough : Type 0
 FuelIsEnough = (read : List ℕ → Result UnresolvedPackage LoadFault) (r : LoadState) (more : ℕ) → length r.found ≤ max_packages → rounds (257 + more) read r ≡ rounds 257 read r

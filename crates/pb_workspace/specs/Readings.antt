@@ -18,14 +18,14 @@ use Rattle.pb_workspace_package.specs.Drafted.{ArePromised, IsDraft}
 abbrev pub HasSharedInOrder : WorkspaceTable → Type 0
 HasSharedInOrder w = IsAscending (map (λ (d : WorkspaceDependency). d.key) w.dependencies)
 
--- what is promised about each manifest that was read: about its `[package]`, if it has one, and
--- about its other tables
+-- what is promised about each manifest that was read: about the manifest's `[package]`, if there is
+-- one, and about the manifest's other tables
 pub record ManifestsAreRead (tables : Tables) (found : Option Package) : Type 0 where
   pub named : IfSome found (λ p. is_name p.name ≡ true)
   pub binaries : All (λ b. is_name b.name ≡ true) tables.binaries
   pub promised : ArePromised tables
 
--- a package is stored under its own folder, and is as `IsDraft` says
+-- a package is stored under the package's own folder, and `IsDraft` is true of the package
 abbrev pub IsStoredAt : List ℕ × UnresolvedPackage → Type 0
 IsStoredAt e = (e.1.folder ≡ e.0) × IsDraft e.1
 

@@ -44,7 +44,7 @@ parts_in m = record { found = m.package; tables = tables_in m; workspace = m.wor
 abbrev pub parts_at : World → List ℕ → Result Parts LoadFault
 parts_at sources path = manifest_at sources path >>= (λ m. Ok (parts_in m))
 
--- the fault for a manifest without `[package]` in a folder whose package is needed
+-- the fault for a folder that must have a package but has a manifest without `[package]`
 abbrev pub no_package : List ℕ → LoadFault
 no_package manifest = Manifest manifest (BadKind key.Package)
 

@@ -1,4 +1,4 @@
--- How a glob is matched with one walk through the name for each byte of the pattern. For each end
+-- How a glob is matched: for each byte of the pattern, the whole name is walked once. For each end
 -- of the name, a row says whether the rest of the pattern matches this end. Only private functions
 -- need these definitions.
 use Rattle.std.specs.Prelude.{ℕ, Bool, false, ◌&&◌, ◌||◌, ◌==◌, if◌then◌else◌, List, [], ◌∷◌}
@@ -41,7 +41,7 @@ stepped c row =
     else (if c == 63 then record { empty = false; cells = one_cells row.empty row.cells }
     else record { empty = false; cells = byte_cells c row.empty row.cells })
 
--- the pattern matches the longest end
+-- the pattern matches the longest end of the name, which is the whole name
 abbrev pub last_matched : Bool → List Cell → Bool
 last_matched shorter [] = shorter
 last_matched shorter (x ∷ xs) = last_matched x.matched xs

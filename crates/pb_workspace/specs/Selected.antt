@@ -40,7 +40,7 @@ is_named_member names p = p.is_member && is_mentioned names p.name
 abbrev pub name_members : List (List ℕ) → List Package → Bool
 name_members names packages = list_all (λ name. list_any (is_member_named name) packages) names
 
--- The indices of the members that `-p` names. Each name must be that of a member.
+-- The indices of the members that `-p` names. Each name must be the name of a member.
 abbrev pub named_members : List (List ℕ) → List Package → Result (List ℕ) LoadFault
 named_members names packages = if name_members names packages then Ok (indices_where (is_named_member names) packages) else Err NoSuchPackage
 
@@ -56,9 +56,9 @@ by_default Unwritten root packages = Ok (root_or_members root packages)
 by_default (Named indices) root packages = Ok indices
 by_default Unknown root packages = Err NoSuchPackage
 
--- The indices of the packages to build. With `--workspace` these are all members. Otherwise `-p`
--- decides, or else `default-members`, or else the root package. Without any of the three, these are
--- all members, too.
+-- The indices of the packages to build. With `--workspace`, all members are built. Otherwise `-p`
+-- decides, or else `default-members`, or else the root package. If there is no root package either,
+-- all members are built.
 abbrev pub selected_packages : Workspace → Bool → List (List ℕ) → Result (List ℕ) LoadFault
 selected_packages ws all names =
     if all then Ok (members_of ws.packages)
@@ -68,7 +68,8 @@ selected_packages ws all names =
 abbrev pub spaced_words : List ℕ → List (List ℕ)
 spaced_words part = filter is_word (slice_split (λ b. b == space) part)
 
--- The features that a text requests. Commas and spaces separate them, and empty words do not count.
+-- The features that a text requests. Commas and spaces separate the features, and empty words do
+-- not count.
 abbrev pub feature_words : List ℕ → List (List ℕ)
 feature_words text = flat_map spaced_words (slice_split (λ b. b == comma) text)
 

@@ -30,7 +30,7 @@ fn index_in(indices: &ByFolder<usize>, folder: &PathText) -> Option<usize>
     }
 }
 
-/// Returns an entry with the index of its package.
+/// Returns an entry with the index of the package to which it leads.
 fn entry_at(indices: &ByFolder<usize>, wanted: Wanted) -> Entry
     ensures { result ≡ entry_at indices.now wanted }
 {
@@ -46,7 +46,7 @@ fn entry_at(indices: &ByFolder<usize>, wanted: Wanted) -> Entry
     }
 }
 
-/// Returns entries with the indices of their packages.
+/// Returns entries with the indices of the packages to which they lead.
 fn entries_of(
     alloc: Global,
     indices: &ByFolder<usize>,
@@ -61,8 +61,8 @@ fn entries_of(
     Ok(entries)
 }
 
-/// Returns the entries of a package with the indices of their packages, in the order in which they
-/// are written.
+/// Returns the entries of a package with the indices of the packages to which they lead. The order
+/// of the entries is unchanged.
 fn entries_in_order(
     alloc: Global,
     indices: &ByFolder<usize>,

@@ -36,7 +36,7 @@ impl<V: Drop> ByFolder<V> {
         }
     }
 
-    /// Inserts an entry at its position. An entry with the same folder is replaced.
+    /// Inserts the value of a folder. An earlier value of the same folder is replaced.
     pub fn insert(&mut self, folder: PathText, value: V) -> Result<(), AllocError>
         ensures { OnOk result (self.new ≡ with_entry self.old folder value) }
     {

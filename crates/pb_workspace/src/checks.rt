@@ -17,7 +17,8 @@ use pb_workspace_package::{UnresolvedPackage, Wanted, was_mentioned};
 use pb_workspace_types::LoadFault;
 use std::alloc::{AllocError, Global};
 
-/// Returns whether a name of these packages is repeated, or was seen before.
+/// Returns whether two of these packages have the same name, or whether one of them has a name that
+/// was seen before.
 fn names_come_again(
     alloc: Global,
     seen: &mut OrderedSet,

@@ -151,7 +151,7 @@ fn row_of(alloc: Global, pattern: &[u8], name: &[u8]) -> Result<Row, AllocError>
     Ok(row)
 }
 
-/// Returns whether the longest suffix matches.
+/// Returns whether the pattern of a row matches the longest suffix, which is the whole name.
 fn last_matched(row: &Row) -> bool
     ensures { result ≡ last_matched row.now.empty row.now.cells }
 {

@@ -17,9 +17,9 @@ pub fn globs_stand_for_names()
     ensures { DecidesGlobs }
 {}
 
-/// An accepted workspace has no two packages with the same name. Its target folder is the folder
-/// for which it was read, and its root is the folder of its manifest. The contract of `load`
-/// contains the other promises.
+/// An accepted workspace has no two packages with the same name. The workspace's target folder is
+/// the folder for which the workspace was read. The workspace's root is the folder of its manifest.
+/// The contract of `load` contains the other promises.
 pub fn workspaces_are_settled()
     ensures names { NamesDiffer }
     ensures target { HasTargetFolder }

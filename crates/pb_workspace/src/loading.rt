@@ -270,17 +270,17 @@ fn workspace_in<P: Place>(
 /// Dependencies).
 ///
 /// The root package is read first, and then the members in byte order of their folders. Then the
-/// packages to which path dependencies lead are read, in rounds. Each round reads its packages in
-/// the same byte order. No package is read twice, and nothing at or below the target folder is
-/// looked at. No child process is started, and no file is changed.
+/// packages to which path dependencies lead are read, in rounds. Each round, too, reads its
+/// packages in byte order of their folders. No package is read twice, and nothing at or below the
+/// target folder is looked at. No child process is started, and no file is changed.
 ///
 /// Errors: the first of these that occurs.
 /// - `NoManifest`: the file does not exist, is not named `Cargo.toml`, or is at or below the target
 ///   folder.
 /// - `Manifest`: the manifest reader refuses the file.
 /// - `Manifest` with `BadKind` of `package`: the manifest of a package has no `[package]`.
-/// - `Manifest` with `UnsupportedSource`: a package inherits an entry of the workspace that has no
-///   path, or has `git` or `registry`.
+/// - `Manifest` with `UnsupportedSource`: a package inherits an entry of the workspace, and this
+///   entry has no path, or has `git` or `registry`.
 /// - `NoInherited`: a package inherits a key or an entry that the workspace does not have, or the
 ///   package inherits but is not a member.
 /// - `TooMany`: a 257th package would be read.

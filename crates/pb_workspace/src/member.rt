@@ -19,7 +19,7 @@ use std::alloc::{AllocError, Global};
 pub struct Part {
     /// A name, or a pattern for a name.
     pub text: RelativePath,
-    /// Whether `*` and `?` may match other characters.
+    /// Whether `*` and `?` in the text match other characters.
     pub is_pattern: bool,
 }
 
@@ -74,8 +74,8 @@ fn is_absolute(text: &str) -> bool
     }
 }
 
-/// Returns the parts that come before the parts of a text. They are the parts of the root folder,
-/// or no parts if the text is absolute.
+/// Returns the parts that come before the parts of a text: the parts of the root folder, or no
+/// parts if the text is absolute.
 fn start_of(alloc: Global, root: &PathText, text: &str) -> Result<Vec<Part>, AllocError>
     ensures { IfOk result (λ parts. parts.items ≡ start_of root.now text.now) }
 {
@@ -86,7 +86,7 @@ fn start_of(alloc: Global, root: &PathText, text: &str) -> Result<Vec<Part>, All
     plain_parts(alloc, names.as_slice())
 }
 
-/// Continues the parts by one part, as in a path.
+/// Appends a part. An empty part or `.` changes nothing, and `..` removes the last part.
 ///
 /// Errors: out of memory only.
 ///
@@ -113,7 +113,8 @@ fn go_further(alloc: Global, parts: &mut Vec<Part>, part: &str) -> Result<(), Al
 
 /// Returns the parts of a text of `members` or `default-members`. The text means a folder if the
 /// folder's names match these parts. The parts of the root folder come first, and each matches only
-/// itself. The parts of the text follow. In them `.` and `..` have their meaning in a path.
+/// its own name. The parts of the text follow. In these parts `.` and `..` have the same meaning as
+/// in a path.
 ///
 /// Errors: out of memory only.
 pub fn parts_meant(
@@ -131,7 +132,7 @@ pub fn parts_meant(
     Ok(parts)
 }
 
-/// Returns whether a part is this name, or a pattern that matches it.
+/// Returns whether a part is equal to a name, or is a pattern that matches the name.
 fn part_matches(alloc: Global, part: &Part, name: &str) -> Result<bool, AllocError>
     ensures { IfOk result (λ answer. answer ≡ part_matches part.now name.now) }
 {

@@ -110,7 +110,7 @@ fn one_step<P: Place>(
     Ok(named)
 }
 
-/// Returns those folders that `exclude` does not leave out.
+/// Returns those of these folders that `exclude` does not leave out.
 ///
 /// Errors: out of memory only.
 fn kept_among(
@@ -154,7 +154,7 @@ fn kept_step<P: Place>(
     Ok(kept)
 }
 
-/// Appends folders.
+/// Appends folders to a list.
 fn add_folders(made: &mut Items<PathText>, folders: Items<PathText>) -> Result<(), AllocError>
     ensures { OnOk result (made.new ≡ made.old ++ folders) }
 {

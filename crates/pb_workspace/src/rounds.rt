@@ -35,7 +35,7 @@ pub const MAX_ROUNDS: usize = MAX_PACKAGES + 1;
 pub struct LoadState {
     /// The packages by their folders.
     pub found: ByFolder<UnresolvedPackage>,
-    /// The folders to which the entries of the packages of this round lead.
+    /// The folders of the next round: those to which entries of this round's packages lead.
     pub ahead: ByFolder<()>,
 }
 

@@ -256,10 +256,11 @@ fn selection_of(
 /// Returns what the options of a build request of the workspace (The Cargo Book, Workspaces and
 /// cargo build).
 ///
-/// With `--workspace` the packages are all members. Otherwise they are the members that `-p` names.
-/// If neither option is given, `default-members` decides. Without this key, the package is the root
-/// package, or all members if there is no root package. The indices are in ascending order without
-/// repeats, and the type guarantees that each is the index of a package of the workspace.
+/// With `--workspace` the packages are all members. Otherwise the packages are the members that
+/// `-p` names. If neither option is given, `default-members` decides. Without this key, the root
+/// package is selected, or all members if there is no root package. The indices are in ascending
+/// order without repeats, and the type guarantees that each is the index of a package of the
+/// workspace.
 ///
 /// The features are the texts between the commas and spaces of `--features`, in order; empty texts
 /// are left out.

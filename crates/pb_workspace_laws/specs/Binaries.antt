@@ -26,7 +26,7 @@ abbrev pub source_paths : List ℕ → List ℕ → List (List ℕ)
 source_paths package_name name = if bytes_eq name package_name then codes "src/main.rs" ∷ in_bin name else in_bin name
 
 -- The source of a `[[bin]]`: its written path, or the first of these names that is a file. If no
--- name is that of a file, the source is the first name.
+-- file has one of these names, the source is the first name.
 abbrev pub source_of : World → List ℕ → List (List ℕ) → Option (List ℕ) → List ℕ
 source_of sources folder names path = option_map_or (resolved folder) path (below folder (unwrap_or (first_file sources folder names) (get_or names 0 [])))
 

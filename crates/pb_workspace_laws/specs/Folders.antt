@@ -13,8 +13,8 @@ use Rattle.pb_workspace.specs.declared.workspace_root.WorkspaceRoot.{WorkspaceRo
 use Rattle.pb_workspace_laws.specs.Files.{IsManifestAt}
 use Rattle.pb_workspace_laws.specs.Packages.{RequestsPackage}
 
--- Either a text of `members` means this folder, or the folder is the root's and the root manifest
--- describes a package.
+-- Either a text of `members` means this folder, or the folder is the root folder and the root
+-- manifest describes a package.
 pub data IsRootOrMember (sources : World) (f : WorkspaceRoot) (r : Manifest) (folder : List ℕ) : Type 0 where
   root : (w : Written) (is_package : r.package ≡ Some w) (is : folder ≡ f.root) → IsRootOrMember sources f r folder
   member : (text : List ℕ) (written : Contains f.members text) (means : Contains (folders_meant sources f text) folder) → IsRootOrMember sources f r folder

@@ -36,7 +36,7 @@ abbrev pub frame_in : List ℕ → Manifest → WorkspaceRoot
 frame_in manifest r = frame_of (folder_of manifest) manifest r.workspace
 
 -- `ws` is a workspace of the root manifest `r`, which is at this path. The root package is the
--- package in the root's folder.
+-- package in the root folder.
 pub record IsWorkspaceOf (sources : World) (manifest : List ℕ) (r : Manifest) (ws : Workspace) : Type 0 where
   pub read : IsManifestAt sources manifest r
   pub root : ws.root ≡ folder_of manifest
@@ -57,6 +57,6 @@ abbrev pub WorkspacesAreOne : Type 0
 WorkspacesAreOne = (sources : World) (manifest : List ℕ) (r s : Manifest) (v w : Workspace) → FilesHavePaths sources → IsWorkspaceOf sources manifest r v → IsWorkspaceOf sources manifest s w → v.target ≡ w.target → v ≡ w
 
 -- A workspace that was read is settled, if the path of its manifest is a normalised absolute path.
--- So its names have valid letters, and its entries lead to packages.
+-- So the names in the workspace have valid letters, and its entries lead to packages.
 abbrev pub AllAreSettled : Type 0
 AllAreSettled = (manifest target : List ℕ) (w : World) (ws : Workspace) → is_path manifest ≡ true → workspace_of manifest target w ≡ Ok ws → IsSettled ws

@@ -13,7 +13,8 @@ use Rattle.pb_workspace.specs.declared.member.Part.{Part}
 use Rattle.pb_workspace_laws.specs.Files.{is_file}
 
 -- The root package is a member. In a workspace, each folder that a text of `members` means is also
--- a member. So is each folder inside the root's folder that `exclude` does not list.
+-- a member. In a workspace, each folder inside the root folder is a member, too, unless `exclude`
+-- lists it.
 pub data IsMember (sources : World) (f : WorkspaceRoot) (folder : List ℕ) : Type 0 where
   root : (is : folder ≡ f.root) → IsMember sources f folder
   meant : (written : f.is_workspace ≡ true) (text : List ℕ) (listed : Contains f.members text) (means : Contains (folders_meant sources f text) folder) → IsMember sources f folder

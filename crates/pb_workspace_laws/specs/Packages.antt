@@ -44,8 +44,8 @@ use Rattle.pb_workspace_laws.specs.Files.{first_file, first_path}
 
 -- Keys.
 
--- The value is the one that the package writes. If the package says `KEY.workspace = true`, the
--- value is that of its workspace.
+-- The value is the value that the package writes. If the package says `KEY.workspace = true`, it is
+-- the value of the package's workspace.
 abbrev pub IsOwnOrTaken : {A : Type 0} → Inherited A → Option A → A → Type 0
 IsOwnOrTaken (key.Written x) given value = value ≡ x
 IsOwnOrTaken key.Workspace given value = given ≡ Some value
@@ -110,9 +110,9 @@ pub data IsFeature (m : Manifest) (f : Feature) : Type 0 where
 -- Entries.
 
 -- What a dependency requests. If a dependency has its own path, this path starts at its package's
--- folder. If the dependency inherits the workspace's entry with the same key, the path is that of
--- the entry, and starts at the root's folder. An inherited dependency requests the features of both
--- entries, and `default` if one of the two entries does.
+-- folder. If the dependency inherits the workspace's entry with the same key, the path is the
+-- entry's path, and starts at the root folder. An inherited dependency requests the features of
+-- both entries, and `default` if one of the two entries does.
 pub data RequestsPackage (root folder : List ℕ) (entries : List WorkspaceDependency) (d : Dependency) : List ℕ → PathSource → Bool → List (List ℕ) → Type 0 where
   path : (s : PathSource) (is : d.source ≡ source.Path s) → RequestsPackage root folder entries d (resolved folder s.path) s s.default_features d.features
   workspace : (default : Bool) (is : d.source ≡ source.Workspace default) (w : WorkspaceDependency) (there : Contains entries w) (same : w.key ≡ d.key) (s : PathSource) (has_path : w.source ≡ shared.Path s)

@@ -6,8 +6,8 @@ use Rattle.pb_data.specs.Ascii.{slash}
 use Rattle.pb_place_types.specs.Paths.{path_of}
 use Rattle.pb_workspace_package.specs.Between.{names_in, text_between}
 
--- The relative path from a folder to a path goes up and then down. It goes up to the last folder
--- that the two have in common.
+-- The relative path from a folder to a path goes up and then down. The relative path goes up to the
+-- last folder that the folder and the path have in common.
 abbrev pub TextsLeadBetween : Type 0
 TextsLeadBetween = (folder path : List ℕ) → let same = common_prefix_len bytes_eq (names_in folder) (names_in path) in
     text_between folder path ≡ join_by (λ name. name) (codes "/") (replicate (length (names_in folder) - same) (codes "..") ++ drop same (names_in path))

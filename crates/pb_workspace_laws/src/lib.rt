@@ -13,14 +13,14 @@ ghost use Rattle.pb_workspace_laws.specs.Ways.{PathsAreSpelled, TextsLeadBetween
 ///   dependency. The packages are in byte order of these folders.
 /// - Each package is described, key by key, by the manifest and the files in its folder, and by
 ///   what a member inherits from the workspace.
-/// - This includes the binaries of the package, if the files of the sources have normalised
-///   absolute paths.
+/// - The description includes the binaries of the package, if the files of the sources have
+///   normalised absolute paths.
 pub fn workspaces_are_read()
     ensures { WorkspacesAreRead }
 {}
 
-/// A law: only one workspace satisfies the first law. So the first law determines all of a
-/// workspace that was read.
+/// A law: only one workspace satisfies the law `workspaces_are_read`. So that law determines
+/// everything in a workspace that was read.
 pub fn workspaces_are_one()
     ensures { WorkspacesAreOne }
 {}

@@ -17,8 +17,9 @@ names_in path = filter is_word (slice_split (λ b. b == slash) path)
 abbrev pub upward : List (List ℕ) → List (List ℕ)
 upward names = replicate (length names) (codes "..")
 
--- The steps from the first path to the second. The common beginning of the two paths is left out.
--- Then each name left in the first path becomes one `..`. The names left in the second path follow.
+-- The steps from a first path to a second path. The common beginning of the two paths is left out.
+-- Each remaining name of the first path becomes one `..`. The remaining names of the second path
+-- follow.
 abbrev pub steps_between : List (List ℕ) → List (List ℕ) → List (List ℕ)
 steps_between [] others = others
 steps_between (name ∷ names) [] = upward (name ∷ names)
@@ -29,6 +30,7 @@ abbrev pub spelled : List (List ℕ) → List ℕ
 spelled [] = []
 spelled (name ∷ names) = name ++ slashed names
 
--- the path from a folder to a path, as in `../README.md`, or the empty text if the two are equal
+-- the path that leads from a folder to a second path, as in `../README.md`, or the empty text if
+-- the two are equal
 abbrev pub text_between : List ℕ → List ℕ → List ℕ
 text_between folder path = spelled (steps_between (names_in folder) (names_in path))

@@ -10,7 +10,7 @@ use Rattle.pb_workspace_package.specs.Sorted.{with_entry}
 use Rattle.pb_workspace_package.specs.Sources.{own_source, resolved}
 
 -- `src/main.rs`, which is one of the three paths that the source of a binary may have; the next two
--- definitions are the others
+-- definitions are the other two paths
 abbrev pub main_source : List ℕ
 main_source = codes "src/main.rs"
 
@@ -25,20 +25,21 @@ abbrev pub first_some : {A : Type 0} → Option A → Option A → Option A
 first_some None second = second
 first_some (Some x) second = Some x
 
--- whichever of `src/bin/NAME.rs` and `src/bin/NAME/main.rs` is a file of the sources; the first, if
--- both are
+-- the first of `src/bin/NAME.rs` and `src/bin/NAME/main.rs` that is a file of the sources, if one
+-- of the two is
 abbrev pub looked_in_bin : List ℕ → World → List ℕ → Option (List ℕ)
 looked_in_bin folder sources name = first_some (own_source folder sources (flat_source name)) (own_source folder sources (nested_source name))
 
--- The source of a `[[bin]]` without a written path: the first of three paths that is a file. The
--- paths are `src/main.rs`, if the binary has its package's name, and the two in `src/bin`. If no
--- path is that of a file, the source is the first of these paths.
+-- The source of a `[[bin]]` without a written path. It is one of these paths: `src/main.rs`, if the
+-- binary has the package's name, and the two paths in `src/bin`. The first path with a file counts,
+-- or the first path if none has a file.
 abbrev pub looked_for : List ℕ → World → Bool → List ℕ → List ℕ
 looked_for folder sources is_packages name =
     if is_packages then unwrap_or (first_some (own_source folder sources main_source) (looked_in_bin folder sources name)) (below folder main_source)
     else unwrap_or (looked_in_bin folder sources name) (below folder (flat_source name))
 
--- the source of a `[[bin]]`: its written path, or the path that is looked for
+-- the source of a `[[bin]]`: the written path, or, without a written path, the path that
+-- `looked_for` finds
 abbrev pub binary_source : List ℕ → World → List ℕ → List ℕ → Option (List ℕ) → List ℕ
 binary_source folder sources package_name name (Some path) = resolved folder path
 binary_source folder sources package_name name None = looked_for folder sources (bytes_eq name package_name) name
@@ -51,8 +52,8 @@ written_binary folder sources package_name b = record {
   required_features = b.required_features;
 }
 
--- The entries after these binaries are added one by one, in byte order of the names. A later binary
--- replaces an earlier binary of the same name.
+-- The entries, to which these binaries are added one by one. The result is in byte order of the
+-- names. A later binary replaces an earlier binary of the same name.
 abbrev pub with_binaries : List (List ℕ × Binary) → List Binary → List (List ℕ × Binary)
 with_binaries entries [] = entries
 with_binaries entries (b ∷ bs) = with_binaries (with_entry entries b.name b) bs
@@ -61,8 +62,8 @@ with_binaries entries (b ∷ bs) = with_binaries (with_entry entries b.name b) b
 abbrev pub binary_of : List ℕ × Binary → Binary
 binary_of entry = record { name = entry.0; source = entry.1.source; required_features = entry.1.required_features }
 
--- The binaries of a package: those that were found and those that are written. If several found
--- binaries have the same name, the last one counts. A written binary replaces a found binary of the
--- same name.
+-- The binaries of a package: the found binaries and the binaries that the manifest writes. If
+-- several found binaries have the same name, the last one counts. A written binary replaces a found
+-- binary of the same name.
 abbrev pub binaries_of : List Binary → List Binary → List Binary
 binaries_of found written = map binary_of (with_binaries (with_binaries [] found) written)

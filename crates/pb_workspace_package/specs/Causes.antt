@@ -11,13 +11,13 @@ use Rattle.pb_place_types.specs.declared.place.PlaceFault.TheVariants as place
 use Rattle.pb_workspace_types.specs.declared.fault.LoadFault.{LoadFault}
 use Rattle.pb_workspace_types.specs.declared.fault.LoadFault.TheVariants.{Place, OutOfMemory}
 
--- the fault is that of a failed call of the place
+-- the fault reports a failed call of the place
 abbrev pub is_failure : LoadFault → Bool
 is_failure (Place path fault) = true
 is_failure _ = false
 
--- The fault is that of a failed call, or memory ran out. Definitions of answers do not have these
--- faults.
+-- The fault reports a failed call of the place, or that memory ran out. Definitions of answers do
+-- not have such faults.
 abbrev pub is_outside : LoadFault → Bool
 is_outside (Place path fault) = true
 is_outside OutOfMemory = true
@@ -29,7 +29,7 @@ is_read_fault place.Read = true
 is_read_fault place.List = true
 is_read_fault _ = false
 
--- if the fault is that of a failed call, the call was to read a file or to list a folder
+-- if the fault reports a failed call, this call was to read a file or to list a folder
 abbrev pub is_read : LoadFault → Bool
 is_read (Place path fault) = is_read_fault fault
 is_read _ = true
@@ -53,13 +53,13 @@ fault_at path fault = Place path fault
 abbrev pub UnlessFailed : {A : Type 0} → Result A LoadFault → Result A LoadFault → Type 0
 UnlessFailed result answer = MatchResult result (λ x. answer ≡ Ok x) (λ e. is_outside e ≡ false → answer ≡ Err e)
 
--- No child was started. A call failed if and only if the fault says so. In this case the fault has
--- the failed call's own fault and path, and no call came after it.
+-- No child was started. A call failed if and only if the result reports a failed call. In this case
+-- the result has the call's own fault and path, and no call came after this call.
 abbrev pub ReadsOnly : {T : Type 0} → Result T LoadFault → Counts → Counts → Type 0
 ReadsOnly result old new = MatchResult result (λ _. (new.failures ≡ old.failures) × (new.starts ≡ old.starts))
     (λ e. (new.starts ≡ old.starts) × (is_failure e ≡ false → new.failures ≡ old.failures) × (is_failure e ≡ true → new.failures ≡ up old.failures) × (is_failure e ≡ true → new.late ≡ 0) × (is_failure e ≡ true → new.last ≡ failure_of e) × (is_failure e ≡ true → named_in new ≡ path_told e) × (is_read e ≡ true))
 
--- The step changes nothing but the counters. If a call failed, no call came after it.
+-- The step changes nothing but the counters. If a call failed, no call came after the failed call.
 pub record OnlyLooks {T : Type 0} (result : Result T LoadFault) (old new : At) : Type 0 where
   pub world : new.world ≡ old.world
   pub most : new.most ≡ old.most

@@ -14,8 +14,8 @@ use Rattle.pb_workspace_package.specs.declared.settling.Targets.{Targets}
 use Rattle.pb_workspace_package.specs.declared.wanted.Wanted.{Wanted}
 use Rattle.pb_workspace_types.specs.Settled.{IsAscending}
 
--- The name of a library has the letters of crates' names. The next definitions say this of other
--- names, each with the letters that its kind may have.
+-- The name of a library has the letters that crates' names may have. The next definitions say which
+-- letters other kinds of names have.
 abbrev pub IsLibraryNamed : Library → Type 0
 IsLibraryNamed l = is_crate_name l.name ≡ true
 

@@ -1,6 +1,6 @@
--- A package as a whole. Its manifest and its folder describe it, and it inherits from its workspace
--- (The Cargo Book, Manifest Format and Workspaces). `sources` is the world without the files at or
--- below the target folder.
+-- A package as a whole. The package's manifest and folder describe the package, and the package
+-- inherits from its workspace (The Cargo Book, Manifest Format and Workspaces). `sources` is the
+-- world without the files at or below the target folder.
 use Rattle.std.specs.Prelude.{ℕ, Bool, List, Result, Ok}
 use Rattle.pb_data.specs.UnlessOom.{◌>>=◌}
 use Rattle.pb_place_types.specs.World.{World}

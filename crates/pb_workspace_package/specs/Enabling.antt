@@ -21,7 +21,7 @@ named_in f = flat_map named_by f.items
 abbrev pub AreEnabledNames : List (List ℕ) → List Feature → Type 0
 AreEnabledNames names features = (name : List ℕ) → is_mentioned names name ≡ is_enabled_by_name name features
 
--- the features after an entry of a dependency table; if this entry makes a feature, that feature
--- was added
+-- the features after one more entry of a dependency table: if the entry makes a feature, this
+-- feature is added
 abbrev pub with_one : List (List ℕ) → List (List ℕ × List FeatureItem) → Dependency → List (List ℕ × List FeatureItem)
 with_one names entries d = if d.optional && not (is_mentioned names d.key) then with_entry entries d.key (item.Dependency d.key ∷ []) else entries

@@ -22,8 +22,8 @@ is_enabled_by_name name features = list_any (λ f. list_any (enables name) f.ite
 abbrev pub makes_feature : List Feature → Dependency → Bool
 makes_feature written d = d.optional && not (is_enabled_by_name d.key written)
 
--- the features after these entries; an entry that makes a feature adds it, with the single item
--- `dep:KEY`
+-- the features after these entries: each entry that makes a feature adds this feature, with the
+-- single item `dep:KEY`
 abbrev pub with_made : List Feature → List (List ℕ × List FeatureItem) → List Dependency → List (List ℕ × List FeatureItem)
 with_made written entries [] = entries
 with_made written entries (d ∷ ds) = with_made written (if makes_feature written d then with_entry entries d.key (item.Dependency d.key ∷ []) else entries) ds

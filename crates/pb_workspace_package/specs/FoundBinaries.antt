@@ -50,7 +50,7 @@ found_at path (Some name) = Some record { name = name; source = path; required_f
 abbrev pub binary_at : Bool → List ℕ → List ℕ → Option Binary
 binary_at nested bin path = found_at path (name_inside nested (inside bin path))
 
--- the binary with the source `src/main.rs`, if that is a file; its name is that of the package
+-- the binary with the source `src/main.rs`, if this file exists; the binary has the package's name
 abbrev pub main_binary : List ℕ → Option (List ℕ) → List Binary
 main_binary name None = []
 main_binary name (Some path) = record { name = name; source = path; required_features = [] } ∷ []
@@ -59,7 +59,7 @@ abbrev pub bin_folder : List ℕ → List ℕ
 bin_folder folder = below folder (codes "src/bin")
 
 -- The binaries that are found, in this order: `src/bin/NAME/main.rs`, `src/bin/NAME.rs`,
--- `src/main.rs`. If two have the same name, the later one counts.
+-- `src/main.rs`. If two binaries have the same name, the later one counts.
 abbrev pub found_binaries : List ℕ → World → List ℕ → List Binary
 found_binaries folder sources name =
     filter_map (binary_at true (bin_folder folder)) (listed (bin_folder folder) sources)

@@ -1,5 +1,5 @@
 -- How the keys of a package are settled. These definitions are about one package, and about what
--- its workspace lets it inherit.
+-- the package can inherit from its workspace.
 use Rattle.std.specs.Prelude.{ℕ, List, Result, Ok}
 use Rattle.pb_data.specs.UnlessOom.{◌>>=◌}
 use Rattle.pb_place_types.specs.World.{World}
@@ -19,7 +19,7 @@ keys_from at given readme p =
     about_of at.root at.folder readme p given >>= (λ about.
     Ok record { name = p.name; version = version; edition = edition; about = about; links = p.links; autobins = p.autobins; build = p.build })))
 
--- the settled keys of a package: what its manifest writes, what it inherits, and what its folder
--- contains
+-- the settled keys of a package: what the package's manifest writes, what the package inherits, and
+-- what the package's folder contains
 abbrev pub keys_of : World → PackageLocation → WorkspacePackage → Package → Result Keys LoadFault
 keys_of sources at given p = keys_from at given (readme_found at.folder sources p.readme) p

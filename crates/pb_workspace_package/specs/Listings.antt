@@ -1,5 +1,5 @@
--- What is read of a package's folder. Nothing else decides what is found there. `sources` is the
--- world without the files at or below the target folder.
+-- What is read of a package's folder. What is found in the folder depends on nothing else.
+-- `sources` is the world without the files at or below the target folder.
 use Rattle.std.specs.Prelude.{◌≡◌, ℕ, Bool, List, filter}
 use Rattle.pb_place_types.specs.World.{World, listed}
 use Rattle.pb_workspace_package.specs.declared.listings.Listings.{Listings}
@@ -12,7 +12,7 @@ use Rattle.pb_workspace_package.specs.Sources.{has_own_file}
 abbrev pub is_there : List ℕ → World → OwnFile → Bool
 is_there folder sources file = has_own_file folder sources (name_of file)
 
--- The listings name the files that the folder has at fixed paths, and the files below its
+-- The listings name the files that the folder has at fixed paths, and the files below the folder's
 -- `src/bin`.
 pub record AreListingsOf (folder : List ℕ) (sources : World) (l : Listings) : Type 0 where
   pub own : l.own ≡ filter (is_there folder sources) own_files

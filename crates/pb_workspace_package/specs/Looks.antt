@@ -14,20 +14,20 @@ use Rattle.pb_workspace_package.specs.Causes.{is_failure, is_outside}
 use Rattle.pb_workspace_package.specs.FoundBinaries.{bin_folder}
 use Rattle.pb_workspace_package.specs.OwnFile.{name_of, own_files}
 
--- One of these calls failed. All calls before it succeeded, and no call came after it.
+-- One of these calls failed. All calls before the failed call succeeded, and no call came after the
+-- failed call.
 abbrev pub FailsOn : LoadFault → List Call → Counts → Counts → Type 0
 FailsOn (Place path fault) calls old new = FailsAt fault calls old new
 FailsOn e calls old new = ⊥
 
--- How a step ended with this error. A refusal came after all of these calls. Memory may run out
--- after the first n of them, for some n. A failed call is one of these calls, and no call came
--- after it.
+-- How a step ended, given the error. A refusal came after all of these calls. Memory may run out
+-- after the first n of these calls, for some n. A failed call is one of these calls, and the last
+-- call that was made.
 abbrev pub LooksUntil : LoadFault → List Call → Counts → Counts → Type 0
 LooksUntil e calls old new = (is_outside e ≡ false → new ≡ past_calls calls old) × (is_failure e ≡ false → MakesSome calls old new) × (is_failure e ≡ true → FailsOn e calls old new)
 
--- After a success, exactly these calls were made. After an error, the first n of them were made,
--- for some n. Each call is counted and the failed call is recorded. So the counters also determine
--- the order of the calls.
+-- After a success, exactly these calls were made. After an error, the first n of these calls were
+-- made, for some n. The counters of a place also record the failed call.
 abbrev pub Looks : {T : Type 0} → Result T LoadFault → List Call → Counts → Counts → Type 0
 Looks result calls old new = MatchResult result (λ _. new ≡ past_calls calls old) (λ e. LooksUntil e calls old new)
 
@@ -44,7 +44,7 @@ after (Err e) next = []
 abbrev pub own_asked : List ℕ → List ℕ → OwnFile → List Call
 own_asked target folder file = looked target (call.IsFile (below folder (name_of file)))
 
--- The calls for a package's folder. One call for each file at a fixed path asks whether the file is
--- there. Then the files below `src/bin` are listed.
+-- The calls for a package's folder. For each file at a fixed path, one call asks whether the file
+-- is there. Then the files below `src/bin` are listed.
 abbrev pub listings_at : List ℕ → List ℕ → List Call
 listings_at target folder = flat_map (own_asked target folder) own_files ++ looked target (call.ListOutside (bin_folder folder) target)

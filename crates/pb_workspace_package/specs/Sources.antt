@@ -12,16 +12,16 @@ use Rattle.pb_manifest_types.specs.declared.target.CrateType.TheVariants.{Lib}
 use Rattle.pb_manifest_types.specs.declared.target.Library.{Library as written}
 use Rattle.pb_workspace_types.specs.declared.package.Library.{Library}
 
--- the sources have a file with this path from the package's folder
+-- the sources have the file to which this path leads from the package's folder
 abbrev pub has_own_file : List ℕ → World → List ℕ → Bool
 has_own_file folder sources name = has_file (below folder name) sources
 
--- the path of the file with this name in the package's folder, if the sources have it
+-- the path of the file with this name in the package's folder, if the sources have this file
 abbrev pub own_source : List ℕ → World → List ℕ → Option (List ℕ)
 own_source folder sources name = if has_own_file folder sources name then Some (below folder name) else None
 
--- The README of a package whose manifest does not mention a README. It is the first of these three
--- names for which the package's folder has a file.
+-- The README of a package if the package's manifest does not mention a README: the first of
+-- `README.md`, `README.txt` and `README` that is a file of the package's folder.
 abbrev pub found_readme : List ℕ → World → List ℕ
 found_readme folder sources =
     if has_own_file folder sources (codes "README.md") then codes "README.md"
@@ -54,12 +54,12 @@ served_types (t ∷ ts) = t ∷ ts
 abbrev pub written_library : List ℕ → List ℕ → written → Library
 written_library folder name l = record { name = name; crate_types = served_types l.crate_types; source = library_source folder l.path }
 
--- the library of a package without `[lib]`, which exists only if `src/lib.rs` is a file
+-- the library of a package without `[lib]`; this library exists only if `src/lib.rs` is a file
 abbrev pub found_library : List ℕ → World → List ℕ → Option Library
 found_library folder sources name =
     if has_own_file folder sources (codes "src/lib.rs") then Some record { name = name; crate_types = Lib ∷ []; source = below folder (codes "src/lib.rs") } else None
 
--- the library of the package with this name, if it has a library
+-- the library of the package with this name, if the package has a library
 abbrev pub library_of : List ℕ → World → List ℕ → Option written → Option Library
 library_of folder sources name None = found_library folder sources (library_name name None)
 library_of folder sources name (Some l) = Some (written_library folder (library_name name (Some l)) l)

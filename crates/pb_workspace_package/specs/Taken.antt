@@ -17,8 +17,8 @@ use Rattle.pb_workspace_types.specs.declared.fault.LoadFault.TheVariants.{NoInhe
 use Rattle.pb_workspace_types.specs.declared.package.About.{About}
 use Rattle.pb_workspace_package.specs.Between.{text_between}
 
--- a value that a package must have; either its manifest writes the value, or the package inherits
--- the value from the workspace
+-- a value that a package must have; either the package's manifest writes the value, or the package
+-- inherits the value from the workspace
 abbrev pub own_or_given : {A : Type 0} → Inherited A → Option A → Result A LoadFault
 own_or_given (inherited.Written x) given = Ok x
 own_or_given inherited.Workspace given = some_or NoInherited given
@@ -44,13 +44,14 @@ authors_of (Written authors) given = Ok (joined_authors authors)
 authors_of Workspace given = some_or NoInherited given >>= (λ authors. Ok (joined_authors authors))
 authors_of Absent given = Ok []
 
--- the path from the member's folder to a path, or the text itself if the text is not a path
+-- the path from the member's folder to the path that a text spells; if the text spells no path, the
+-- text itself
 abbrev pub between_or : List ℕ → List ℕ → Result (List ℕ) PathFault → List ℕ
 between_or folder text (Ok path) = text_between folder path
 between_or folder text (Err fault) = text
 
--- A path of the workspace, rewritten so that it starts at the member's folder. In the workspace,
--- the path starts at the root.
+-- A path of the workspace, rewritten so that it starts at the member's folder. In the workspace's
+-- manifest, the path starts at the root folder.
 abbrev pub from_member : List ℕ → List ℕ → List ℕ → List ℕ
 from_member root folder text = between_or folder text (joined root text)
 

@@ -18,7 +18,7 @@ use Rattle.pb_workspace_types.specs.declared.package.DependencyKind.{DependencyK
 use Rattle.pb_workspace_package.specs.declared.wanted.Wanted.{Wanted}
 use Rattle.pb_workspace_package.specs.Sources.{resolved}
 
--- `package` has another name than the key
+-- the name at `package` differs from the entry's key
 abbrev pub is_renamed : List ℕ → Option (List ℕ) → Bool
 is_renamed key None = false
 is_renamed key (Some name) = not (bytes_eq name key)
@@ -41,14 +41,15 @@ wanted_at base kind key optional default features source = record {
 abbrev pub shared_at : List ℕ → List WorkspaceDependency → Option WorkspaceDependency
 shared_at key dependencies = find (λ d. bytes_eq key d.key) dependencies
 
--- What an entry requests if it inherits a workspace entry. The features are those of the workspace
--- entry, followed by the entry's own. `default` is requested if one of the two entries requests it.
+-- What an entry requests if it inherits a workspace entry. The features of the workspace entry come
+-- first, and then the entry's own features. `default` is requested if one of the two entries
+-- requests it.
 abbrev pub taken_from : List ℕ → List ℕ → DependencyKind → Dependency → Bool → WorkspaceDependency → WorkspaceSource → Result Wanted LoadFault
 taken_from root manifest kind d default w (shared.Path source) = Ok (wanted_at root kind d.key d.optional (source.default_features || default) (w.features ++ d.features) source)
 taken_from root manifest kind d default w shared.Unsupported = Err (Manifest manifest UnsupportedSource)
 
 -- What an entry of a package requests, given the package's folder and manifest. `given` are the
--- entries of the workspace that it may inherit.
+-- entries of the workspace that the entry may inherit.
 abbrev pub wanted_by : List ℕ → List ℕ → List ℕ → List WorkspaceDependency → DependencyKind → Dependency → Source → Result Wanted LoadFault
 wanted_by root folder manifest given kind d (Path source) = Ok (wanted_at folder kind d.key d.optional source.default_features d.features source)
 wanted_by root folder manifest given kind d (Workspace default) = some_or NoInherited (shared_at d.key given) >>= (λ w. taken_from root manifest kind d default w w.source)

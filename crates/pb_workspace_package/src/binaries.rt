@@ -19,7 +19,7 @@ use pb_place_types::PathText;
 use pb_workspace_types::{BinariesByName, Binary};
 use std::alloc::{AllocError, Global};
 
-/// Returns a name and what follows it.
+/// Returns a name with an end appended.
 fn with_end(alloc: Global, name: &str, end: &str) -> Result<Text, AllocError>
     ensures { IfOk result (λ text. text ≡ name.now ++ end.now) }
 {
@@ -59,7 +59,7 @@ fn flat_path(alloc: Global, folder: &PathText, name: &str) -> Result<PathText, A
     bin_path(alloc, folder, flat.as_str())
 }
 
-/// Returns the source of a `[[bin]]` that has no path and is not named as its package.
+/// Returns the source of a `[[bin]]` that has no path and does not have its package's name.
 fn looked_for_other(
     alloc: Global,
     listings: &Listings,
@@ -76,7 +76,7 @@ fn looked_for_other(
     flat_path(alloc, folder, name)
 }
 
-/// Returns the source of a `[[bin]]` that has no path and is named as its package.
+/// Returns the source of a `[[bin]]` that has no path and has its package's name.
 fn looked_for_main(
     alloc: Global,
     listings: &Listings,
@@ -100,7 +100,7 @@ fn looked_for_main(
 /// writes a path, the source is this path, unchanged.
 ///
 /// If no path is written, the source is the first of these paths that is a file. The paths are
-/// `src/main.rs` (only if the binary is named as its package), `src/bin/NAME.rs` and
+/// `src/main.rs` (only if the binary has its package's name), `src/bin/NAME.rs` and
 /// `src/bin/NAME/main.rs`. If no file exists at these paths, the source is the first of these
 /// paths.
 ///
@@ -207,7 +207,7 @@ fn values_of(alloc: Global, entries: Items<(Text, Binary)>) -> Result<Items<Bina
 
 /// Returns the binaries of a package, found or written, in byte order of their names, each once. If
 /// two found binaries have the same name, the later one counts. A written binary replaces a found
-/// binary of its name.
+/// binary of the same name.
 ///
 /// Errors: out of memory.
 pub fn binaries_of(

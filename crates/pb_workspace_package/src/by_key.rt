@@ -16,7 +16,7 @@ use pb_manifest_types::WorkspaceDependency;
 use std::alloc::Global;
 use std::marker::Model;
 
-/// What entries request, in the order of the entries. Contracts see it as a list.
+/// What entries request, in the order of the entries. Contracts see the requests as a list.
 #[derive(Drop)]
 pub struct WantedByKey {
     inside: Items<Wanted>,
@@ -39,7 +39,7 @@ impl Model for WantedByKey {
 }
 
 impl WantedByKey {
-    /// Makes the value from items that are in order.
+    /// Returns these items, which are in order, as a `WantedByKey`.
     pub fn from_items(wanted: Items<Wanted>) -> WantedByKey
         requires { IsStrictlySortedBy (slice_cmp nat_cmp)
             (map (λ one. table_key one.kind one.key) wanted) }
@@ -66,7 +66,7 @@ impl WantedByKey {
 }
 
 /// Entries of `[workspace.dependencies]` in byte order of their keys, each key once. Contracts see
-/// them as a list.
+/// the entries as a list.
 #[derive(Drop)]
 pub struct SharedByKey {
     inside: Items<WorkspaceDependency>,
@@ -97,7 +97,7 @@ impl SharedByKey {
         }
     }
 
-    /// Makes the value from entries that are in byte order of their keys.
+    /// Returns these entries, which are in byte order of their keys, as a `SharedByKey`.
     pub fn from_items(entries: Items<WorkspaceDependency>) -> SharedByKey
         requires { IsStrictlySortedBy (slice_cmp nat_cmp) (map (λ entry. entry.key) entries) }
         ensures { result ≡ entries }

@@ -1,4 +1,4 @@
-//! The features of a package, with those that its optional dependencies make.
+//! The features of a package, including the features that its optional dependencies make.
 
 ghost use Rattle.std.specs.Prelude.{◌≡◌, ◌∷◌, [], ◌&&◌, List, not, IfOk, OnOk, map};
 ghost use Rattle.std.specs.List.{AllByRecursion, flat_map};
@@ -187,9 +187,9 @@ fn made_of(
 }
 
 /// Returns the features of a package, in byte order of their names, each once (The Cargo Book,
-/// Features). An optional entry N of one of its two tables makes a feature N with the single item
-/// `dep:N`, unless some feature lists `dep:N`. A written feature replaces a feature of the same
-/// name that an entry makes.
+/// Features). An optional entry N of one of the two dependency tables makes a feature N with the
+/// single item `dep:N`, unless some feature lists `dep:N`. A written feature replaces a feature of
+/// the same name that an entry makes.
 ///
 /// Errors: out of memory.
 pub fn features_of(

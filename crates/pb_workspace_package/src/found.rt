@@ -153,8 +153,8 @@ fn found_library(
 }
 
 /// Returns the library of a package of this name, if the package has a library (The Cargo Book,
-/// Cargo Targets). The result is the library of `[lib]`. Without `[lib]`, it is `src/lib.rs`, if
-/// the package's folder has this file.
+/// Cargo Targets). The result is the library of `[lib]`. Without `[lib]`, the result is
+/// `src/lib.rs`, if the package's folder has this file.
 ///
 /// Errors: out of memory.
 #[tactic(auto, using(crate::proofs::Naming::library_laws))]

@@ -70,7 +70,7 @@ fn nested_name(alloc: Global, names: &[&str]) -> Result<Option<Text>, AllocError
     }
 }
 
-/// Returns the name of the binary at a path, if the path is that of a binary.
+/// Returns the name of the binary at a path, if the path has the form of a binary's source.
 fn name_by(alloc: Global, nested: bool, path: &str) -> Result<Option<Text>, AllocError>
     ensures { IfOk result (λ name. name ≡ name_by nested (names_in path.now)) }
 {
@@ -82,7 +82,8 @@ fn name_by(alloc: Global, nested: bool, path: &str) -> Result<Option<Text>, Allo
     }
 }
 
-/// Returns the name of the binary at a path in `src/bin`, if the path is that of a binary.
+/// Returns the name of the binary at a path in `src/bin`, if the path has the form of a binary's
+/// source.
 fn name_inside(
     alloc: Global,
     nested: bool,
@@ -97,7 +98,7 @@ fn name_inside(
     }
 }
 
-/// Returns the binary at a path in `src/bin`, if the path is that of a binary.
+/// Returns the binary at a path in `src/bin`, if the path has the form of a binary's source.
 fn binary_at(
     alloc: Global,
     nested: bool,
@@ -176,7 +177,7 @@ fn binaries_from(
 
 /// Returns the binaries that a package's folder has (The Cargo Book, Cargo Targets). The binaries
 /// of `src/bin/NAME/main.rs` come first, and then the binaries of `src/bin/NAME.rs`. The binary of
-/// `src/main.rs` comes last, and is named as the package.
+/// `src/main.rs` comes last, and has the package's name.
 ///
 /// If two binaries have the same name, the later one counts. NAME must be a valid name of a
 /// package. Files at or below the target folder are left out.

@@ -1,4 +1,4 @@
-//! The keys of a package, after it has inherited from its workspace.
+//! The keys of a package, after the package has inherited from its workspace.
 
 ghost use Rattle.std.specs.Prelude.{◌≡◌, IfErr, false, IfOk};
 ghost use Rattle.pb_data.specs.UnlessOom.{UnlessOom};
@@ -26,9 +26,9 @@ pub struct Keys {
     pub version: Version,
     /// Its edition.
     pub edition: Edition,
-    /// What it says about itself to people.
+    /// What the package says about itself to people.
     pub about: About,
-    /// The native library that it links.
+    /// The native library that the package links.
     pub links: Option<Text>,
     /// Whether binaries are discovered.
     pub autobins: bool,
@@ -56,7 +56,7 @@ fn build_of(alloc: Global, build: &Build) -> Result<Build, AllocError>
 pub struct Own {
     /// Its name.
     pub name: Text,
-    /// The native library that it links.
+    /// The native library that the package links.
     pub links: Option<Text>,
     /// The value of `build`.
     pub build: Build,
@@ -74,7 +74,8 @@ fn own_keys(alloc: Global, found: &Package) -> Result<Own, AllocError>
     Ok(Own { name, links, build })
 }
 
-/// Returns the keys of a package. `readme` is the README that was found in its folder, or empty.
+/// Returns the keys of a package. `readme` is the README that was found in the package's folder, or
+/// the empty text.
 fn keys_from(
     alloc: Global,
     at: &PackageLocation,
@@ -105,7 +106,7 @@ fn keys_from(
     })
 }
 
-/// Returns the keys of a package. Each is written in the manifest, taken from the workspace, or
+/// Returns the keys of a package. Each key is written in the manifest, taken from the workspace, or
 /// found in the package's folder (The Cargo Book, Manifest Format and Workspaces).
 ///
 /// Errors: `NoInherited`, if a key is taken from a workspace that does not have it; `OutOfMemory`.

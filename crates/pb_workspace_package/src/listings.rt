@@ -24,7 +24,7 @@ use std::alloc::{AllocError, Global};
 pub struct Listings {
     /// The files at fixed paths, in the order in which they are looked up.
     pub own: Items<OwnFile>,
-    /// The files below its `src/bin`, in byte order.
+    /// The files below the package's `src/bin`, in byte order.
     pub in_bin: Items<PathText>,
 }
 

@@ -22,11 +22,11 @@ pub enum OwnFile {
     BuildScript,
     /// `src/lib.rs`, the library.
     Library,
-    /// `src/main.rs`, the binary that is named as the package.
+    /// `src/main.rs`, the binary that has the package's name.
     Main,
 }
 
-/// All of these files, in the order in which they are looked up.
+/// All files at fixed paths, in the order in which they are looked up.
 pub const OWN_FILES: [OwnFile; 6] = [
     OwnFile::ReadmeMd,
     OwnFile::ReadmeTxt,

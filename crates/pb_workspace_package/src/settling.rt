@@ -39,11 +39,11 @@ pub struct Given {
 /// What a package is built into.
 #[derive(Drop)]
 pub struct Targets {
-    /// Its library, if it has one.
+    /// The package's library, if it has one.
     pub library: Option<Library>,
-    /// Its binaries, in byte order of their names.
+    /// The package's binaries, in byte order of their names.
     pub binaries: BinariesByName,
-    /// The source of its build script, if it has one.
+    /// The source of the package's build script, if it has one.
     pub script: Option<PathText>,
 }
 
@@ -167,7 +167,8 @@ pub fn targets_of(
     })
 }
 
-/// Returns whether a name of these `[[bin]]` repeats, or was seen before.
+/// Returns whether two of these `[[bin]]` have the same name, or whether one has a name that was
+/// seen before.
 fn binaries_come_again(
     alloc: Global,
     seen: &mut OrderedSet,

@@ -33,7 +33,7 @@ impl<V: Drop> Sorted<V> {
         }
     }
 
-    /// Inserts an entry at its position. An entry of the same name is replaced.
+    /// Inserts the value of a name. An earlier value of the same name is replaced.
     pub fn insert(&mut self, name: Text, value: V) -> Result<(), AllocError>
         ensures { OnOk result (self.new ≡ with_entry self.old name value) }
     {

@@ -140,7 +140,8 @@ pub fn source_folders<P: Place>(
     }
 }
 
-/// Returns the path of a name, or of names with slashes between them, from a folder.
+/// Returns the path of a file or folder inside a folder. `name` is a name, or names with slashes
+/// between them.
 ///
 /// Errors: out of memory.
 pub fn own_path(alloc: Global, folder: &PathText, name: &str) -> Result<PathText, AllocError>

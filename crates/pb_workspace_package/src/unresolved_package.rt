@@ -45,11 +45,11 @@ pub struct Tables {
 /// A whole package. The packages of its entries have not been looked for yet.
 #[derive(Drop)]
 pub struct UnresolvedPackage {
-    /// The folder that contains its manifest.
+    /// The folder that contains the package's manifest.
     pub folder: PathText,
     /// The path of its manifest.
     pub manifest: PathText,
-    /// Whether it is a member of the workspace.
+    /// Whether the package is a member of the workspace.
     pub is_member: bool,
     /// Its name.
     pub name: Text,
@@ -57,23 +57,23 @@ pub struct UnresolvedPackage {
     pub version: Version,
     /// Its edition.
     pub edition: Edition,
-    /// What it says about itself to people.
+    /// What the package says about itself to people.
     pub about: About,
-    /// The native library that it links.
+    /// The native library that the package links.
     pub links: Option<Text>,
-    /// Its library, if it has one.
+    /// The package's library, if it has one.
     pub library: Option<Library>,
-    /// Its binaries, in byte order of their names.
+    /// The package's binaries, in byte order of their names.
     pub binaries: BinariesByName,
-    /// The source of its build script, if it has one.
+    /// The source of the package's build script, if it has one.
     pub script: Option<PathText>,
     /// What its entries request.
     pub wanted: WantedByKey,
-    /// Its features, with those that its optional entries make.
+    /// The package's features, including those that its optional entries make.
     pub features: FeaturesByName,
     /// The keys of `[dev-dependencies]`.
     pub development: Items<Text>,
-    /// Whether two of its `[[bin]]` have the same name.
+    /// Whether two `[[bin]]` of the package have the same name.
     pub has_same_binaries: bool,
 }
 
@@ -82,9 +82,9 @@ pub struct UnresolvedPackage {
 pub struct Lists {
     /// What its entries request.
     pub wanted: WantedByKey,
-    /// Its features, with those that its optional entries make.
+    /// The package's features, including those that its optional entries make.
     pub features: FeaturesByName,
-    /// Whether two of its `[[bin]]` have the same name.
+    /// Whether two `[[bin]]` of the package have the same name.
     pub has_same_binaries: bool,
 }
 

@@ -1,5 +1,5 @@
--- The order of a package's entries. Those of `[dependencies]` come before those of
--- `[build-dependencies]`. In each table they are in byte order of their keys.
+-- The order of a package's entries. Entries of `[dependencies]` come before entries of
+-- `[build-dependencies]`. The entries of each table are in byte order of their keys.
 use Rattle.std.specs.Prelude.{ℕ, List, ◌∷◌}
 use Rattle.pb_workspace_types.specs.declared.package.DependencyKind.{DependencyKind}
 use Rattle.pb_workspace_types.specs.declared.package.DependencyKind.TheVariants.{Normal, Build}

@@ -22,8 +22,8 @@ use Rattle.pb_workspace_types.specs.declared.workspace.Workspace.{Workspace}
 abbrev pub IsAscending : List (List ℕ) → Type 0
 IsAscending texts = IsStrictlySortedBy (slice_cmp nat_cmp) texts
 
--- A package in a workspace of `count` packages. The name of each feature is allowed as a name of
--- features or of packages. The second is for features that optional dependencies make.
+-- A package in a workspace of `count` packages. The name of each feature may be a feature's name or
+-- a package's name. Package names are allowed because optional dependencies make features.
 pub record IsPackage (count : ℕ) (p : Package) : Type 0 where
   pub name : is_name p.name ≡ true
   pub crate_name : IfSome p.library (λ library. is_crate_name library.name ≡ true)
@@ -50,7 +50,7 @@ pub record IsSettled (ws : Workspace) : Type 0 where
   pub root : IfSome ws.root_package (λ index. index < length ws.packages)
   pub defaults : IfNamed ws.default_members (All (λ index. index < length ws.packages))
 
--- a workspace, with the selection in it
+-- a workspace, and what is selected in the workspace
 pub record Selected : Type 0 where
   pub workspace : Workspace
   pub selection : Selection

@@ -13,8 +13,8 @@ use Rattle.pb_workspace_types.specs.declared.workspace.Workspace.{Workspace}
 use Rattle.pb_manifest_types.specs.declared.feature.Feature.{Feature}
 use Rattle.pb_manifest_types.specs.declared.feature.FeatureItem.{FeatureItem}
 
--- Given the side of the package that has an entry, the side of the package to which the entry
--- leads. Build dependencies are on the host's side.
+-- The side of the package to which an entry leads, given the side of the package that has the
+-- entry. Build dependencies are on the host's side.
 abbrev pub side_of : DependencyKind → Side → Side
 side_of Normal side = side
 side_of Build side = Host

@@ -29,7 +29,7 @@ fn compare_entry(entry: &Entry, kind: DependencyKind, key: &[u8]) -> Ordering
     }
 }
 
-/// The entries of a package, in order. Contracts see them as a list.
+/// The entries of a package, in order. Contracts see the entries as a list.
 #[derive(Drop)]
 pub struct EntriesByKey {
     inside: Items<Entry>,

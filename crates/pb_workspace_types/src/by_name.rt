@@ -15,7 +15,7 @@ use pb_manifest_types::Feature;
 use std::alloc::Global;
 use std::marker::Model;
 
-/// Binaries in byte order of their names, without repeats. Contracts see them as a list.
+/// Binaries in byte order of their names, without repeats. Contracts see the binaries as a list.
 #[derive(Drop)]
 pub struct BinariesByName {
     inside: Items<Binary>,
@@ -74,7 +74,7 @@ impl BinariesByName {
     }
 }
 
-/// Features in byte order of their names, without repeats. Contracts see them as a list.
+/// Features in byte order of their names, without repeats. Contracts see the features as a list.
 #[derive(Drop)]
 pub struct FeaturesByName {
     inside: Items<Feature>,

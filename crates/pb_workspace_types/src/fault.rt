@@ -33,8 +33,8 @@ pub enum LoadFault {
     /// A package links a native library but has no build script.
     #[error("a package links a native library but has no build script")]
     LinksWithoutScript,
-    /// A package inherits a key or an entry that the workspace does not have. Or a package that is
-    /// not a member inherits.
+    /// A package inherits a key or an entry that the workspace does not have. Or a package inherits
+    /// although it is not a member.
     #[error("a package inherits a key or an entry that does not exist")]
     NoInherited,
     /// There are more than 256 packages.

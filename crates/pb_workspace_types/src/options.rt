@@ -18,7 +18,7 @@ pub struct Options {
     pub all_features: bool,
     /// `--no-default-features`.
     pub no_default_features: bool,
-    /// The profile's name. It is `dev` unless another profile is requested.
+    /// The profile's name, which is `dev` unless another profile is requested.
     pub profile: Text,
     /// `--lib`: the libraries of the selected packages.
     pub lib: bool,
@@ -31,7 +31,7 @@ pub struct Options {
     /// A program and its arguments, which are written before the path of a build script. If there
     /// is no program, the script is started directly.
     pub runner: Items<Text>,
-    /// The value of a child's variable `CARGO`: the builder's path as it was called (our own
+    /// The value of a child's variable `CARGO`: the path by which the builder was called (our own
     /// choice).
     pub tool: Text,
     /// `--jobs`: how many units may be in flight at one time. 0 means 1 (our own choice).
@@ -43,8 +43,8 @@ pub struct Options {
 pub struct Selection {
     /// The indices of the selected packages, in ascending order, without repeats.
     pub packages: Items<usize>,
-    /// The requested features. Each is `FEATURE` or `PACKAGE/FEATURE`, is not empty, and contains
-    /// no commas and no spaces.
+    /// The requested features. Each text is `FEATURE` or `PACKAGE/FEATURE`, is not empty, and
+    /// contains no commas and no spaces.
     pub features: Items<Text>,
     /// Whether all features of the selected packages are requested.
     pub all_features: bool,

@@ -43,8 +43,8 @@ pub struct Entry {
     /// feature.
     pub default_features: bool,
     /// The features that the entry enables. If the entry inherits from `[workspace.dependencies]`,
-    /// the features there come first. The entry's own features follow. Both are in the manifest's
-    /// order.
+    /// the features there come first. The entry's own features follow. The features of each entry
+    /// are in the manifest's order.
     pub features: Items<Text>,
 }
 
@@ -85,8 +85,8 @@ pub struct About {
     /// `license-file`, as a path relative to the package's folder.
     pub license_file: Text,
     /// `readme`, as a path from the package's folder: `README.md` for `true`, nothing for `false`.
-    /// If `readme` is not written, this is the first of `README.md`, `README.txt`, `README` that is
-    /// a file.
+    /// If `readme` is not written, the path is the first of `README.md`, `README.txt`, `README`
+    /// that is a file.
     pub readme: Text,
     /// `repository`.
     pub repository: Text,
@@ -101,11 +101,11 @@ pub struct Package {
     /// The name: ASCII letters, digits, `-` and `_`, not empty. No two packages of a workspace have
     /// the same name.
     pub name: Text,
-    /// The version. If no version is written, it is 0.0.0.
+    /// The version. If no version is written, the version is 0.0.0.
     pub version: Version,
-    /// The edition. If no edition is written, it is 2015.
+    /// The edition. If no edition is written, the edition is 2015.
     pub edition: Edition,
-    /// The folder that contains its manifest.
+    /// The folder that contains the package's manifest.
     pub folder: PathText,
     /// The path of its manifest.
     pub manifest: PathText,
@@ -119,12 +119,12 @@ pub struct Package {
     pub links: Option<Text>,
     /// The package's library, if there is a library.
     pub library: Option<Library>,
-    /// Its binaries, in byte order of their names, without repeats.
+    /// The package's binaries, in byte order of their names, without repeats.
     pub binaries: BinariesByName,
     /// The source of the package's build script, if there is a build script.
     pub script: Option<PathText>,
-    /// The entries of `[dependencies]`, and then the entries of `[build-dependencies]`. Those of
-    /// each table are in byte order of their keys.
+    /// The entries of `[dependencies]`, and then the entries of `[build-dependencies]`. The entries
+    /// of each table are in byte order of their keys.
     pub entries: EntriesByKey,
     /// The features in byte order of their names, without repeats. An optional dependency N makes a
     /// feature N with the single item `dep:N`. If a feature N or some item `dep:N` is written, the

@@ -4,9 +4,9 @@ use crate::options::Selection;
 use crate::workspace::Workspace;
 use std::marker::Model;
 
-/// A workspace that was read. It has at most 256 packages, in order of their folders and with
-/// distinct names. The entries of each package lead to packages of the workspace. Contracts see the
-/// workspace.
+/// A workspace that was read. The workspace has at most 256 packages, in order of their folders and
+/// with distinct names. The entries of each package lead to packages of the workspace. Contracts
+/// see the workspace.
 #[derive(Drop)]
 pub struct SettledWorkspace {
     inside: Workspace,

@@ -27,7 +27,7 @@ pub struct Workspace {
     pub packages: Items<Package>,
     /// The index of the package in the root folder, if the root folder has a package.
     pub root_package: Option<usize>,
-    /// The default members, from the root's `default-members`.
+    /// The default members, from the root manifest's `default-members`.
     pub default_members: DefaultMembers,
     /// `[profile]` of the root manifest, in byte order of the profiles' names.
     pub profiles: Items<Profile>,

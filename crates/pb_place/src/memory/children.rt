@@ -254,7 +254,8 @@ impl<C: Child> Memory<C> {
         Ok(ticket)
     }
 
-    /// Puts the files of a child that replies in its folder, or fails with its fate.
+    /// Puts the files of a child into its folder if the child replies, or fails with the child's
+    /// fate.
     fn land(
         &mut self,
         alloc: Global,
