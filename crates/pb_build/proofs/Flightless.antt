@@ -1,4 +1,4 @@
--- Where no child is in flight, an index in memory has no entry of one.
+-- Where no child is in flight, a place in memory has no entry of one.
 use Rattle.std.proofs.Common.{◌≡◌, List, [], ◌∷◌, refl}
 use Rattle.pb_place.specs.InFlight.{children_in}
 use Rattle.pb_place.specs.declared.in_flight.Flying.{Flying}

@@ -9,8 +9,8 @@ use Rattle.pb_build_turns.specs.Executor.{BuildState}
 use Rattle.pb_build.specs.Ending.{Builds}
 use Rattle.pb_build.specs.Headline.{RestsOn}
 
--- Take a build that succeeded, with true records and an honest child. Make the same build in the
--- world that the first build left, whichever turn decides the steps. Unless a fault ends this
+-- Take a build that succeeded, with true records and an honest child. Make the same build again in
+-- the world that the first build left; any turn may decide the steps. Unless a fault ends this
 -- second build, it starts no child for a unit.
 abbrev pub SameBuildStartsNone : {S T : Type 0} → (S → List ℕ → List ℕ → Step → S → Type 0) → (T → List ℕ → List ℕ → Step → T → Type 0) → Type 0
 SameBuildStartsNone {S} {T} Turns OtherTurns = (child : Answers) (options : Options) (from last : S) (again end : T) (summary other : Summary) (first second third fourth : BuildState)

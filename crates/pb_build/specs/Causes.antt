@@ -1,5 +1,6 @@
--- What a build does before its units begin: it starts a child and makes calls. If a fault ends the
--- build before its units begin, these definitions say which calls were made, and which call failed.
+-- What a build does before its units begin. The build makes calls and starts a child. If a fault
+-- ends the build before its units begin, these definitions say which calls were made, and which
+-- call failed.
 use Rattle.std.specs.Prelude.{◌≡◌, ◌⊎◌, ◌+◌, ◌++◌, ◌∷◌, codes, length, max, List, [], Result, MatchResult, OnErr, OnOk, ℕ}
 use Rattle.pb_place_types.specs.At.{At}
 use Rattle.pb_place_types.specs.CallsInTurn.{past_calls}
@@ -38,7 +39,8 @@ MayAsk (Child unit fault) old new = (unit ≡ codes "-vV") × (new ≡ up_starts
 MayAsk OutOfMemory old new = (new ≡ old) ⊎ (new ≡ up_starts old)
 MayAsk _ old new = ⊥
 
--- the faults that may end the query, or the calls after the query, which open the records
+-- the faults that may end the query of the compiler's version, or the opening of the records after
+-- the query
 abbrev pub MayReady : BuildFault → Starts → Starts → Type 0
 MayReady (Plan why) old new = ⊥
 MayReady Toolchain old new = new ≡ up_starts old
@@ -57,7 +59,7 @@ Names _ new = Unit {0}
 abbrev pub NamesCall : {T : Type 0} → Result T BuildFault → Counts → Type 0
 NamesCall result new = MatchResult result (λ _. Unit {0}) (λ e. Names e new)
 
--- How a child is started for the query.
+-- How a child is started for the query of the compiler's version.
 
 abbrev pub child_fault : List ℕ → StartFault → BuildFault
 child_fault unit start.OutOfMemory = OutOfMemory
@@ -73,7 +75,7 @@ CountsAs Begins May result old new = MatchResult result (λ x. (new.failures ≡
 abbrev pub OneStart : {T : Type 0} → T → Starts → Starts → Type 0
 OneStart x old new = new ≡ up_starts old
 
--- the faults that may end a step in which a child of this name is started
+-- the faults with which a step may end, if the step starts a child with this name
 abbrev pub MayStart : List ℕ → BuildFault → Starts → Starts → Type 0
 MayStart name (Child unit fault) old new = (unit ≡ name) × (new ≡ up_starts old)
 MayStart name OutOfMemory old new = (new ≡ old) ⊎ (new ≡ up_starts old)
@@ -83,8 +85,8 @@ MayStart name _ old new = ⊥
 abbrev pub RunsOnce : {T : Type 0} → T → Counts → Counts → Type 0
 RunsOnce x old new = new ≡ past_call (one_start old)
 
--- Why a child's start failed. Either the spawn failed, or the wait for the child's end failed. If
--- memory ran out, the spawn may have been made.
+-- Why there is no answer of a child. Either the spawn failed, or the wait for the child's end
+-- failed. If memory ran out, the child may or may not have been started.
 abbrev pub SpawnEnds : BuildFault → Counts → Counts → Type 0
 SpawnEnds (Child unit fault) old new = new ≡ past_start_fault fault (one_start old)
 SpawnEnds OutOfMemory old new = (new ≡ old) ⊎ (new ≡ past_call (one_start old))
@@ -92,15 +94,15 @@ SpawnEnds e old new = ⊥
 
 -- How the work before the units changes the place.
 
--- The work only looks, so only the counters change. If a call failed, the fault names the path or
--- the variable of this call, and no call came after it.
+-- The work changes nothing but the counters. If a call failed, the fault names the path or the
+-- variable of this call, and no later call was made.
 pub record OnlyLooks {T : Type 0} (May : BuildFault → Starts → Starts → Type 0) (result : Result T BuildFault) (old new : At) : Type 0 where
   pub world : new.world ≡ old.world
   pub most : new.most ≡ old.most
   pub takes : CountsAs NoStart May result old.counts new.counts
   pub names : NamesCall result new.counts
 
--- The work starts one child and waits for its end. Apart from that, it only looks.
+-- The work starts one child and waits for its end. The work changes no file and no variable.
 pub record OnlyAsks {T : Type 0} (May : BuildFault → Starts → Starts → Type 0) (result : Result T BuildFault) (old new : At) : Type 0 where
   pub world : new.world ≡ old.world
   pub most : OnOk result (new.most ≡ max old.most (length old.counts.starts.flying + 1))
@@ -113,38 +115,40 @@ pub record OnlyAsks {T : Type 0} (May : BuildFault → Starts → Starts → Typ
 abbrev pub variables_asked : List Call
 variables_asked = call.Variable (codes "RUSTC") ∷ call.Variable (codes "RUSTFLAGS") ∷ call.Variable (codes "CARGO_TARGET_DIR") ∷ []
 
--- the calls that plan a build: those that read its variables, and then those that read the
--- workspace
+-- the calls that plan a build: first the calls that read the build's variables, and then the calls
+-- that read the workspace
 abbrev pub plan_called : Options → World → List Call
 plan_called options w = variables_asked ++ looked_at options.manifest (environment_of options w.variables).target w
 
--- If the plan is refused, all of these calls were made. After any other fault, the calls stopped at
--- one of these calls.
+-- If the plan is refused, all of these calls were made. Any other fault ended the planning at one
+-- of these calls.
 abbrev pub PlanStopsAt : BuildFault → List Call → Counts → Counts → Type 0
 PlanStopsAt (Plan why) calls old new = new ≡ past_calls calls old
 PlanStopsAt e calls old new = StopsAt e calls old new
 
--- If there is a plan, exactly these calls were made, in this order. If not, the calls stopped as
+-- If there is a plan, exactly these calls were made, in this order. Otherwise the calls stopped as
 -- `PlanStopsAt` states.
 abbrev pub PlansInTurn : {T : Type 0} → Result T BuildFault → List Call → Counts → Counts → Type 0
 PlansInTurn result calls old new = MatchResult result (λ x. new ≡ past_calls calls old) (λ e. PlanStopsAt e calls old new)
 
--- How the query ended with a fault. If the fault is `Toolchain`, one call started a child, but the
--- compiler reported no host. Any other fault is one of `SpawnEnds`.
+-- How the counters change if a fault ends the query of the compiler's version. If the fault is
+-- `Toolchain`, one call started a child. The other faults are those of `SpawnEnds`.
 abbrev pub AskEnds : BuildFault → Counts → Counts → Type 0
 AskEnds Toolchain old new = new ≡ past_call (one_start old)
 AskEnds e old new = SpawnEnds e old new
 
--- the counters after the query, which is one call, and after these calls, which open the records
+-- the counters after the query of the compiler's version (one call), and after the given calls,
+-- which open the records
 abbrev pub ready_called : List Call → Counts → Counts
 ready_called calls old = past_calls calls (past_call (one_start old))
 
--- the calls stopped at the query, or at one of the calls after it, which open the records
+-- the build stopped at the query of the compiler's version, or later at one of the given calls,
+-- which open the records
 abbrev pub ReadyStopsAt : BuildFault → List Call → Counts → Counts → Type 0
 ReadyStopsAt e calls old new = AskEnds e old new ⊎ StopsAt e calls (past_call (one_start old)) new
 
--- If all is prepared, the query and exactly these calls were made, in this order. If not, the calls
--- stopped as `ReadyStopsAt` states.
+-- If the preparation succeeded, the query came first, and then exactly these calls, in this order.
+-- If the preparation failed, the calls stopped as `ReadyStopsAt` states.
 abbrev pub ReadiesInTurn : {T : Type 0} → Result T BuildFault → List Call → Counts → Counts → Type 0
 ReadiesInTurn result calls old new = MatchResult result (λ x. new ≡ ready_called calls old) (λ e. ReadyStopsAt e calls old new)
 

@@ -38,8 +38,8 @@ use Rattle.pb_store.specs.Calls.{FailedLast}
 abbrev pub Stays : Bool → World → World → Type 0
 Stays is_modelled old new = IsTrue is_modelled → new ≡ old
 
--- The plan is that of a build of this world. The plan's environment follows from the world's
--- variables and the options. The plan's project is the project of the build.
+-- A build of this world has this plan. The plan's environment follows from the world's variables
+-- and the options. The plan's project is the project of the build.
 abbrev pub IsPlanOf : Options → World → BuildPlan → Type 0
 IsPlanOf options w plan = (plan.environment ≡ environment_of options w.variables) × IsProject options (environment_of options w.variables).target w plan.project
 
@@ -73,7 +73,7 @@ FailsBefore is_modelled child options Sink w old new = ⊥
 FailsBefore is_modelled child options OutOfMemory w old new = ((new.starts ≡ old.starts) ⊎ (new.starts ≡ up_starts old.starts)) × (new.failures ≡ old.failures)
 
 -- What a build's units start from: the project of this world, its setup, and the next run number.
--- This number is one above the greatest number that the project's records have or name.
+-- That run number is one above the greatest run number in the project's records.
 pub record IsPrepared (child : Answers) (options : Options) (w : World) (prepared : Prepared) : Type 0 where
   pub toolchain : List ℕ
   pub says : toolchain_of child (environment_of options w.variables) prepared.project (from_nothing (environment_of options w.variables).target w) ≡ Some toolchain
@@ -81,9 +81,9 @@ pub record IsPrepared (child : Answers) (options : Options) (w : World) (prepare
   pub project : IsProject options (environment_of options w.variables).target w prepared.project
   pub next : prepared.store.next ≡ next_in (records_folder prepared.project) w
 
--- The units are prepared. The compiler has answered the query, the project is in order, and nothing
--- has changed. The calls were those of the planning, the query and the opening of the records, in
--- this order.
+-- The units are prepared. The compiler has answered the query of its version, the project is in
+-- order, and nothing has changed. The calls were those of the planning, the query and the opening
+-- of the records, in this order.
 pub record Prepares (is_modelled : Bool) (child : Answers) (options : Options) (prepared : Prepared) (old new : World) (before now : Counts) (most : ℕ) (after : ℕ) : Type 0 where
   pub is : IsTrue is_modelled → IsPrepared child options old prepared
   pub order : IsInOrder prepared.project
@@ -95,7 +95,7 @@ pub record Prepares (is_modelled : Bool) (child : Answers) (options : Options) (
 
 -- The units.
 
--- the units were prepared, and then they ended
+-- the units were prepared, and then their run ended
 pub record UnitsEnd {S : Type 0} (is_modelled : Bool) (child : Answers) (Turns : S → List ℕ → List ℕ → Step → S → Type 0) (options : Options) (from last : S) (result : Result Summary BuildFault) (old new : BuildState) : Type 0 where
   pub prepared : Prepared
   pub mid : BuildState
@@ -113,21 +113,21 @@ pub record NoneBegan (is_modelled : Bool) (child : Answers) (options : Options) 
   pub heard : new.heard ≡ old.heard
   pub landed : new.counts.starts.flying ≡ []
 
--- No unit began, and the turn decided nothing. The calls stopped as `StopsBefore` states.
+-- No unit began, and the turn decided no step. The calls stopped as `StopsBefore` states.
 pub record StopsEarly {S : Type 0} (is_modelled : Bool) (child : Answers) (options : Options) (from last : S) (result : Result Summary BuildFault) (old new : BuildState) : Type 0 where
   pub none_began : NoneBegan is_modelled child options result old new
   pub unasked : last ≡ from
   pub calls : IsTrue is_modelled → StopsBefore options old.world none_began.fault old.counts new.counts
 
--- the work of a build before its finish line: the build stops before its units begin, or its units
--- end
+-- the work of a build before its finish line: the build stops before its units begin, or the run of
+-- its units ends
 abbrev pub Works : {S : Type 0} → Bool → Answers → (S → List ℕ → List ℕ → Step → S → Type 0) → Options → S → S → Result Summary BuildFault → BuildState → BuildState → Type 0
 Works is_modelled child Turns options from last result old new = StopsEarly is_modelled child options from last result old new ⊎ UnitsEnd is_modelled child Turns options from last result old new
 
 -- The finish line.
 
--- Either these bytes are written, and `inner` is returned. Or the sink takes a prefix of these
--- bytes and fails, and the fault `Sink` is returned.
+-- Either these bytes are written, and `inner` is the result. Or the sink takes a prefix of these
+-- bytes and fails, and the fault `Sink` is the result.
 abbrev pub EndsWith : List ℕ → Result Summary BuildFault → Result Summary BuildFault → SinkState → SinkState → Type 0
 EndsWith bytes inner result old new =
     ((result ≡ inner) × Appends old.taken new.taken bytes × (new.faults ≡ old.faults)) ⊎ ((result ≡ Err Sink) × TakesPart bytes old.taken new.taken × (new.faults ≡ up old.faults))
@@ -141,15 +141,16 @@ Closes (Err fault) result old new = EndsWith (finish_line false) (Err fault) res
 
 -- A build as a whole.
 
--- the work of a build has ended with `inner`, and then the finish line was written as `Closes` says
+-- a build ended its work with `inner`; then the finish line was written or left out, as `Closes`
+-- states
 pub record Builds {S : Type 0} (is_modelled : Bool) (child : Answers) (Turns : S → List ℕ → List ℕ → Step → S → Type 0) (options : Options) (from last : S) (result : Result Summary BuildFault) (old new : BuildState) : Type 0 where
   pub inner : Result Summary BuildFault
   pub heard : SinkState
   pub works : Works is_modelled child Turns options from last inner old record new { heard = heard }
   pub closes : Closes inner result heard new.heard
 
--- A build with the options' number of jobs. The pick chooses which unit begins. Its state is `pick`
--- before the build, and `picked` after it.
+-- A build with the options' number of jobs. The pick chooses which unit begins. The state of the
+-- pick is `pick` before the build and `picked` after the build.
 abbrev pub BuildsBy : {S : Type 0} → Bool → Answers → (S → List ℕ → ℕ → S → Type 0) → Options → S → S → Result Summary BuildFault → BuildState → BuildState → Type 0
 BuildsBy {S} is_modelled child Picks options pick picked result old new =
     let from : Jobs S = record { pick = pick; jobs = options.jobs } in

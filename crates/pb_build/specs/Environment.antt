@@ -29,7 +29,7 @@ path_or other (Ok path) = path
 path_or other (Err fault) = other
 
 -- The path that a text spells; a relative text starts at the root. If there is no text, or the text
--- has byte 0, this is the path `other`.
+-- has byte 0, the result is the path `other`.
 abbrev pub told_or : List ℕ → List ℕ → Option (List ℕ) → List ℕ
 told_or root other None = other
 told_or root other (Some text) = path_or other (joined root text)

@@ -45,7 +45,7 @@ use Rattle.pb_build.specs.Result.{toolchain_of, setup_of}
 
 -- What a build assumes.
 
--- the folder in which a build keeps its records, which is the profile's folder in the target folder
+-- the folder of a build's records: the profile's folder in the target folder
 abbrev pub records_of : Options → Map → List ℕ
 records_of options variables = below (environment_of options variables).target (folder_of options.profile)
 
@@ -60,7 +60,7 @@ pub record UnitsOf (child : Answers) (options : Options) (w : World) : Type 0 wh
 abbrev pub context_of : (premise : Premise) (child : Answers) (options : Options) (w : World) → UnitsOf child options w → BuildContext
 context_of premise child options w units = build_context premise child (setup_of options (environment_of options w.variables) units.toolchain) units.project (from_nothing (environment_of options w.variables).target w)
 
--- the child is honest on the units of a build, whichever units the build finds in the world
+-- the child is honest on all units that the build finds in this world
 abbrev pub IsHonestBuild : Answers → Options → World → Type 0
 IsHonestBuild child options w = (units : UnitsOf child options w) → IsHonestOnUnits (context_of TrustedRecords child options w units)
 
@@ -76,8 +76,8 @@ RestsOn NoRecords child options w = (key : List ℕ) → records (records_of opt
 abbrev pub ByTurns : {S : Type 0} → (S → List ℕ → List ℕ → Step → S → Type 0) → S → Project → List (Event BadUnit) → Type 0
 ByTurns {S} Turns from project es = (last : S) × Flies Turns (needs_of project) Anyhow Anything from es last
 
--- the events are those of a turn with the options' number of jobs; this pick chooses which unit
--- begins
+-- the events are those of a turn with the options' number of jobs, in which this pick chooses the
+-- unit that begins
 abbrev pub ByPick : {S : Type 0} → (S → List ℕ → ℕ → S → Type 0) → Options → S → Project → List (Event BadUnit) → Type 0
 ByPick {S} Picks options pick = let from : Jobs S = record { pick = pick; jobs = options.jobs } in ByTurns (TurnsOfJobs Picks) from
 
@@ -106,9 +106,9 @@ abbrev pub AnswersAs : List Outcome → Project → List (Event BadUnit) → Typ
 AnswersAs given project es =
     (index : ℕ) (answer : Answer BadUnit) → slice_get (states_in project es) index ≡ Some (Answered answer) → (outcome : Outcome) × (slice_get given index ≡ Some outcome) × (answer.fault ≡ fault_in outcome)
 
--- The units began and answered in events that the schedule allows. Each answered unit is good or
--- bad as in a clean build. One child was started for the query, and one for each unit that began
--- with a child. The first difference of each unit is noted.
+-- The units began and answered as the schedule allows. Each answered unit is good or bad as in a
+-- clean build. One child was started to query the compiler's version, and one for each unit that
+-- began with a child. The first difference of each unit is noted.
 pub record UnitsFly (child : Answers) (Schedule : Project → List (Event BadUnit) → Type 0) (options : Options) (old new : BuildState) : Type 0 where
   pub units : UnitsOf child options old.world
   pub es : List (Event BadUnit)
@@ -118,16 +118,16 @@ pub record UnitsFly (child : Answers) (Schedule : Project → List (Event BadUni
   pub reasons : Reasons
 
 -- All units up to and including the first bad unit have answered; without a bad unit, all units
--- have. Later units may have begun, too.
+-- have answered. Later units may have begun, too.
 pub record GivesAll (premise : Premise) (child : Answers) (Schedule : Project → List (Event BadUnit) → Type 0) (options : Options) (summary : Summary) (old new : BuildState) : Type 0 where
   pub flown : UnitsFly child Schedule options old new
   pub finished : is_finished (states_in flown.units.project flown.es) ≡ true
-  -- the new run numbers of units follow one another; the first is above all numbers that the
-  -- records have or name
+  -- the new run numbers of units follow one another; the first of them is above all run numbers in
+  -- the build's records
   pub numbers : (after : Option ℕ) × NumbersGiven (LacksNumber flown.units.project old.world) flown.es (next_in (records_of options old.world.variables) old.world) after
   pub unnoted : (index : ℕ) → slice_get (states_in flown.units.project flown.es) index ≡ Some Untouched → slice_get flown.reasons index ≡ Some None
-  -- The summary and the lines are those of a clean build. They also say for which units a child was
-  -- started.
+  -- The summary and the lines are those of a clean build. The summary and the lines also say for
+  -- which units a child was started.
   pub answer : summary ≡ summary_of flown.units.project flown.es flown.reasons (rows_for child options old.world flown.units)
   pub lines : Appends old.heard.taken new.heard.taken (said_from flown.units.project flown.es 0 (rows_for child options old.world flown.units))
   -- the output folder of each good unit contains exactly the files that the unit has in a clean
@@ -136,8 +136,8 @@ pub record GivesAll (premise : Premise) (child : Answers) (Schedule : Project �
   -- a unit that began has a child if and only if something differed from its record
   pub began : AllBeganFor (context_of premise child options old.world flown.units) flown.es flown.reasons old.world new.world
 
--- A call for the unit with this key failed, or no run number was left for the unit. The build was
--- not finished, and the unit has begun and not answered. Exactly the due lines were written.
+-- A call for the unit with this key failed, or no run number was left for the unit. The units were
+-- not finished. This unit had begun and not answered. Exactly the due lines were written.
 pub record UnitCallFails (project : Project) (es : List (Event BadUnit)) (rows : List Row) (key : List ℕ) (old new : Option (List ℕ)) : Type 0 where
   pub index : ℕ
   pub named : key_at project index ≡ key ∷ []
@@ -146,8 +146,8 @@ pub record UnitCallFails (project : Project) (es : List (Event BadUnit)) (rows :
   pub lines : Appends old new (said_from project es 0 (take (count_due (states_in project es)) rows))
 
 -- What was written before this fault. If the fault is at a unit, exactly the due lines were
--- written. If the sink failed, it took a prefix of the due lines, but not all. If memory ran out,
--- the due lines of the first n units were written, for some n.
+-- written. If the sink failed, the sink took a prefix of the due lines, but not all. If memory ran
+-- out, the due lines of the first n units were written, for some n.
 abbrev pub LinesBefore : BuildFault → Project → List (Event BadUnit) → List Row → Option (List ℕ) → Option (List ℕ) → Type 0
 LinesBefore (Child key fault) project es rows old new = UnitCallFails project es rows key old new
 LinesBefore (Device key fault) project es rows old new = UnitCallFails project es rows key old new
@@ -156,8 +156,8 @@ LinesBefore OutOfMemory project es rows old new = (n : ℕ) × Appends old new (
 LinesBefore fault project es rows old new = ⊥
 
 -- A fault came at a unit or at the sink, or memory ran out, or no run number was left. If no run
--- number was left, the units of this build had taken all that were left at first. `StandsCut` says
--- what differed for a unit that could not begin.
+-- number was left, the units of this build had taken all numbers that were left when the build
+-- began. `StandsCut` says what differed for a unit that could not begin.
 pub record GivesFirst (premise : Premise) (child : Answers) (Schedule : Project → List (Event BadUnit) → Type 0) (options : Options) (fault : BuildFault) (old new : BuildState) : Type 0 where
   pub flown : UnitsFly child Schedule options old new
   pub spent : Spends (LacksNumber flown.units.project old.world) fault (next_in (records_of options old.world.variables) old.world) flown.es
@@ -166,8 +166,8 @@ pub record GivesFirst (premise : Premise) (child : Answers) (Schedule : Project 
   pub came : CameAfter flown.units.project fault before flown.es
   pub began : AllBeganFor (context_of premise child options old.world flown.units) before flown.reasons old.world new.world
 
--- If a call failed after the query, it was one of these calls: to list the folder of the records,
--- or to read a record directly in this folder.
+-- If a call on a path failed after the version query, this call listed the records' folder or read
+-- a record directly in it.
 abbrev pub NamesOpened : List ℕ → World → BuildFault → Starts → Starts → Type 0
 NamesOpened folder w (Device name (device.Place fault)) old new = (new ≡ old) ⊎ ((call : Call) × Contains (opened_looked folder w) call × (own_fault call ≡ fault) × (name_given call ≡ name))
 NamesOpened folder w e old new = Unit {0}
@@ -178,7 +178,7 @@ GivesUnits premise child Schedule options (Ok summary) old new = GivesAll premis
 GivesUnits premise child Schedule options (Err fault) old new =
     (NoneBegan true child options (Err fault) old new × NamesOpened (records_of options old.world.variables) old.world fault old.counts.starts new.counts.starts) ⊎ GivesFirst premise child Schedule options fault old new
 
--- if the build assumes true records, the records are true after it
+-- if true records are the premise of the build, the records are true after the build
 abbrev pub LeavesRecords : Premise → Answers → Options → World → World → Type 0
 LeavesRecords TrustedRecords child options old new = Sound reading judge child (records_of options old.variables) new.files
 LeavesRecords NoRecords child options old new = Unit {0}
@@ -191,7 +191,7 @@ pub record GivesCleanResult (premise : Premise) (child : Answers) (Schedule : Pr
   pub closes : Closes inner result heard new.heard
   pub records : LeavesRecords premise child options old.world new.world
 
--- The headline. If the place is modelled, a build produces what a clean build of the present
--- workspace produces, whichever premise is true.
+-- The headline. Suppose that the place is modelled, and that one of the premises is true, no matter
+-- which. Then a build produces what a clean build of the present workspace produces.
 abbrev pub Headline : Bool → Answers → (Project → List (Event BadUnit) → Type 0) → Options → Result Summary BuildFault → BuildState → BuildState → Type 0
 Headline is_modelled child Schedule options result old new = IsTrue is_modelled → (premise : Premise) → RestsOn premise child options old.world → GivesCleanResult premise child Schedule options result old new

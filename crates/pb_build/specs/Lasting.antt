@@ -20,8 +20,8 @@ ShareNoPath folder other = (q : List ℕ) → is_at_or_below folder q ≡ true �
 
 -- The step spares the records of the folder.
 -- - An edit must change nothing in the folder, or remove the whole folder.
--- - A build with units may keep its records in this folder if its child is honest. Otherwise it
---   must keep its records in a folder that shares no path with this folder.
+-- - A build with units may keep its records in this folder if its child is honest. Otherwise the
+--   build must keep its records in a folder that shares no path with this folder.
 -- - A build without units spares the records.
 abbrev pub Spares : Answers → List ℕ → SessionStep → World → Type 0
 Spares child folder (Write path text) w = is_at_or_below folder path ≡ false
@@ -38,15 +38,15 @@ SparingCourse child folder (step ∷ steps) before after = Spares child folder s
 abbrev pub NothingIsSound : Type 0
 NothingIsSound = (child : Answers) (folder : List ℕ) (files : Map) → ((key : List ℕ) → record_at reading folder files key ≡ None) → Sound reading judge child folder files
 
--- If the records of a folder are true, and each step of a session spares them, the records are true
--- afterwards, however the builds ended.
+-- Suppose that the records of a folder are true, and that each step of a session spares them. Then
+-- the records are true after the session, no matter how its builds ended.
 abbrev pub RecordsStayTrue : Type 0
 RecordsStayTrue = (child : Answers) (folder : List ℕ) (steps : List SessionStep) (before after : Point) → SparingCourse child folder steps before after
     → Sound reading judge child folder before.moment.world.files → Sound reading judge child folder after.moment.world.files
 
--- Take steps that have spared a folder of true records, and then a build with an honest child that
--- keeps its records in this folder. The build produces what a clean build of the present workspace
--- produces. If a fault ends the build, its lines are a prefix of the clean build's lines.
+-- Take steps that spared a folder of true records. A later build with these records and an honest
+-- child produces what a clean build of the present workspace produces. If a fault ends this build,
+-- its lines before the finish line are a prefix of the clean build's.
 abbrev pub AnyBuildGives : Type 0
 AnyBuildGives = (child : Answers) (options : Options) (pick : PickBy) (steps : List SessionStep) (before mid after : Point)
     → SparingCourse child (records_of options mid.moment.world.variables) steps before mid → Sound reading judge child (records_of options mid.moment.world.variables) before.moment.world.files

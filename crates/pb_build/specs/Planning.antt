@@ -1,5 +1,5 @@
--- What a build is about: the workspace that it reads, the selected packages, their features and the
--- plan. If there is no plan, these definitions say why the build is refused.
+-- What a build is about: the workspace that the build reads, the selected packages, their features,
+-- and the plan. If there is no plan, these definitions say why the build is refused.
 use Rattle.std.specs.Prelude.{◌≡◌, ℕ, List, Ok, Err}
 use Rattle.pb_place_types.specs.World.{World}
 use Rattle.pb_workspace.specs.Loaded.{workspace_of}
@@ -20,7 +20,7 @@ use Rattle.pb_build_result.specs.declared.fault.BuildFault.TheVariants as told
 use Rattle.pb_build_result.specs.declared.fault.Refusal.{Refusal}
 use Rattle.pb_build_result.specs.declared.fault.Refusal.TheVariants.{Load, Feature, Plan}
 
--- the build reads this workspace, and its options select these packages in it
+-- the build reads this workspace, and the build's options select these packages in the workspace
 pub record IsSelected (options : Options) (target : List ℕ) (w : World) (ws : Workspace) (selection : Selection) : Type 0 where
   pub read : workspace_of options.manifest target w ≡ Ok ws
   pub chosen : selected ws options ≡ Ok selection
@@ -30,7 +30,8 @@ pub record IsFeatured (ws : Workspace) (selection : Selection) (features : Featu
   pub right : (fault : FeatureFault) → feature.Refuses ws selection fault → ⊥
   pub resolved : IsResolved ws selection features
 
--- the project is that of the build: its workspace, its features, its profile and its plan
+-- the build has this project: the workspace, the features, the profile and the plan are those of
+-- the build
 pub record IsProject (options : Options) (target : List ℕ) (w : World) (project : Project) : Type 0 where
   pub selection : Selection
   pub selected : IsSelected options target w project.workspace selection

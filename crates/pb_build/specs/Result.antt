@@ -18,15 +18,15 @@ use Rattle.pb_build.specs.declared.environment.Environment.{Environment}
 
 -- The compiler's version.
 
--- the line reports the host: it begins with `host: `, and something follows
+-- the line reports the host: the line begins with `host: `, and something follows
 abbrev pub is_host : List ℕ → Bool
 is_host line = nat_lt 6 (length line) && starts_with nat_eq line (codes "host: ")
 
--- the output reports the host: it is UTF-8, and one of its lines reports the host
+-- the output reports the host: the output is UTF-8, and one of the output's lines reports the host
 abbrev pub says_host : List ℕ → Bool
 says_host stdout = is_some (text_of stdout) && list_any is_host (lines_of stdout)
 
--- The compiler's version in an answer to the query. The answer counts if its status is 0, no stream
+-- The compiler's version in an answer to the query. The answer counts if the status is 0, no stream
 -- is too long, and the output reports the host.
 abbrev pub toolchain_in : Ended → Option (List ℕ)
 toolchain_in e = if is_none (ended_fault e) && says_host e.stdout then Some e.stdout else None
@@ -48,8 +48,8 @@ pub data BuildResult : Type 0 where
   NoToolchain : BuildResult
   Finished : (project : Project) (rows : List Row) → BuildResult
 
--- A build with this environment has this result in this world. Of the files, only the sources
--- count.
+-- A build with this environment has this result in this world. Only the files outside the target
+-- folder count.
 pub data Comes (child : Answers) (options : Options) (environment : Environment) (w : World) : BuildResult → Type 0 where
   refused : (why : Refusal) (is : IsRefused options environment.target w why) → Comes child options environment w (Refused why)
   no_toolchain : (project : Project) (is : IsProject options environment.target w project) (silent : toolchain_of child environment project (from_nothing environment.target w) ≡ None) → Comes child options environment w NoToolchain

@@ -1,5 +1,5 @@
--- A session is a list of edits and builds. The end of a session lists how each build ended, with
--- the cause.
+-- A session is a list of edits and builds. These definitions say how each build of a session ended,
+-- with the cause.
 use Rattle.std.specs.Prelude.{◌≡◌, ◌↔◌, ⊤, ℕ, Bool, true, List, [], ◌∷◌, ◌++◌, Result}
 use Rattle.pb_place_types.specs.Sinks.{SinkState}
 use Rattle.pb_place_types.specs.World.{World, Answers, FilesHavePaths, written, removed}
@@ -25,7 +25,8 @@ use Rattle.pb_build.specs.Result.{BuildResult, IsResult}
 use Rattle.pb_workspace_types.specs.declared.options.Options.{Options}
 
 -- A moment of a session. The moment has the answers of the builds so far, and the deaths that are
--- still to come. `fuse` is the number of the call that will fail, or 0.
+-- still to come. `fuse` is the number of the call that will fail in the next build, or 0 for no
+-- call.
 pub record Point : Type 0 where
   pub moment : BuildState
   pub answers : List (Result Summary BuildFault)
@@ -50,7 +51,7 @@ abbrev pub ByPicked : PickBy → Options → Project → List (Event BadUnit) �
 ByPicked First options = ByFirst options
 ByPicked Last options = ByLast options
 
--- the same moment, but its counter `settings` is one higher
+-- the same moment, but with the counter `settings` one higher
 abbrev pub set_anew : BuildState → BuildState
 set_anew m = record m { counts = one_setting m.counts }
 
@@ -59,12 +60,13 @@ pub record CarriesBuild (child : Answers) (options : Options) (pick : PickBy) (b
   pub answer : Result Summary BuildFault
   pub ended : BuildState
   pub picked : Picked true child options pick answer before.moment ended
-  -- the build has changed no source, and the headline is true for it
+  -- the build has changed no source, and the headline is true for this build
   pub kept : SourcesStay (environment_of options before.moment.world.variables).target before.moment.world ended.world
   pub headline : Headline true child (ByPicked pick options) options answer before.moment ended
-  -- after the build, whatever it wrote, each file has a normalised absolute path
+  -- after the build, each file has a normalised absolute path
   pub paths : FilesHavePaths ended.world
-  -- if nothing was set to fail, and no call had failed before, no call of the build failed
+  -- if no call and no child was set to fail, and no call had failed before the build, no call of
+  -- the build failed
   pub unfailing : before.fuse ≡ 0 → before.deaths ≡ [] → before.moment.counts.failures ≡ 0 → ended.counts.failures ≡ 0
   -- The answer of the build is appended. No call is set to fail any more, and the counter
   -- `settings` is one higher.
@@ -72,8 +74,8 @@ pub record CarriesBuild (child : Answers) (options : Options) (pick : PickBy) (b
   pub answers : after.answers ≡ before.answers ++ answer ∷ []
   pub fuse : after.fuse ≡ 0
 
--- A step of a session is an edit, a build, or a setting that makes calls fail. Such a setting has
--- no effect before the next build.
+-- A step of a session is an edit, a build, or a setting that makes calls fail. A setting has no
+-- effect before the next build.
 abbrev pub Carries : Answers → SessionStep → Point → Point → Type 0
 Carries child (Write path text) before after = Edits (written path text before.moment.world) before after
 Carries child (Remove path) before after = Edits (removed path before.moment.world) before after
@@ -88,19 +90,19 @@ abbrev pub Course : Answers → List SessionStep → Point → Point → Type 0
 Course child [] before after = after ≡ before
 Course child (step ∷ steps) before after = (mid : Point) × Carries child step before mid × Course child steps mid after
 
--- Memory ran out in a step. If the step is a build, it has run, but its answer is not noted. Any
--- other step has done nothing.
+-- Memory ran out in a step. If the step is a build, the build has run, but the build's answer is
+-- not noted. A step other than a build has done nothing.
 abbrev pub Loses : Answers → SessionStep → Point → Point → Type 0
 Loses child (Build options pick) before left = (ended : Point) × CarriesBuild child options pick before ended × (left ≡ record ended { answers = before.answers })
 Loses child _ before left = left ≡ before
 
--- memory ran out in one of the steps; the steps before it were taken one by one
+-- memory ran out in one of the steps; the steps before that step were taken one by one
 abbrev pub Breaks : Answers → List SessionStep → Point → Point → Type 0
 Breaks child steps before left =
     (done : List SessionStep) × (step : SessionStep) × (rest : List SessionStep) × (steps ≡ done ++ step ∷ rest) × (mid : Point) × Course child done before mid × Loses child step mid left
 
--- the world after a step that is an edit; in this definition any other step leaves the world
--- unchanged
+-- The world after an edit. This definition leaves out what other steps do: for any other step, the
+-- result is the world before the step.
 abbrev pub edit : SessionStep → World → World
 edit (Write path text) w = written path text w
 edit (Remove path) w = removed path w
@@ -123,8 +125,8 @@ abbrev pub OneTarget : List ℕ → List SessionStep → World → Type 0
 OneTarget target [] w = ⊤
 OneTarget target (step ∷ steps) w = UsesTarget target step w × OneTarget target steps (edit step w)
 
--- Take a build that comes after builds with the same target folder, however these ended. The later
--- build has the same result as after the edits alone.
+-- Take a build after steps whose builds have the same target folder as this build. However those
+-- builds ended, this build has the same result as after the edits alone.
 abbrev pub Unaffected : Type 0
 Unaffected = (child : Answers) (options : Options) (steps : List SessionStep) (before after : Point) (r : BuildResult)
     → OneTarget (environment_of options (edited steps before.moment.world).variables).target steps before.moment.world → Course child steps before after

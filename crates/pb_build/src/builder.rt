@@ -421,7 +421,7 @@ pub fn build_plan<P: Place, O: Out>(
 /// or when all units up to and including the first bad unit have answered. A unit's child is
 /// started only if something differs from the unit's record. Message lines are written in plan
 /// order, as units answer. At the end, or after a fault, the build waits for the children in
-/// flight, in the order in which they began. Their answers are dropped.
+/// flight, in the order in which they began. The children's answers are dropped.
 ///
 /// Errors:
 ///
@@ -459,9 +459,9 @@ pub fn build_turns<P: Place, O: Out, T: Turn>(
     build_plan_turns(alloc, place, out, options, plan, turn)
 }
 
-/// Builds with as many units in flight at a time as the options allow. If fewer units are in flight
-/// and some unit may begin, the pick chooses the unit that begins. Otherwise the unit that began
-/// first answers. The pick is borrowed, because each choice may change the state of the pick.
+/// Builds with as many units in flight as the options allow. If another unit may be in flight, and
+/// some unit may begin, the pick chooses the unit that begins. Otherwise the unit that has been in
+/// flight longest answers. The pick is borrowed, since each choice may change its state.
 ///
 /// Errors: those of `build_turns`.
 pub fn build_with<P: Place, O: Out, K: Pick>(

@@ -88,7 +88,7 @@ fn words_in(alloc: Global, text: &str) -> Result<Items<Text>, AllocError>
     Ok(words)
 }
 
-/// Returns the compiler's own arguments: the words of `RUSTFLAGS`.
+/// Returns the user's own arguments for the compiler: the words of `RUSTFLAGS`.
 fn flags_of(alloc: Global, found: Option<Text>) -> Result<Items<Text>, AllocError>
     ensures { IfOk result (λ words. words ≡ flags_of found) }
 {

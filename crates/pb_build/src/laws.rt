@@ -33,10 +33,10 @@ pub fn units_are_of_the_result()
     ensures { UnitsAreOfResult }
 {}
 
-/// Edits and builds of a session leave the records of a folder true, however the builds ended. At
-/// first the records must be true, or there must be no records. Each edit must stay out of the
-/// folder or remove it as a whole. Each build must keep its records in the folder and have an
-/// honest child, or keep its records apart from the folder.
+/// Edits and builds of a session leave the records of a folder true, however the builds ended.
+/// Before the session the records must be true, or there must be no records. Each edit must stay
+/// out of the folder or remove it as a whole. Each build must keep its records in the folder and
+/// have an honest child, or keep its records apart from the folder.
 pub fn records_stay_true()
     ensures empty { NothingIsSound }
     ensures stay { RecordsStayTrue }
@@ -44,7 +44,7 @@ pub fn records_stay_true()
 
 /// After any edits and builds, a build of a session produces what a clean build of the present
 /// workspace produces. If a fault ends the build, only a prefix of the clean build's lines has been
-/// written.
+/// written before the finish line.
 pub fn any_build_gives()
     ensures { AnyBuildGives }
 {}

@@ -64,7 +64,7 @@ fn read<P: Place>(
     }
 }
 
-/// Returns the selected packages, and the features that are requested of them.
+/// Returns the selected packages, and the features that are requested of these packages.
 fn select<'a>(
     alloc: Global,
     workspace: &'a SettledWorkspace,

@@ -76,8 +76,8 @@ fn built_unfailing<C: Child + Copy, O: Out>(
     result
 }
 
-/// Builds, and begins the units that the session picks. If nothing is set to fail, and nothing has
-/// failed, no call fails.
+/// Builds, and begins the units that the session picks. If no call is set to fail, and no earlier
+/// call has failed, no call of the build fails.
 fn build_by<C: Child + Copy, O: Out>(
     alloc: Global,
     memory: &mut Memory<C>,
@@ -178,9 +178,9 @@ fn light<C: Child>(memory: &mut Memory<C>, number: u64) -> Result<(), AllocError
 /// Takes steps, one after another, over a place in memory with no child in flight. Returns an
 /// answer for each build. All builds write their message lines to one sink.
 ///
-/// Each build ends as `build` promises, in the world that the earlier steps left. The session
-/// reports the cause of each end. If nothing was set to fail, and nothing has failed, no call of a
-/// build fails, unless memory runs out.
+/// Each build ends as `build` promises, in the world that the earlier steps left. The contract
+/// states the cause of each build's end. If no call was set to fail, and no earlier call has
+/// failed, no call of a build fails, unless memory runs out.
 ///
 /// Errors: only out of memory, and only outside of a build. After this error, all steps before the
 /// failing step have been taken. If the failing step is a build, the build has ended. Any other

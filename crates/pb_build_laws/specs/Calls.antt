@@ -8,8 +8,8 @@ use Rattle.pb_place_types.specs.declared.call.Call.TheVariants as call
 use Rattle.pb_place_types.specs.declared.place.PlaceFault.{PlaceFault}
 use Rattle.pb_place_types.specs.declared.place.PlaceFault.TheVariants as place
 
--- a call, the fault that the call has if it fails, and the call's argument, which is a path, a
--- folder or a name
+-- if this call fails, it fails with this fault; this is the call's argument: a path, a folder or a
+-- name
 pub data IsCall : Call → PlaceFault → List ℕ → Type 0 where
   read : (path : List ℕ) → IsCall (call.Read path) place.Read path
   is_file : (path : List ℕ) → IsCall (call.IsFile path) place.Read path

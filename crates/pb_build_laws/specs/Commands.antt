@@ -18,14 +18,14 @@ use Rattle.pb_unit.specs.declared.plan.Planned.{Planned}
 abbrev pub HasEachPart : RecordedCommand → Command → Type 0
 HasEachPart a c = (part : CommandPart) → SamePart a c part
 
--- A record and a command agree, except perhaps in their variables, if and only if each part is
--- equal. The command is the recorded command if and only if the variables are equal, too.
+-- A record asks for the same as a command, except perhaps in the variables, if and only if each
+-- part is equal. The command is the recorded command if and only if the variables are equal, too.
 abbrev pub AskedPartForPart : Type 0
 AskedPartForPart = (a : RecordedCommand) (c : Command) → (AsksAs a c ↔ HasEachPart a c) × ((command_of a ≡ c) ↔ (HasEachPart a c × (a.pairs ≡ c.pairs)))
 
 -- `IsFirstName` finds the least name, in byte order, at which the variables of a record differ from
 -- those of a unit's command. Either the two texts of this name differ, or only the record has the
--- name, or only the command has it.
+-- name, or only the command has the name.
 abbrev pub FirstNameIsLeast : Type 0
 FirstNameIsLeast = (text : List ℕ) (r : Record) (setup : Setup) (project : Project) (u : Planned) (done : List (Option (List Directive))) (name : List ℕ) → reading text ≡ Some r
     → IsFirstName r.asked.pairs (present.command_of setup project u done).pairs name ↔ IsLeastName r.asked.pairs (present.command_of setup project u done).pairs name

@@ -25,8 +25,8 @@ abbrev pub set_in : Map → List ℕ → Option (List ℕ)
 set_in variables name = option_and_then (λ text. if is_empty text then None else Some text) (finite.get variables name)
 
 -- The compiler is the value of `RUSTC`, or else `rustc`. The compiler's flags are the words of
--- `RUSTFLAGS`. The target folder is the path of `--target-dir`, or else that of `CARGO_TARGET_DIR`,
--- or else `target`. A relative path starts at the root.
+-- `RUSTFLAGS`. The target folder is the path of `--target-dir`, or else the path of
+-- `CARGO_TARGET_DIR`, or else `target`. A relative path starts at the root.
 abbrev pub EnvironmentsAreThese : Type 0
 EnvironmentsAreThese = (options : Options) (variables : Map) → environment_of options variables ≡ record {
   rustc = unwrap_or (set_in variables (codes "RUSTC")) (codes "rustc");
@@ -35,12 +35,12 @@ EnvironmentsAreThese = (options : Options) (variables : Map) → environment_of 
       (below (folder_of options.manifest) (codes "target"));
 }
 
--- The reply to the query reports this version of the compiler. The child ended well. The child's
--- output is UTF-8, and has a line that names the host.
+-- The reply to the query reports this version of the compiler: the child ended well, and the
+-- child's output is UTF-8 and has a line that names the host.
 abbrev pub IsToolchain : Reply → List ℕ → Type 0
 IsToolchain r toolchain = EndedWell (ended_by r) × (is_utf8 r.stdout ≡ true) × (list_any is_host (lines_of r.stdout) ≡ true) × (toolchain ≡ r.stdout)
 
--- The compiler's version is the version in its reply to the query.
+-- The compiler's version is what the compiler reports in its reply to the query.
 abbrev pub ToolchainsAreSaid : Type 0
 ToolchainsAreSaid = (child : Answers) (environment : Environment) (project : Project) (sources : World) (toolchain : List ℕ)
     → (toolchain_of child environment project sources ≡ Some toolchain) ↔ IsToolchain (child (query_of environment.rustc project.workspace.root project.workspace.target) sources) toolchain

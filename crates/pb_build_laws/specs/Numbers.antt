@@ -23,13 +23,13 @@ abbrev pub RecordsAreNumbered : Type 0
 RecordsAreNumbered = ((r : Record) → number_of r ≡ slice_get (numbers_in r.needed) 0)
     × ((o : Option Record) → (number_if o ≡ option_and_then number_of o) × (lacks_number o ≡ option_map_or (λ r. is_none (number_of r)) o false))
 
--- the number of the record at a path, and the numbers that this record names, whatever the record's
--- key is
+-- the number of the record at a path, and the numbers that this record names; the record may have
+-- any key
 abbrev pub numbers_at : Map → List ℕ → List ℕ
 numbers_at files path = if ends_as_record path then option_map_or (λ (r : Record). numbers_in r.needed) (option_and_then reading (finite.get files path)) [] else []
 
--- The next number is one above the greatest number that the records directly in a folder have or
--- name. If no record has a number, the next number is 1.
+-- The next run number is one above the greatest run number in the records directly in a folder. If
+-- no record has a number, the next number is 1.
 abbrev pub NextIsAbove : Type 0
 NextIsAbove = (folder : List ℕ) (w : World) → next_in folder w ≡ after (fold max 0 (flat_map (numbers_at w.files) (listed_directly folder w)))
 

@@ -1,5 +1,5 @@
 -- The outcome of each unit of a build, determined by the units before it, the child and the
--- sources. Also, which inputs a reply has.
+-- sources. These definitions also say which inputs a reply has.
 use Rattle.std.specs.Prelude.{◌≡◌, ◌↔◌, ℕ, Bool, true, false, if◌then◌else◌, IsOkAnd, List, length, Option, Some, Result, Ok, Err, option_and_then, slice_get, take}
 use Rattle.std.specs.FinMap as finite
 use Rattle.std.specs.List.{list_all}

@@ -13,15 +13,15 @@ use Rattle.pb_build_turns.specs.Executor.{needs_of}
 abbrev pub IsFirstToBegin : {F : Type 0} → List (List ℕ) → List (State F) → ℕ → Type 0
 IsFirstToBegin needs states u = MayBegin needs states u × ((v : ℕ) → v < u → MayBegin needs states v → ⊥)
 
--- The event is the next one, given the number of jobs. If fewer than `jobs` units are in flight,
--- the first unit that may begin begins. If no unit may begin, or at least `jobs` units are in
--- flight, the unit in flight that began first answers.
+-- The event is the next one, given the number of jobs. If some unit may begin, and fewer than
+-- `jobs` units are in flight, the first such unit begins. Otherwise the unit that has been in
+-- flight longest answers.
 abbrev pub IsNext : {F : Type 0} → ℕ → List (List ℕ) → List (Event F) → Event F → Type 0
 IsNext jobs needs es (Began u spawned) = (length (flying_after es) < jobs) × IsFirstToBegin needs (states_after needs es) u
 IsNext jobs needs es (Gave u answer) = (((v : ℕ) → MayBegin needs (states_after needs es) v → ⊥) ⊎ (jobs ≤ length (flying_after es))) × (slice_get (flying_after es) 0 ≡ Some u)
 
--- Each event was the next one when it came, and the build was not finished then. The newest event
--- is the first of the list.
+-- Each event was the next one when the event came, in a build that was not finished. The newest
+-- event is the first of the list.
 abbrev pub AreInTurn : {F : Type 0} → ℕ → List (List ℕ) → List (Event F) → Type 0
 AreInTurn jobs needs [] = Unit {0}
 AreInTurn jobs needs (e ∷ es) = AreInTurn jobs needs es × (is_finished (states_after needs es) ≡ false) × IsNext jobs needs es e

@@ -26,9 +26,9 @@ abbrev pub StatesAreThese : Type 0
 StatesAreThese = (is_good_at {F = BadUnit} None ≡ false)
     × ((s : State BadUnit) → ((is_untouched s ≡ true) ↔ (s ≡ Untouched)) × ((is_bad s ≡ true) ↔ HasAnswered s true) × ((is_good_at (Some s) ≡ true) ↔ HasAnswered s false))
 
--- Take the first unit, in plan order, that is not good. The lines of all units before it are due.
--- If the unit itself is bad, its lines are due, too. The build is finished if this unit is bad, or
--- if all units are good.
+-- Take the first unit, in plan order, that is not good. The lines of all units before that unit are
+-- due. If the unit itself is bad, its lines are due, too. The build is finished if this unit is
+-- bad, or if all units are good.
 abbrev pub EndsAreThese : Type 0
 EndsAreThese = (states : List (State BadUnit)) → let first = prefix_len (λ s. is_good_at (Some s)) states in
     (count_due states ≡ first + (if option_map_or is_bad (slice_get states first) false then 1 else 0)) × (is_finished states ≡ option_map_or is_bad (slice_get states first) true)

@@ -12,11 +12,11 @@ use Rattle.pb_store.specs.declared.difference.Difference.{Difference}
 use Rattle.pb_build_turns.specs.Rows.{Reasons, Row, fault_in, summary_of}
 use Rattle.pb_unit.specs.declared.plan.Planned.{Planned}
 
--- the key of the first bad unit, the reason why it is bad, and what its child printed
+-- the key of the first bad unit, the reason why this unit is bad, and what the unit's child printed
 abbrev pub first_bad_unit : List Row → Option (List ℕ × BadUnit)
 first_bad_unit rows = slice_get (filter_map (λ (row : Row). option_map (λ bad. (row.unit.key, bad)) (fault_in row.outcome)) rows) 0
 
--- the key of the unit, if it has begun and nothing differed from its record
+-- the key of the unit, if the unit has begun and nothing differed from the unit's record
 abbrev pub kept_in : (Planned × Option (Option Difference)) → Option (List ℕ)
 kept_in (u, Some None) = Some u.key
 kept_in (u, reason) = None
@@ -40,6 +40,6 @@ pub record IsSummary (project : Project) (es : List (Event BadUnit)) (reasons : 
   -- the summary has the directives of each run, with the run's key
   pub directives : summary.directives ≡ filter_map (λ (row : Row). option_map (λ directives. (row.unit.key, directives)) (directives_in row.outcome)) rows
 
--- A summary is that of these rows if and only if it is as `IsSummary` says.
+-- A summary equals `summary_of` if and only if `IsSummary` is true of the summary.
 abbrev pub SummariesSay : Type 0
 SummariesSay = (project : Project) (es : List (Event BadUnit)) (reasons : Reasons) (rows : List Row) (summary : Summary) → (summary ≡ summary_of project es reasons rows) ↔ IsSummary project es reasons rows summary

@@ -1,5 +1,5 @@
--- What a unit reports to people: its target, and its messages if it is good or bad (The Cargo Book,
--- External Tools).
+-- What a unit reports to people: the unit's target, and the unit's messages, whether the unit is
+-- good or bad (The Cargo Book, External Tools).
 use Rattle.std.specs.Prelude.{◌≡◌, ◌++◌, ◌∷◌, [], ℕ, Bool, codes, not, List, Option, Some, None, find, map, option_and_then, option_map}
 use Rattle.std.specs.List.{filter_map, flat_map}
 use Rattle.std.specs.Option.{option_map_or}
@@ -35,7 +35,7 @@ use Rattle.pb_unit.specs.declared.unit.What.TheVariants.{Lib, Bin, Run}
 abbrev pub target : Package → List (List ℕ) → List (List ℕ) → List ℕ → List ℕ → List (List ℕ) → Target
 target p kinds types name source required = record { kinds = kinds; crate_types = types; name = name; source = source; edition = p.edition; required_features = required }
 
--- the target of a package that a unit of this kind compiles or runs, if the package has it
+-- the target that a unit of this kind compiles or runs, if the package has such a target
 abbrev pub target_in : Package → What → Option Target
 target_in p Lib = option_map (λ (l : Library). target p (crate_type_texts l.crate_types) (crate_type_texts l.crate_types) l.name l.source []) p.library
 target_in p (Bin name) = option_map (λ (b : Binary). target p (codes "bin" ∷ []) (codes "bin" ∷ []) b.name b.source b.required_features) (find (λ (b : Binary). bytes_eq name b.name) p.binaries)
@@ -71,15 +71,15 @@ told_well project u stderr (Some directives) = filter_map note_in directives ++ 
 
 -- The messages of a bad unit, and the rest of what its child printed. If a stream is too long, both
 -- are empty. A script that reported an error has its notes in printed order, if they can be read.
--- Any other run has no messages. A compile has its diagnostics.
+-- Any other bad run has no messages. A compile has its diagnostics.
 abbrev pub told_badly : What → UnitFault → List ℕ → List ℕ → List Message × List ℕ
 told_badly what fault.OutputTooLong stdout stderr = ([], [])
 told_badly what fault.ScriptError stdout stderr = (filter_map note_in (result_unwrap_or (directives_of stdout) []), stderr)
 told_badly Run _ stdout stderr = ([], stdout ++ stderr)
 told_badly what _ stdout stderr = (map CompilerMessage (diagnostics_of stderr), plain_lines_of stderr)
 
--- The lines of a unit are those of its messages, if its package and its target exist. `started` is
--- true if a child was started for the unit.
+-- The lines of a unit are the lines of the unit's messages, if the unit's package and target exist.
+-- `started` is true if a child was started for the unit.
 abbrev pub LinesAreTold : Type 0
 LinesAreTold = (project : Project) (u : Planned) (started : Bool) (messages : List Message) → unit_lines project u started messages ≡ option_map_or (λ s. lines_of s (not started) messages) (subject_at project u) []
 

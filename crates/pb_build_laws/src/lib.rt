@@ -1,6 +1,6 @@
-//! Laws of a build, stated independently of the code. They are about the build's environment, the
-//! difference of a unit's command, the next unit, and the states of units. They are also about what
-//! a unit produces and reports, and about the summary.
+//! Laws of a build, stated independently of the code. The laws are about the build's environment,
+//! the difference of a unit's command, the next unit, and the states of units. The laws are also
+//! about what a unit produces and reports, and about the summary.
 #![tactic(auto)]
 
 ghost use Rattle.pb_build_laws.specs.Calls.{CallsAreTold};
@@ -14,8 +14,8 @@ ghost use Rattle.pb_build_laws.specs.States.{EndsAreThese, RowsAreThese, StatesA
 ghost use Rattle.pb_build_laws.specs.Summaries.{SummariesSay};
 ghost use Rattle.pb_build_laws.specs.Telling.{BadUnitsTell, GoodUnitsTell, LinesAreTold};
 
-/// A law: a command is equal to the recorded command if and only if its parts and variables are
-/// equal to the recorded parts and variables.
+/// A law: a command equals the recorded command if and only if its parts and variables equal the
+/// recorded parts and variables.
 pub fn asked_part_for_part()
     ensures { AskedPartForPart }
 {}
@@ -34,7 +34,7 @@ pub fn summaries_say()
 
 /// A law about the events of a build that always picks the first unit that may begin, in plan
 /// order. If fewer units are in flight than there are jobs, and some unit may begin, the first of
-/// these units begins. Otherwise the unit in flight that began first answers.
+/// these units begins. Otherwise the unit that has been in flight longest answers.
 pub fn builds_go_in_turn()
     ensures { BuildsGoInTurn }
 {}
@@ -61,7 +61,7 @@ pub fn inputs_are_judged()
 {}
 
 /// A law about a build's environment: what the variables and the options determine, and which
-/// answer of the compiler reports its version and its host.
+/// answer of the compiler reports the compiler's version and host.
 pub fn environments_are_these()
     ensures environments { EnvironmentsAreThese }
     ensures toolchains { ToolchainsAreSaid }
@@ -83,7 +83,7 @@ pub fn calls_are_told()
 {}
 
 /// This law says which record counts, and which numbers records have. The next run number is one
-/// above the greatest number that the records of a folder have or name.
+/// above the greatest run number in the records of a folder.
 pub fn next_is_above()
     ensures records { RecordsAreNumbered }
     ensures counts { RecordsCount }

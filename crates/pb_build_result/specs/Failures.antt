@@ -78,7 +78,7 @@ abbrev pub device_fault_name : DeviceFault → List ℕ
 device_fault_name (device.Place fault) = codes "Device"
 device_fault_name device.NumbersSpent = codes "NumbersSpent"
 
--- why a call on files or variables failed, or a call for a unit's record
+-- why a call on files or variables failed, or that no run number was left
 abbrev pub device_sentence : DeviceFault → List ℕ
 device_sentence (device.Place fault) = place_sentence fault
 device_sentence device.NumbersSpent = codes "no run number is left"

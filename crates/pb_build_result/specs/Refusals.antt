@@ -46,7 +46,7 @@ manifest_sentence manifest.TooLarge = codes "the manifest is too long"
 manifest_sentence manifest.OldResolver = codes "resolver 1 is not supported"
 manifest_sentence manifest.OutOfMemory = codes "out of memory"
 
--- the name of the reason why a workspace cannot be read; for a bad manifest it is the name of the
+-- the name of the reason why a workspace cannot be read; for a bad manifest, the name of the
 -- manifest's fault
 abbrev pub load_fault_name : LoadFault → List ℕ
 load_fault_name (load.NoManifest path) = codes "NoManifest"
@@ -105,8 +105,7 @@ profile_sentence profile.InheritsCycle = codes "profiles inherit from one anothe
 profile_sentence profile.NotInOverride = codes "an override in a profile sets `panic`, `lto` or `rpath`"
 profile_sentence profile.OutOfMemory = codes "out of memory"
 
--- the name of the reason why there is no plan; for a bad profile it is the name of the profile's
--- fault
+-- the name of the reason why there is no plan; for a bad profile, the name of the profile's fault
 abbrev pub plan_fault_name : PlanFault → List ℕ
 plan_fault_name (plan.Cycle names) = codes "Cycle"
 plan_fault_name plan.TooManyUnits = codes "TooManyUnits"

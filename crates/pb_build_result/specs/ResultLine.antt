@@ -1,5 +1,5 @@
--- The result line of a build, which says how it ended. The form of the line is our own choice. Keys
--- are written as they are.
+-- The result line of a build, which says how the build ended. The form of the line is our own
+-- choice. Keys are written as they are.
 use Rattle.std.specs.Prelude.{ℕ, codes, List, [], ◌∷◌, ◌++◌, Option, Some, None, Result, Ok, Err}
 use Rattle.std.specs.List.{concat}
 use Rattle.pb_command_types.specs.declared.fault.UnitFault.{UnitFault}
@@ -9,7 +9,7 @@ use Rattle.pb_build_result.specs.declared.summary.Summary.{Summary}
 use Rattle.pb_build_result.specs.Failures.{device_fault_name, start_fault_name, unit_fault_text}
 use Rattle.pb_build_result.specs.Refusals.{refusal_name}
 
--- the keys, with a comma before each
+-- the keys, with a comma before each key
 abbrev pub keys_rest : List (List ℕ) → List ℕ
 keys_rest [] = []
 keys_rest (key ∷ keys) = codes "," ++ key ++ keys_rest keys
@@ -19,7 +19,7 @@ abbrev pub keys_text : List (List ℕ) → List ℕ
 keys_text [] = codes "-"
 keys_text (key ∷ keys) = key ++ keys_rest keys
 
--- the line of a build whose units ended, given its first bad unit and the keys of the started units
+-- the line of a build whose units ended, given the first bad unit and the keys of the started units
 abbrev pub ended_line : Option (List ℕ × UnitFault) → List ℕ → List ℕ
 ended_line None keys = concat (codes "ok started=" ∷ keys ∷ [])
 ended_line (Some bad) keys = concat (codes "bad " ∷ bad.0 ∷ codes " " ∷ unit_fault_text bad.1 ∷ codes " started=" ∷ keys ∷ [])

@@ -8,6 +8,6 @@ use pb_data::Bytes;
 pub struct BadUnit {
     /// Why it is bad.
     pub fault: UnitFault,
-    /// The output of its child, except what message lines contain.
+    /// The output of the unit's child, except what message lines contain.
     pub said: Bytes,
 }

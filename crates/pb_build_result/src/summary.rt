@@ -12,13 +12,13 @@ pub struct Summary {
     pub success: bool,
     /// The key and the fault of the first bad unit in plan order, if there is one.
     pub bad: Option<(Text, UnitFault)>,
-    /// The output of this unit's child, except what message lines contain. Empty if all units are
-    /// good.
+    /// The output of the first bad unit's child, except what message lines contain. Empty if all
+    /// units are good.
     pub said: Bytes,
     /// The keys of the units whose child was started, in order of starting.
     pub started: Items<Text>,
-    /// For each of these units, in the same order, the first difference: the reason why the unit's
-    /// child was started.
+    /// For each unit in `started`, in the same order, the first difference: the reason why the
+    /// unit's child was started.
     pub differences: Items<Difference>,
     /// The keys of the units that began and for which nothing differed, in plan order: their
     /// records are replayed.

@@ -1,5 +1,4 @@
-//! The text that is printed for people about a build that came to its end. Message lines are not
-//! part of this text.
+//! The text for people about a build that came to its end. Message lines are not part of this text.
 
 ghost use Rattle.std.specs.Prelude.{◌≡◌, ◌++◌, IfOk, OnOk};
 ghost use Rattle.pb_build_result.specs.Said.{ended, said_by_bad};

@@ -1,4 +1,4 @@
--- Laws about session files, in their own words.
+-- Laws about session files: the order of steps, and the defaults of a build.
 use Rattle.std.specs.Prelude.{◌≡◌, codes, List, [], ◌∷◌, ◌++◌, None, false, Ok}
 use Rattle.serde_json.specs.Data.{Data, object, no_members}
 use Rattle.serde_json.specs.View.{items_of}
@@ -9,8 +9,8 @@ use Rattle.pb_build_session.specs.declared.pick.PickBy.TheVariants.{First}
 use Rattle.pb_build_session.specs.declared.step.SessionStep.{SessionStep}
 use Rattle.pb_build_session.specs.declared.step.SessionStep.TheVariants.{Build}
 
--- the steps of the first list, followed by those of the second, or the reason why one of the two
--- lists is bad
+-- the steps of the first list, followed by the steps of the second list, or the reason why one of
+-- the two lists is bad
 abbrev pub both : Read (List SessionStep) → Read (List SessionStep) → Read (List SessionStep)
 both first second = first >>= (λ a. second >>= (λ b. Ok (a ++ b)))
 
@@ -19,9 +19,9 @@ both first second = first >>= (λ a. second >>= (λ b. Ok (a ++ b)))
 abbrev pub StepsJoin : Type 0
 StepsJoin = (ds es : List Data) → steps_of (items_of (ds ++ es)) ≡ both (steps_of (items_of ds)) (steps_of (items_of es))
 
--- A build without options has the manifest `/w/Cargo.toml` and the profile `dev`. It selects no
--- packages, features or targets by name. At most one unit is in flight. Of the units that may
--- begin, the first in plan order begins.
+-- A build without options has the manifest `/w/Cargo.toml` and the profile `dev`. Without options a
+-- build selects no packages, features or targets by name. At most one unit is in flight. The unit
+-- that begins is the first, in plan order, of those that may begin.
 abbrev pub OptionsHaveDefaults : Type 0
 OptionsHaveDefaults = build_of (object no_members) ≡ Ok (Build (record {
   manifest = codes "/w/Cargo.toml";

@@ -1,4 +1,4 @@
--- Which numerals of JSON a session accepts as numbers: those that consist of digits only.
+-- A session accepts a JSON numeral as a number only if the numeral consists of digits only.
 use Rattle.std.specs.Prelude.{◌≡◌, ◌<◌, ◌^◌, ℕ, true, List, length, slice_index, Option, option_map, Err}
 use Rattle.std.specs.Float.Numeral.{minus, scan_numeral}
 use Rattle.std.specs.Result.{OkIff}
@@ -18,8 +18,8 @@ taken_as n = some_or BadForm (option_map number n) >>= number_of
 abbrev pub taken : List ℕ → Read ℕ
 taken numeral = taken_as (numeral_of numeral)
 
--- a numeral of digits only is the number that it denotes; if this is 2 ^ 64 or more, the session is
--- bad
+-- a numeral of digits only is read as the number that it denotes; if this number is 2 ^ 64 or more,
+-- the session is bad
 abbrev pub DigitsAreTaken : Type 0
 DigitsAreTaken = (digits : List ℕ) → IsNumeral 10 digits → OkIff (taken digits) (digits_value 10 digits < 2 ^ 64) (digits_value 10 digits)
 

@@ -13,7 +13,7 @@ use Rattle.pb_build_session.specs.declared.pick.PickBy.TheVariants.{First}
 use Rattle.pb_build_session.specs.declared.fault.BadSession.TheVariants.{BadForm}
 use Rattle.pb_workspace_types.specs.declared.options.Options.{Options}
 
--- the name is a key that the options of a build may have
+-- the options of a build may have a key with this name
 abbrev pub is_known : List ℕ → Bool
 is_known name =
     bytes_eq name (codes "manifest") || bytes_eq name (codes "packages") || bytes_eq name (codes "workspace") || bytes_eq name (codes "features") || bytes_eq name (codes "all_features")
@@ -106,8 +106,8 @@ options_of d = some_or BadForm (as_object d) >>= (λ ms. if are_known ms then op
 abbrev pub pick_of : Data → Read PickBy
 pick_of d = text_of d >>= pick_named
 
--- the choice of the unit that begins: the first of those that may begin, unless another choice is
--- requested
+-- How the unit that begins is chosen. If no choice is requested, it is the first of the units that
+-- may begin.
 abbrev pub pick_or_first : Option Data → Read PickBy
 pick_or_first None = Ok First
 pick_or_first (Some d) = pick_of d

@@ -11,8 +11,8 @@ use Rattle.pb_build_session.specs.declared.options.Featured.{Featured}
 use Rattle.pb_build_session.specs.declared.options.Targeted.{Targeted}
 use Rattle.pb_build_session.specs.declared.options.Tools.{Tools}
 
--- The part of the options that says what is selected. The next two definitions are the features and
--- the profile, and then the targets and the number of jobs.
+-- The part of the options that says what is selected. Of the next two definitions, the first reads
+-- the features and the profile, and the second the targets and the number of jobs.
 abbrev pub asked_in : Data → Read OptionValues
 asked_in d =
     manifest_or_default (get (codes "manifest") d) >>= (λ manifest.

@@ -1,5 +1,5 @@
--- What a session file contains: a JSON list of objects with one key each. This form is our own
--- choice.
+-- What a session file contains: a JSON list of objects with one key each. The form of a session
+-- file is our own choice.
 use Rattle.std.specs.Prelude.{ℕ, if◌then◌else◌, codes, List, [], ◌∷◌, Ok, Err}
 use Rattle.std.specs.Str.{bytes_eq, is_utf8}
 use Rattle.serde_json.specs.Data.{Data, Items, no_items, item}
@@ -42,7 +42,7 @@ step_named name d =
 abbrev pub step_of : Data → Read SessionStep
 step_of d = some_or BadForm (as_object d) >>= (λ ms. some_or BadForm (only_member ms) >>= (λ m. step_named m.0 m.1))
 
--- the steps of a list, in its order
+-- the steps of a list, in the order of the list
 abbrev pub steps_of : Items → Read (List SessionStep)
 steps_of no_items = Ok []
 steps_of (item d ds) = step_of d >>= (λ step. steps_of ds >>= (λ steps. Ok (step ∷ steps)))

@@ -10,8 +10,8 @@ use Rattle.pb_build_session.specs.declared.fault.BadSession.TheVariants.{BadForm
 abbrev pub text_of : Data → Read (List ℕ)
 text_of d = some_or BadForm (as_str d)
 
--- the number of a JSON numeral that has digits only and is below 2 ^ 64; there is no sign, no point
--- and no exponent
+-- The number of a JSON numeral. The numeral must have digits only, without a sign, a point or an
+-- exponent, and the number must be below 2 ^ 64.
 abbrev pub number_of : Data → Read ℕ
 number_of d = some_or BadForm (option_and_then as_u64 (as_number d))
 
@@ -35,7 +35,7 @@ pair_in (item a (item b (item c ds))) = Err BadForm
 abbrev pub pair_of : Data → Read (List ℕ × List ℕ)
 pair_of d = array_of d >>= pair_in
 
--- the only member of an object, if it has exactly one
+-- the only member of an object, if the object has exactly one member
 abbrev pub only_member : Members → Option (List ℕ × Data)
 only_member no_members = None
 only_member (member name d no_members) = Some (name, d)

@@ -8,8 +8,8 @@ ghost use Rattle.pb_build_session.specs.Faults.{UnlessOom};
 use crate::fault::BadSession;
 use pb_place_types::StartFault;
 
-/// How a start fails if a session sets it to fail (our own choice). Out of memory is not among
-/// these ways, since it is not a failure of the outside world.
+/// How a start fails if a session sets it to fail (our own choice). Out of memory, which is not a
+/// failure of the outside world, is not among these ways.
 #[derive(Clone, Copy)]
 pub enum Death {
     /// The program could not be started. No file remains.
@@ -17,7 +17,7 @@ pub enum Death {
     /// The child ended without a status. The first half of the reply's files remains, in byte order
     /// of their paths. If the number of files is odd, the half is rounded down.
     Died,
-    /// The child's output could not be captured. The same half of the files remains.
+    /// The child's output could not be captured. The same half of the files remains as for `Died`.
     Capture,
 }
 

@@ -3,9 +3,9 @@
 ghost use Rattle.pb_build_session.specs.Laws.{StepsJoin, OptionsHaveDefaults};
 ghost use Rattle.pb_build_session.specs.Numbers.{DigitsAreTaken, MinusIsBad, PointIsBad, ExponentIsBad};
 
-/// A law: the steps of a session are in the order of its list. If two lists of values are joined,
-/// the steps of the first list come before the steps of the second list. The first bad value makes
-/// the session bad.
+/// A law: the steps of a session are in the order of the session's list. If two lists of values are
+/// joined, the steps of the first list come before the steps of the second list. The first bad
+/// value makes the session bad.
 pub fn steps_stand_in_order()
     ensures { StepsJoin }
 {}
@@ -18,9 +18,9 @@ pub fn options_have_defaults()
 {}
 
 /// A law: a session accepts only numerals of JSON that consist of digits, up to
-/// 18446744073709551615. Each numeral means the number that it denotes. A greater number makes the
-/// session bad, and so does a numeral with a minus (`-0`), with a point (`1.0`) or with an exponent
-/// (`1e1`).
+/// 18446744073709551615. An accepted numeral is read as the number that it denotes. A greater
+/// number makes the session bad, and so does a numeral with a minus (`-0`), with a point (`1.0`) or
+/// with an exponent (`1e1`).
 pub fn numbers_are_digits()
     ensures digits { DigitsAreTaken }
     ensures minus { MinusIsBad }

@@ -8,9 +8,9 @@ use crate::fault::BadSession;
 /// The choice among the units that may begin (our own choice).
 #[derive(Clone, Copy)]
 pub enum PickBy {
-    /// The first of these units, in plan order.
+    /// The first, in plan order, of the units that may begin.
     First,
-    /// The last of these units, in plan order.
+    /// The last, in plan order, of the units that may begin.
     Last,
 }
 

@@ -89,7 +89,7 @@ fn step_of(alloc: Global, value: &Value) -> Result<SessionStep, BadSession>
     }
 }
 
-/// Returns the steps of a list, in its order.
+/// Returns the steps of a list, in the order of the list.
 fn steps_of(alloc: Global, values: &[Value]) -> Result<Items<SessionStep>, BadSession>
     ensures { UnlessOom result (steps_of (items_view values.now)) }
 {

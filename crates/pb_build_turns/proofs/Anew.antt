@@ -267,7 +267,7 @@ module _ (is_modelled : Bool) (child : Answers) (first old : UnitExecutor) (at n
   -- A unit answers.
 
   module _ (index : ℕ) (a : RunningUnit) (u : Planned) (there : unit_at old.project a.unit ≡ Some u) (at_index : slice_get old.running.items index ≡ Some a) (only : IsTrue is_modelled → ChangesOnly (is_of (records_folder old.project) u.key) now.world new.world) where
-    -- a fault came in its index
+    -- a fault came in its place
     pub unanswered_anew : IsTrue is_modelled → AllAnswerAnew child old.setup old.project es old.done.items new.world
     unanswered_anew t =
         let state = (flown t index a at_index).state in

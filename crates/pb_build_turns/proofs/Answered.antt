@@ -1,4 +1,4 @@
--- What has happened, where a unit in flight answers, or a fault comes in its index.
+-- What has happened, where a unit in flight answers, or a fault comes in its place.
 use Rattle.std.proofs.Common.{◌≡◌, ◌≢◌, ◌∙◌, ◌<◌, inl, inr, true, List, ◌∷◌, ℕ, Option, Some, refl, sym, ap, subst, slice_get, slice_set, is_some, length}
 use Rattle.std.proofs.lemmas.Bool.{false≢true}
 use Rattle.std.proofs.lemmas.Option.{slice_get_within}

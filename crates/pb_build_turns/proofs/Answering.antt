@@ -83,7 +83,7 @@ module _ (is_modelled : Bool) (child : Answers) (first old : UnitExecutor) (at n
             indices tickets numbers others_now record { fault = ran.bad; lines = lines } ran.directives keeps (outcome_by (files_in u.out new.world.files) ran) outcome
             (fault_of ran.bad (files_in u.out new.world.files) ran.directives ran.messages) noted_is lines_are
 
-  -- a fault came in its index
+  -- a fault came in its place
   pub failed_happened : (running' : List RunningUnit) → running' ≡ remove old.running.items index
       → ((premise : Premise) (setup : Setup) (sources : World) (states : List (State BadUnit)) (done : List (Option (List Directive))) → IsTrue is_modelled
       → CanAnswer (build_context premise child setup old.project sources) states done a.unit u a.begun old.store.next now.world now.counts.starts.flying still → BuildInvariant (build_context premise child setup old.project sources) states done next' new.world)

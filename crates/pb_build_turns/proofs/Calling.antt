@@ -1,4 +1,4 @@
--- The calls of a crew, where a unit begins or answers, or a fault comes in its index.
+-- The calls of a crew, where a unit begins or answers, or a fault comes in its place.
 use Rattle.std.proofs.Common.{◌≡◌, ◌≢◌, ◌∙◌, ◌∷◌, inr, Bool, true, List, ℕ, Option, Some, None, Contains, Result, Ok, Err, IsTrue, refl, sym, ap, subst, is_some, slice_get, slice_set}
 use Rattle.std.proofs.lemmas.Bool.{false≢true}
 use Rattle.std.specs.Prelude.{IfErr, IfOk, IfSome, IsOk}
@@ -200,7 +200,7 @@ module _ (told : CallBasis) (index : ℕ) (u : Planned) (there : unit_at told.pr
   replies_so (awaited.Child launched) (Err fault) well mid flight ends is = tt
   replies_so (awaited.Record again) answer well mid waits ends is = absurd (false≢true is)
 
-  -- it has answered, or a fault came in its index
+  -- it has answered, or a fault came in its place
   answers_calling : (by : Awaited) (spawned : Bool) → spawned ≡ is_some (child_in by) → WaitsTold told index u c before left old.starts.flying still by
       → (answer : Result Ended StartFault) (result : Result (Unit {0}) BuildFault) (well : Type 0) → (IsOk result → well) → (mid : Counts) → EndsBy by answer well still before left old mid
       → (after : World) (new : Counts) → ChangesOnly (is_at_or_below (record_path (records_folder told.project) u.key)) left after → IfErr result (IsOfUnit u.key) → CallsBehind by (answered_called told.project u c left by) answer (bare result) mid new
@@ -262,7 +262,7 @@ module _ (is_modelled : Bool) (child : Answers) (first old : UnitExecutor) (at n
   calls_answered answer ran lands t f s k =
       (now.world, now.counts, story.calls t f s k, answers (Ok tt) (Ok ran) (λ ok. ok) tt (λ by names said old new answered. behind_well by names said ran old new) lands t f s k)
 
-  -- a fault came in its index
+  -- a fault came in its place
   cut : (fault : BuildFault) (unit : ℕ) → unit ≡ a.unit → IsTrue is_modelled → FromFirst child first at old (λ b. AnswersCalling (call_basis b) a.unit (is_started es a.unit) (Err fault) now.world now.counts new.world new.counts)
       → FromFirst child first at old (λ b. CallsCut (call_basis b) fault (Some unit) es es at.world at.counts new.world new.counts)
   cut fault unit its t so f s k =
@@ -314,7 +314,7 @@ module _ (is_modelled : Bool) (child : Answers) (first old : UnitExecutor) (at n
           answers_on_any done' (same a.unit (Begun, flies.state, refl) u there) (Ok tt) (Ok ran) (λ ok. ok) tt (λ by names said old new answered. behind_well by names said ran old new) lands t,
         )
 
-    -- a fault came in its index
+    -- a fault came in its place
     cut_on_any : (fault : BuildFault) (unit : ℕ) → unit ≡ a.unit → IsTrue is_modelled → (AnswersCalling (call_basis_on_any child old.setup old.project old.done.items) a.unit (is_started es a.unit) (Err fault) now.world now.counts new.world new.counts)
         → CallsCutOnAny child old.setup old.project old.done.items fault (Some unit) es es at.world at.counts new.world new.counts
     cut_on_any fault unit its t so = (

@@ -139,7 +139,7 @@ module _ (project : Project) (order : IsInOrder project) (first : World) (runnin
           writes = λ v at. subst (λ (x : Planned). WritesTo x.out (child_of a.begun) flying') (injective (sym there ∙ subst (λ n. unit_at project n ≡ Some v) its at)) writes;
         }
 
-  -- A unit answers, or a fault comes in its index.
+  -- A unit answers, or a fault comes in its place.
 
   module _ (index : ℕ) (a : RunningUnit) (at : slice_get running index ≡ Some a) (u : Planned) (there : unit_at project a.unit ≡ Some u) where
     so : FliesIn project es w flying a

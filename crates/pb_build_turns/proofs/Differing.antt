@@ -271,7 +271,7 @@ module _ (is_modelled : Bool) (child : Answers) (first old : UnitExecutor) (at n
     so : IsTrue is_modelled → FliesIn old.project es now.world now.counts.starts.flying a
     so t = all_get (FliesIn old.project es now.world now.counts.starts.flying) old.running.items index a (story.changes t).flies at_index
 
-    -- a fault came in its index
+    -- a fault came in its place
     pub unanswered_began : IsTrue is_modelled → AllBeganOnAny old.setup old.project old.done.items es old.reasons.items at.world new.world
     unanswered_began t =
         answered_beside old.project (from_nothing old.project.workspace.target at.world) (commands_of old.done.items) order es old.reasons.items at.world now.world new.world a.unit u there (so t).state (child_of a.begun) (so t).started (only t) (same t) (folder t)

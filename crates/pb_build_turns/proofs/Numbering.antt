@@ -130,7 +130,7 @@ spends_answered Lacks es first now key launched (Device unit NumbersSpent) old n
 spends_answered Lacks es first now key launched Sink old new may numbers = tt
 spends_answered Lacks es first now key launched OutOfMemory old new may numbers = tt
 
--- The numbers along a story, over a modelled index.
+-- The numbers along a story, over a modelled place.
 
 pub begun_taken : (is_modelled : Bool) (child : Answers) (first old : UnitExecutor) (at now : BuildState) (still : ℕ → Type 0) (es : List (Event BadUnit)) (given unit : ℕ) → History is_modelled child first at old now still es given
     → (next : Option ℕ) (o : Option SpawnedChild) → MatchOption o (next ≡ old.store.next) (λ launched. (old.store.next ≡ Some launched.number) × (next ≡ after launched.number))

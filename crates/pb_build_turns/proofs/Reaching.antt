@@ -67,7 +67,7 @@ module _ (project : Project) (order : IsInOrder project) where
   same_out i j u v at_i at_j same =
       indices_same project order i j u v at_i at_j (one_key (records_folder project) u.key v.key (sym (order.folders i u at_i) ∙ same ∙ order.folders j v at_j))
 
-  -- the record's index of one unit is no path of another
+  -- the record's path of one unit is no path of another
   pub record_outside_other : (i j : ℕ) (u v : Planned) → unit_at project i ≡ Some u → unit_at project j ≡ Some v → i ≢ j → is_of (records_folder project) u.key (record_path (records_folder project) v.key) ≡ false
   record_outside_other i j u v at_i at_j apart =
       let left : is_at_or_below (out_of (records_folder project) u.key) (record_path (records_folder project) v.key) ≡ false = record_outside (records_folder project) u.key v.key (order.keys i u at_i) (order.keys j v at_j) in

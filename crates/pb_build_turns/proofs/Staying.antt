@@ -247,7 +247,7 @@ module _ (project : Project) (sources : World) (command : ℕ → Planned → Co
     began_beside es reasons first w w' i u there untouched only =
         began_on es reasons first w w' i u there only (ap is_good_at untouched) (λ a at. untouched_apart a (sym untouched ∙ at)) (λ has f. absurd (another (states_in project es) i i untouched has refl)) (λ has. absurd (another (states_in project es) i i untouched has refl))
 
-    -- an answer, or a fault in its index
+    -- an answer, or a fault in its place
     pub answered_beside : (es : List (Event BadUnit)) (reasons : Reasons) (first w w' : World) (i : ℕ) (u : Planned) → unit_at project i ≡ Some u → slice_get (states_in project es) i ≡ Some Begun → (o : Option SpawnedChild) → is_started es i ≡ is_some o
         → ChangesOnly (is_of (records_folder project) u.key) w w' → (o ≡ None → lacks_number (records (records_folder project) w u.key) ≡ false → w' ≡ w) → (o ≡ None → (q : List ℕ) → is_at_or_below u.out q ≡ true → finite.get w'.files q ≡ finite.get w.files q)
         → AllBegan project sources command es reasons first w → AllBegan project sources command es reasons first w'

@@ -41,7 +41,7 @@ use Rattle.pb_unit.specs.declared.plan.Planned.{Planned}
 no_child : (l : SpawnedChild) → Some l ≡ None → ⊥
 no_child l e = cc
 
--- it answers: only its record's index may change
+-- it answers: only its record's path may change
 pub folder_answered : (project : Project) (order : IsInOrder project) (index : ℕ) (u : Planned) → unit_at project index ≡ Some u → (by : Awaited) → child_in by ≡ None → (answer : Result Ended StartFault) (well : Type 0) (still : ℕ → Type 0) (w left w' : World) (old mid : Counts)
     → EndsBy by answer well still w left old mid → ChangesOnly (is_at_or_below (record_path (records_folder project) u.key)) left w' → (q : List ℕ) → is_at_or_below u.out q ≡ true → finite.get w'.files q ≡ finite.get w.files q
 folder_answered project order index u there (awaited.Child launched) none answer well still w left w' old mid ends behind q inside = absurd (no_child launched none)

@@ -49,9 +49,9 @@ use Rattle.pb_message_units.specs.Telling.{unit_lines}
 abbrev pub ran_again : Project → Planned → Record → Map → Ran
 ran_again project u r files = unstarted (ran_of project u (asked_command r.asked) (replayed r).ended files)
 
--- The unit at this index has answered with the record that it had at first. The unit's fault, lines
--- and directives follow from this record, the record's command, and the files that were there at
--- first.
+-- The unit at this index has answered with the record that it had before any unit began. The unit's
+-- fault, lines and directives follow from this record, the record's command, and the files as they
+-- were before any unit began.
 pub record AnswersAgain (setup : Setup) (project : Project) (done : List (Option (List Directive))) (first : World) (index : ℕ) (answer : Answer BadUnit) : Type 0 where
   pub unit : Planned
   pub there : unit_at project index ≡ Some unit
@@ -65,8 +65,9 @@ pub record AnswersAgain (setup : Setup) (project : Project) (done : List (Option
 
 -- Units in flight that will answer by replay.
 
--- The unit will replay its first record, which has the unit's command. The inputs of this record
--- had their recorded values at first. The unit's folder and record have not changed.
+-- The unit will replay the record that it had before any unit began. The record has the unit's
+-- command. Before any unit began, the inputs had the values that the record has for them. The
+-- unit's folder and record have not changed.
 pub record WaitsAgain (setup : Setup) (project : Project) (done : List (Option (List Directive))) (first now : World) (u : Planned) (c : Command) (again : Replayed) : Type 0 where
   pub kept : Record
   pub here : records (records_folder project) first u.key ≡ Some kept
@@ -90,9 +91,9 @@ FliesAgain setup project done first now a = (u : Planned) → unit_at project a.
 abbrev pub ran_anew : Project → Planned → Command → Reply → Ran
 ran_anew project u c reply = ran_of project u c (ended_by reply) (replied_files u.out reply)
 
--- The unit at this index has answered with its child's reply to what the child sees of this world.
--- The unit's folder contains exactly the reply's files. The unit's fault, lines and directives
--- follow from the reply.
+-- The unit at this index has answered with its child's reply, given what the child sees of this
+-- world. The unit's folder contains exactly the reply's files. The unit's fault, lines and
+-- directives follow from the reply.
 pub record AnswersAnew (child : Answers) (setup : Setup) (project : Project) (done : List (Option (List Directive))) (now : World) (index : ℕ) (answer : Answer BadUnit) : Type 0 where
   pub unit : Planned
   pub there : unit_at project index ≡ Some unit
@@ -122,13 +123,13 @@ pub record CallBasis : Type 0 where
   pub command : ℕ → Planned → Command
   pub sees : ℕ → Planned → World → World
 
--- what determines the calls in a build context: the command and the view that each unit has in a
--- clean build, whatever the world is
+-- In a build context, the command and the view that each unit has in a clean build determine the
+-- calls. The present world makes no difference.
 abbrev pub call_basis : BuildContext → CallBasis
 call_basis b = record { child = b.child; project = b.project; command = command_in b; sees = λ index u w. view_in b index u }
 
 -- What determines the calls over any records, true or not. Each unit has the command that the noted
--- directives determine, and sees what this command sees of the world.
+-- directives determine, and sees what a child with this command sees of the world.
 abbrev pub call_basis_on_any : Answers → Setup → Project → List (Option (List Directive)) → CallBasis
 call_basis_on_any child setup project done = record {
   child = child;
@@ -139,8 +140,9 @@ call_basis_on_any child setup project done = record {
 
 -- A unit begins.
 
--- The calls with which a unit begins. Without a child, no call came after the comparison, and
--- nothing changed. With a child, the calls of the child's launch came after the comparison.
+-- The calls with which a unit begins. If no child was started, nothing changed, and no call came
+-- after the comparison with the unit's record. If a child was started, the calls of the launch came
+-- after the comparison.
 abbrev pub CallsToBegin : Answers → Project → Planned → Command → Bool → World → Counts → World → Counts → Type 0
 CallsToBegin child project u c false before old after new = (after ≡ before) × (new ≡ past_look project u c before old)
 CallsToBegin child project u c true before old after new = (ticket : ℕ) × Launches child c ticket (past_look project u c before old) new
@@ -152,8 +154,8 @@ pub record BeginsCalling (b : CallBasis) (index : ℕ) (spawned : Bool) (before 
   pub only : ChangesOnly (is_of (records_folder b.project) unit.key) before after
   pub calls : CallsToBegin b.child b.project unit (b.command index unit) spawned before old after new
 
--- The unit at this index could not begin. Either the unit stopped at a call of its comparison, or
--- something differed and the unit stopped at a call of the launch.
+-- The unit at this index could not begin. Either the comparison with the unit's record stopped at
+-- one of its calls, or something differed and the launch stopped at one of its calls.
 pub record StopsBeginning (b : CallBasis) (index : ℕ) (fault : BuildFault) (w : World) (old : Counts) (after : World) (new : Counts) : Type 0 where
   pub unit : Planned
   pub there : unit_at b.project index ≡ Some unit
@@ -178,8 +180,8 @@ abbrev pub FliesFor : Command → List ChildInFlight → SpawnedChild → Type 0
 FliesFor c flying launched = (spawned : ChildInFlight) × (child_at launched.ticket flying ≡ Some spawned) × (spawned.command ≡ c)
 
 -- The answer of the unit at this index was taken. If the unit has a child, the child's end was
--- awaited. After that, exactly the calls of the answer were made. Contracts state this only for a
--- modelled place.
+-- awaited. After that, exactly the calls of the unit's answer were made. Contracts use this
+-- definition only over a modelled place.
 pub record AnswersCalling (b : CallBasis) (index : ℕ) (spawned : Bool) (result : Result (Unit {0}) BuildFault) (before : World) (old : Counts) (after : World) (new : Counts) : Type 0 where
   pub unit : Planned
   pub there : unit_at b.project index ≡ Some unit
@@ -204,14 +206,14 @@ CallsOver b [] first at last now = (last ≡ first) × (now ≡ at)
 CallsOver b (Began index spawned ∷ es) first at last now = (before : World) × (old : Counts) × CallsOver b es first at before old × BeginsCalling b index spawned before old last now
 CallsOver b (Gave index answer ∷ es) first at last now = (before : World) × (old : Counts) × CallsOver b es first at before old × AnswersCalling b index (is_started es index) (Ok tt) before old last now
 
--- The calls of the event at which a fault came: those of an answer, or of a unit that could not
--- begin. If the sink failed or memory ran out, there may be no calls.
+-- The calls of the event at which a fault came. The event is an answer, or the beginning of a unit
+-- that could not begin. If the sink failed or memory ran out, there may be no calls.
 abbrev pub StopsLast : CallBasis → BuildFault → Option ℕ → List (Event BadUnit) → List (Event BadUnit) → World → Counts → World → Counts → Type 0
 StopsLast b fault (Some index) es before w old after new = AnswersCalling b index (is_started before index) (Err fault) w old after new
 StopsLast b fault None es before w old after new = (((fault ≡ Sink) ⊎ (fault ≡ OutOfMemory)) × (after ≡ w) × (new ≡ old)) ⊎ ((index : ℕ) × (spawned : Bool) × (es ≡ Began index spawned ∷ before) × StopsBeginning b index fault w old after new)
 
--- Exactly these calls were made: those of the events before the fault, followed by those of the
--- event at which the fault came.
+-- First the calls of the events before the fault were made, and then the calls of the event at
+-- which the fault came. No other call was made.
 abbrev pub CallsCut : CallBasis → BuildFault → Option ℕ → List (Event BadUnit) → List (Event BadUnit) → World → Counts → World → Counts → Type 0
 CallsCut b fault asked es before first at last now = (w : World) × (old : Counts) × CallsOver b before first at w old × StopsLast b fault asked es before w old last now
 
@@ -220,6 +222,6 @@ CallsCut b fault asked es before first at last now = (w : World) × (old : Count
 abbrev pub CallsOnAny : Answers → Setup → Project → List (Option (List Directive)) → List (Event BadUnit) → World → Counts → World → Counts → Type 0
 CallsOnAny child setup project done es first at last now = CallsOver (call_basis_on_any child setup project done) es first at last now
 
--- over any records, true or not, exactly these calls were made up to a fault
+-- over any records, true or not, the calls up to a fault were exactly those that `CallsCut` states
 abbrev pub CallsCutOnAny : Answers → Setup → Project → List (Option (List Directive)) → BuildFault → Option ℕ → List (Event BadUnit) → List (Event BadUnit) → World → Counts → World → Counts → Type 0
 CallsCutOnAny child setup project done fault asked es before first at last now = CallsCut (call_basis_on_any child setup project done) fault asked es before first at last now

@@ -35,33 +35,35 @@ use Rattle.pb_build_turns.specs.declared.executor.RunningUnit.{RunningUnit}
 use Rattle.pb_unit.specs.declared.plan.Planned.{Planned}
 
 -- What stays true when children are dropped. `before` lists the units in flight before the drop,
--- and `after` those after the drop.
+-- and `after` the units in flight after the drop.
 pub record StaysTold (child : Answers) (project : Project) (first : World) (es : List (Event BadUnit)) (before after : List RunningUnit) (old new : World) (flying : List ChildInFlight) : Type 0 where
   pub changes : Changes project first after es new flying
-  -- each unit in flight afterwards was in flight before
+  -- each unit in flight after the drop was in flight before the drop
   pub beside : (came : List (Event BadUnit)) (asked : Option ℕ) → AllByRecursion (FliesBeside project came asked) before → AllByRecursion (FliesBeside project came asked) after
-  -- the only changes are in the folders of units whose children were dropped
+  -- the drop changes only the output folders of units in flight with a child, but not the folder of
+  -- the unit `asked`
   pub alone : (came : List (Event BadUnit)) (asked : Option ℕ) → AllByRecursion (FliesBeside project came asked) before
       → ChangesInFlight project came asked old new
-  -- if no record counted for a unit, no record counts for the unit afterwards, either
+  -- if no record counted for a unit before the drop, no record counts for the unit after the drop
   pub unrecorded : (index : ℕ) (unit : Planned) → unit_at project index ≡ Some unit → HasNoRecord project unit old → HasNoRecord project unit new
-  -- nothing has changed for a unit for which no child was started
+  -- the folder and the record of a unit for which no child was started have not changed
   pub childless : (index : ℕ) (unit : Planned) (path : List ℕ) → unit_at project index ≡ Some unit → is_started es index ≡ false
       → is_of (records_folder project) unit.key path ≡ true → finite.get new.files path ≡ finite.get old.files path
-  -- if `AllBegan` or `HadDiffered` was true before, it is true afterwards
+  -- if `AllBegan` or `HadDiffered` was true before the drop, it is true after the drop
   pub began : (sources : World) (command : ℕ → Planned → Command) (fault : BuildFault) (came : List (Event BadUnit)) (reasons : Reasons)
       → IsLawful (needs_of project) es → CameAfter project fault came es
       → AllBegan project sources command came reasons first old → AllBegan project sources command came reasons first new
   pub started : (sources : World) (command : ℕ → Planned → Command) (fault : BuildFault) (came : List (Event BadUnit))
       → HadDiffered project sources command fault came es first old → HadDiffered project sources command fault came es first new
-  -- if `AllAnswerAnew` or `AllLeaveRecords` was true before, it is true afterwards
+  -- if `AllAnswerAnew` or `AllLeaveRecords` was true before the drop, it is true after the drop
   pub anew : (setup : Setup) (done : List (Option (List Directive))) → IsLawful (needs_of project) es
       → AllAnswerAnew child setup project es done old → AllAnswerAnew child setup project es done new
   pub left : (setup : Setup) (done : List (Option (List Directive))) (next : Option ℕ) → IsLawful (needs_of project) es
       → AllLeaveRecords child setup project es done next first old → AllLeaveRecords child setup project es done next first new
 
--- For each of these tickets, the end of its child was awaited once, and the child's answer was
--- dropped. No other call was made. If each child answers, no counter shows the order.
+-- For each of these tickets, the end of the ticket's child was awaited once, and the child's answer
+-- was dropped. No other call was made. If each child answers, the counters do not show the order of
+-- the children.
 abbrev pub Dropped : List ℕ → Counts → Counts → Type 0
 Dropped [] old new = new ≡ old
 Dropped (ticket ∷ tickets) old new = (result : Result Ended StartFault) × IfErr result (λ e. e ≢ start.OutOfMemory → (e ≡ start.Died) ⊎ (e ≡ start.Capture)) × Dropped tickets (counted_finish ticket result old) new
@@ -87,7 +89,8 @@ Grounding child setup project next w Since = (premise : Premise) (sources : Worl
 
 -- What is true after these events. `BuildInvariant` is true. Each answered unit has its outcome of
 -- a clean build. If the lines of k units are due, they are the lines of the first k rows of
--- `rows_in`. The due lines of the first n units are those of the first n of these k rows.
+-- `rows_in`. For each n, the due lines of the first n units are the lines of the first n of these
+-- rows.
 pub record OutcomeHolds (b : BuildContext) (es : List (Event BadUnit)) (new : World) : Type 0 where
   pub done : List (Option (List Directive))
   pub next : Option ℕ
@@ -97,8 +100,8 @@ pub record OutcomeHolds (b : BuildContext) (es : List (Event BadUnit)) (new : Wo
   pub first_lines : (n : ℕ) → due_first n (states_in b.project es) ≡ said_from b.project es 0 (take n (take (count_due (states_in b.project es)) (rows_in b)))
 
 -- All units up to and including the first bad unit have answered; without a bad unit, all units
--- have. The lines of all rows are due, and the summary is that of the rows. `BeganFor` is true of
--- each unit that began. `next` is the next run number.
+-- have answered. The lines of all rows are due, and the summary comes from the rows. `BeganFor` is
+-- true of each unit that began. `next` is the next run number.
 pub record StandsWhole (b : BuildContext) (es : List (Event BadUnit)) (reasons : Reasons) (summary : Summary) (next : Option ℕ) (old new : World) : Type 0 where
   pub stands : OutcomeHolds b es new
   pub next_is : stands.next ≡ next
@@ -115,10 +118,10 @@ pub record StandsCut (b : BuildContext) (fault : BuildFault) (es before : List (
   pub started : StartedFor b fault before es old new
 
 -- The units ended without a fault, and no failure was injected. The fields without `is_modelled`
--- are true over every place: the report, what was written, and the counters. The other fields are
--- true over a modelled place, whether the records are true or not. These fields say why each unit
--- began, what it answered, which record it left, which numbers were taken, and which calls were
--- made.
+-- are true over every place: the report, what was written, and the counters. The fields with
+-- `is_modelled` are true over a modelled place, whether the records are true or not. Those fields
+-- say why each unit began, what it answered, which record it left, which numbers were taken, and
+-- which calls were made.
 pub record EndsWhole {S : Type 0} (is_modelled : Bool) (child : Answers) (Turns : S → List ℕ → List ℕ → Step → S → Type 0) (setup : Setup) (project : Project) (next : Option ℕ) (from last : S) (summary : Summary) (old new : BuildState) : Type 0 where
   pub es : List (Event BadUnit)
   pub flies : Flies Turns (needs_of project) Anyhow Anything from es last
@@ -160,11 +163,11 @@ pub record EndsWhole {S : Type 0} (is_modelled : Bool) (child : Answers) (Turns 
   pub calls : IsTrue is_modelled → Grounding child setup project next old.world (λ b. CallsOver (call_basis b) es old.world old.counts last_world mid)
   pub calls_on_any : IsTrue is_modelled → CallsOnAny child setup project done es old.world old.counts last_world mid
 
--- A fault ended the units. The fault's cause, and what the sink received, were fixed before the
--- children in flight were dropped. After the fault no unit began, and the turn decided nothing
--- (`HandsBack`, `Flies`). Over a modelled place, the units that have begun, and those that have
--- answered, are as `EndsWhole` says. If a unit could not begin because its start failed, something
--- differed from the unit's record.
+-- A fault ended the run of the units. The fault's cause, and what the sink received, were fixed
+-- before the children in flight were dropped. After the fault no unit began, and the turn decided
+-- no step (`HandsBack`, `Flies`). Over a modelled place, the units that have begun, and those that
+-- have answered, are as `EndsWhole` says. If a unit could not begin because its start failed,
+-- something differed from the unit's record.
 pub record EndsCut {S : Type 0} (is_modelled : Bool) (child : Answers) (Turns : S → List ℕ → List ℕ → Step → S → Type 0) (setup : Setup) (project : Project) (next : Option ℕ) (from back : S) (fault : BuildFault) (old new : BuildState) : Type 0 where
   pub es : List (Event BadUnit)
   pub last : S
@@ -198,33 +201,34 @@ pub record EndsCut {S : Type 0} (is_modelled : Bool) (child : Answers) (Turns : 
   pub calls : IsTrue is_modelled → Grounding child setup project next old.world (λ b. CallsCut (call_basis b) fault asked es before old.world old.counts mid.world mid.counts)
   pub calls_on_any : IsTrue is_modelled → CallsCutOnAny child setup project done fault asked es before old.world old.counts mid.world mid.counts
 
--- how the units end: as a whole with a summary, or cut short by a fault
+-- how the units end: with a summary as `EndsWhole` says, or with a fault as `EndsCut` says
 abbrev pub TurnsEnd : {S : Type 0} → Bool → Answers → (S → List ℕ → List ℕ → Step → S → Type 0) → Setup → Project → Option ℕ → S → S → Result Summary BuildFault → BuildState → BuildState → Type 0
 TurnsEnd is_modelled child Turns setup project next from last (Ok summary) old new = EndsWhole is_modelled child Turns setup project next from last summary old new
 TurnsEnd is_modelled child Turns setup project next from last (Err fault) old new = EndsCut is_modelled child Turns setup project next from last fault old new
 
 -- Let each answered unit have its outcome of a clean build. If the lines of n units are due, they
--- are those of the first n rows. Once all units up to and including the first bad one have
+-- are those of the first n rows. Once all units up to and including the first bad unit have
 -- answered, the lines of all rows are due.
 abbrev pub SaysFirstRows : Type 0
 SaysFirstRows = (b : BuildContext) (es : List (Event BadUnit)) (done : List (Option (List Directive))) → ((index : ℕ) (answer : Answer BadUnit) → slice_get (states_in b.project es) index ≡ Some (Answered answer) → HasGiven b es done index answer)
     → (due (states_in b.project es) ≡ said_from b.project es 0 (take (count_due (states_in b.project es)) (rows_in b))) × (is_finished (states_in b.project es) ≡ true → count_due (states_in b.project es) ≡ length (rows_in b))
 
--- each unit has its record, and nothing differs from it
+-- each unit has its record, and nothing differs from this record
 abbrev pub EachHasRecord : BuildContext → World → Type 0
 EachHasRecord b w = (index : ℕ) (u : Planned) → unit_at b.project index ≡ Some u → HasRecord b w index
 
--- if each unit has its record at first, no child is started
+-- if each unit has its record before any unit begins, no child is started
 abbrev pub StartsNothing : Type 0
 StartsNothing = (b : BuildContext) (es : List (Event BadUnit)) (reasons : Reasons) (first now : World) → IsLawful (needs_of b.project) es → AllBeganFor b es reasons first now → EachHasRecord b first → started_by es ≡ []
 
--- if a build over true records succeeds, each unit has its record afterwards
+-- if a build over true records succeeds, each unit has its record after the build
 abbrev pub LeavesRecords : {S : Type 0} → (S → List ℕ → List ℕ → Step → S → Type 0) → Type 0
 LeavesRecords {S} Turns = (child : Answers) (setup : Setup) (project : Project) (next : Option ℕ) (from last : S) (summary : Summary) (old new : BuildState) → EndsWhole true child Turns setup project next from last summary old new
     → summary.success ≡ true → (sources : World) → BuildInvariant (build_context TrustedRecords child setup project sources) (untouched project) (nothing_said project) next old.world
     → EachHasRecord (build_context TrustedRecords child setup project sources) new.world
 
--- if each unit has its record at first, no child is started, and the summary lists no started units
+-- if each unit has its record before any unit begins, no child is started, and the summary lists no
+-- started units
 abbrev pub StartsNoneAgain : {S : Type 0} → (S → List ℕ → List ℕ → Step → S → Type 0) → Type 0
 StartsNoneAgain {S} Turns = (child : Answers) (setup : Setup) (project : Project) (next : Option ℕ) (from last : S) (summary : Summary) (old new : BuildState) → EndsWhole true child Turns setup project next from last summary old new
     → (premise : Premise) (sources : World) → BuildInvariant (build_context premise child setup project sources) (untouched project) (nothing_said project) next old.world

@@ -1,4 +1,4 @@
--- A moment of a build, and what is always true of the executor of its units.
+-- A moment of a build, and what is always true of the executor of the build's units.
 use Rattle.std.specs.Prelude.{ℕ, ◌≡◌, ◌≢◌, ◌∷◌, [], Bool, IsTrue, List, map, length, Option, Some, None, is_some, slice_get}
 use Rattle.std.specs.List.{flat_map, AllByRecursion}
 use Rattle.pb_run_flight.specs.Table.{if_so}
@@ -31,8 +31,8 @@ pub record BuildState : Type 0 where
 abbrev pub moment : At → SinkState → BuildState
 moment at heard = record { world = at.world; counts = at.counts; most = at.most; heard = heard }
 
--- what each unit needs; the next definitions are the indices of units in flight, and the ticket and
--- the run number of a child
+-- what each unit needs; `indices_of` are the indices of units in flight, `ticket_in` and
+-- `number_in` the ticket and the run number of a child
 abbrev pub needs_of : Project → List (List ℕ)
 needs_of project = map (λ (u : Planned). u.needs) project.plan.planned
 
@@ -53,8 +53,8 @@ number_in (Some launched) = launched.number ∷ []
 abbrev pub ticket_of_child : ChildInFlight → ℕ
 ticket_of_child child = child.ticket
 
--- The tickets of the children of units in flight. The next two definitions are the children's run
--- numbers, and the units that have a child.
+-- The tickets of the children of units in flight. `numbers_of` are the run numbers of these
+-- children, and `launched_of` the indices of the units with a child.
 abbrev pub tickets_of : List RunningUnit → List ℕ
 tickets_of running = flat_map (λ (a : RunningUnit). ticket_in (child_of a.begun)) running
 
@@ -73,16 +73,17 @@ AreApart (n ∷ ns) = AllByRecursion (λ m. n ≢ m) ns × AreApart ns
 abbrev pub noted : Begun → Begun
 noted begun = record begun { difference = None }
 
--- the unit in flight is a unit of the plan: it has this unit's key and one of this unit's commands
+-- the unit in flight is a unit of the plan; it has the planned unit's key, and one of the planned
+-- unit's commands
 pub record IsOfPlan (project : Project) (a : RunningUnit) : Type 0 where
   pub unit : Planned
   pub there : slice_get project.plan.planned a.unit ≡ Some unit
   pub key : a.begun.unit ≡ unit.key
   pub asks : IsCommandOf project unit a.begun.command
 
--- What is true of an executor at each moment. The project is in order, and the store is that of the
--- project's records. The children in flight are those of the units in flight. No two of these units
--- have the same index, ticket or run number.
+-- What is true of an executor at each moment. The project is in order, and the store is the store
+-- of the project's records. The children in flight are the children of the units in flight. No two
+-- of these units have the same index, ticket or run number.
 pub record IsConsistent (c : UnitExecutor) (counts : Counts) : Type 0 where
   pub order : IsInOrder c.project
   pub folder : c.store.folder ≡ records_folder c.project

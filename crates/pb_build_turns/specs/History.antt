@@ -50,9 +50,9 @@ use Rattle.pb_unit.specs.declared.plan.Planned.{Planned}
 abbrev pub states_in : Project → List (Event BadUnit) → List (State BadUnit)
 states_in project es = states_after (needs_of project) es
 
--- What is true of the counters, the sink and the lists, over every index.
+-- What is true of the counters, the sink and the lists, over every place.
 
--- the counter after it was raised n times
+-- the counter `n` after it was raised k times
 abbrev pub upped : ℕ → ℕ → ℕ
 upped zero n = n
 upped (suc k) n = up (upped k n)
@@ -75,7 +75,8 @@ abbrev pub NoneWritesTo : List ℕ → List ChildInFlight → Type 0
 NoneWritesTo out flying = (ticket : ℕ) (its : ChildInFlight) → child_at ticket flying ≡ Some its → its.command.out ≢ Some out
 
 -- A call for the unit with this key failed, or no run number was left for the unit. The unit has
--- begun and not answered, and has no child in flight. All lines that were due have been written.
+-- begun and not answered, and no child in flight writes into its folder. All lines that were due
+-- have been written.
 pub record StopsAt (is_modelled : Bool) (project : Project) (first now : BuildState) (key : List ℕ) (es : List (Event BadUnit)) : Type 0 where
   pub index : ℕ
   pub unit : Planned
@@ -100,9 +101,9 @@ pub record StopsAtSink (project : Project) (first now : BuildState) (es : List (
   pub lines : Appends first.heard.taken now.heard.taken (take taken (due (states_in project es)))
   pub faults : now.heard.faults ≡ up first.heard.faults
 
--- How a fault ends the build. The fault came at a unit, or at the sink after an answer
--- (`StopsAtSink`), or memory ran out. If memory ran out, the due lines of the first n units were
--- written, for some n.
+-- How a fault ended the build. Either a unit stopped the build (`StopsAt`), or the sink failed
+-- after an answer (`StopsAtSink`), or memory ran out. If memory ran out, the due lines of the first
+-- n units were written, for some n.
 abbrev pub StopsBy : Bool → BuildFault → Project → BuildState → BuildState → List (Event BadUnit) → Type 0
 StopsBy is_modelled (Plan why) project first now es = ⊥
 StopsBy is_modelled Toolchain project first now es = ⊥
@@ -121,9 +122,9 @@ pub record Stops (is_modelled : Bool) (fault : BuildFault) (project : Project) (
   pub settings : now.counts.starts.settings ≡ first.counts.starts.settings
 
 -- The run number that a unit takes when it answers. A unit that is bad, or has a child, takes no
--- number. Any other unit takes the next number if its first record is known to have lacked a
--- number. If this record is known to have had a number, the unit takes no number. If neither is
--- known, the unit takes at most one number.
+-- number. A good unit without a child takes the next number if its old record is known to have
+-- lacked a number. If the old record is known to have had a number, the unit takes no number. If
+-- neither is known, the unit takes at most one number.
 pub record TakesAsAnswered (Lacks : Bool → Type 0) (started : Bool) (fault : Option BadUnit) (before now : Option ℕ) : Type 0 where
   pub at_most : TakesNumber before now
   pub child : started ≡ true → now ≡ before
@@ -139,19 +140,19 @@ NumbersGiven Lacks (Began unit true ∷ es) first now = (before : Option ℕ) ×
 NumbersGiven Lacks (Began unit false ∷ es) first now = NumbersGiven Lacks es first now
 NumbersGiven Lacks (Gave unit answer ∷ es) first now = (before : Option ℕ) × NumbersGiven Lacks es first before × TakesAsAnswered (Lacks unit) (is_started es unit) answer.fault before now
 
--- if the fault says that no run number is left, all numbers were taken
+-- if the fault says that no run number is left, these events have taken all numbers
 abbrev pub Spends : (ℕ → Bool → Type 0) → BuildFault → Option ℕ → List (Event BadUnit) → Type 0
 Spends Lacks (Device key NumbersSpent) first es = NumbersGiven Lacks es first None
 Spends Lacks fault first es = Unit {0}
 
--- over a index that is not modelled, it is not known whether the record of a unit lacked a number
+-- over a place that is not modelled, we do not say whether the record of a unit lacked a number
 abbrev pub IsUntold : ℕ → Bool → Type 0
 IsUntold unit lacks = ⊥
 
--- What is true over a modelled index.
+-- What is true over a modelled place.
 
--- The unit at this index has its outcome of a clean build: its fault, its lines and its noted
--- directives. The unit's lines say whether a child was started for the unit.
+-- The unit at this index has the outcome of a clean build: the same fault, lines and noted
+-- directives. But the unit's lines say whether this build started a child for the unit.
 pub record HasGiven (b : BuildContext) (es : List (Event BadUnit)) (done : List (Option (List Directive))) (index : ℕ) (answer : Answer BadUnit) : Type 0 where
   pub unit : Planned
   pub there : unit_at b.project index ≡ Some unit
@@ -180,13 +181,13 @@ LacksNumber project w index lacks = (u : Planned) → unit_at project index ≡ 
 abbrev pub HasNoRecord : Project → Planned → World → Type 0
 HasNoRecord project u w = records (records_folder project) w u.key ≡ None
 
--- If a child was started for a unit in flight, no record counts for the unit. This leaves out the
--- unit whose answer was taken.
+-- If a child was started for a unit in flight, no record counts for the unit. We do not say this
+-- about the unit `asked`, if there is one.
 abbrev pub KeepsNoneInFlight : Project → List (Event BadUnit) → Option ℕ → World → Type 0
 KeepsNoneInFlight project es asked w = (index : ℕ) (u : Planned) → unit_at project index ≡ Some u → slice_get (states_in project es) index ≡ Some Begun → asked ≢ Some index → is_started es index ≡ true → HasNoRecord project u w
 
--- If no child was started for a unit in flight, its folder and its record are as they were at
--- first. This leaves out the unit whose answer was taken.
+-- If no child was started for a unit in flight, the unit's folder and record are unchanged. We do
+-- not say this about the unit `asked`, if there is one.
 abbrev pub KeepsChildless : Project → List (Event BadUnit) → Option ℕ → World → World → Type 0
 KeepsChildless project es asked first w = (index : ℕ) (u : Planned) (q : List ℕ) → unit_at project index ≡ Some u → slice_get (states_in project es) index ≡ Some Begun → asked ≢ Some index → is_started es index ≡ false → is_of (records_folder project) u.key q ≡ true
     → finite.get w.files q ≡ finite.get first.files q
@@ -219,9 +220,9 @@ pub record BeganFor (project : Project) (sources : World) (command : ℕ → Pla
 abbrev pub AllBegan : Project → World → (ℕ → Planned → Command) → List (Event BadUnit) → Reasons → World → World → Type 0
 AllBegan project sources command es reasons first now = (index : ℕ) → HasBegun (states_in project es) index → BeganFor project sources command es reasons first now index
 
--- If a unit could not begin because its start failed, or because memory ran out in the spawn,
--- something differed from the unit's record. `BeganFor` states this as if the unit's child had been
--- started.
+-- Suppose that a unit could not begin because its start failed, or because memory ran out in the
+-- spawn. Then something differed from the unit's record. `BeganFor` states this as if the unit's
+-- child had been started.
 abbrev pub HadDiffered : Project → World → (ℕ → Planned → Command) → BuildFault → List (Event BadUnit) → List (Event BadUnit) → World → World → Type 0
 HadDiffered project sources command fault before es first now =
     (index : ℕ) (spawned : Bool) → es ≡ Began index spawned ∷ before → (is_of_start fault ≡ true) ⊎ (spawned ≡ true) → (reasons : Reasons) × BeganFor project sources command (Began index true ∷ before) reasons first now index
@@ -248,8 +249,8 @@ StartedFor b fault before es first now = HadDiffered b.project b.sources (comman
 abbrev pub KeepsNoneOfBad : Project → List (Event BadUnit) → World → Type 0
 KeepsNoneOfBad project es w = (index : ℕ) (u : Planned) (answer : Answer BadUnit) → unit_at project index ≡ Some u → slice_get (states_in project es) index ≡ Some (Answered answer) → IsSome answer.fault → is_started es index ≡ true → HasNoRecord project u w
 
--- The unit in flight has begun and not answered. If the unit has a child, the child writes into the
--- unit's folder, and no record counts for the unit.
+-- According to these events, the unit in flight has begun and not answered. If the unit has a
+-- child, the child writes into the unit's folder, and no record counts for the unit.
 pub record FliesIn (project : Project) (es : List (Event BadUnit)) (world : World) (flying : List ChildInFlight) (a : RunningUnit) : Type 0 where
   pub state : slice_get (states_in project es) a.unit ≡ Some Begun
   pub started : is_started es a.unit ≡ is_some (child_of a.begun)
@@ -257,42 +258,42 @@ pub record FliesIn (project : Project) (es : List (Event BadUnit)) (world : Worl
   pub writes : (u : Planned) → unit_at project a.unit ≡ Some u → WritesTo u.out (child_of a.begun) flying
 
 -- According to these events, the unit in flight has begun, with or without a child, and has not
--- answered. It is not the unit whose answer was taken.
+-- answered. The unit in flight is not the unit `asked`.
 pub record FliesBeside (project : Project) (es : List (Event BadUnit)) (asked : Option ℕ) (a : RunningUnit) : Type 0 where
   pub state : slice_get (states_in project es) a.unit ≡ Some Begun
   pub started : is_started es a.unit ≡ is_some (child_of a.begun)
   pub other : asked ≢ Some a.unit
 
--- The only changes are in the output folders of units that are in flight with a child. If an answer
--- was taken, the folder of its unit was not changed.
+-- The only changes are in the output folders of units that are in flight with a child. The folder
+-- of the unit `asked` was not changed.
 pub record ChangesInFlight (project : Project) (es : List (Event BadUnit)) (asked : Option ℕ) (old new : World) : Type 0 where
   pub variables : new.variables ≡ old.variables
   pub files : (q : List ℕ) → ((index : ℕ) (u : Planned) → slice_get (states_in project es) index ≡ Some Begun → asked ≢ Some index → is_started es index ≡ true → unit_at project index ≡ Some u → is_at_or_below u.out q ≡ false) → finite.get new.files q ≡ finite.get old.files q
 
--- the units in flight and what they have changed, whatever the build assumes
+-- the units in flight, and the changes by units that have begun; this is the same for both premises
 pub record Changes (project : Project) (first : World) (running : List RunningUnit) (es : List (Event BadUnit)) (world : World) (flying : List ChildInFlight) : Type 0 where
   pub flies : AllByRecursion (FliesIn project es world flying) running
   pub only : OnlyOf project es first world
   pub unkept : KeepsNoneOfBad project es world
 
--- each unit without a child has answered with the record that it had at first
+-- each answered unit without a child has answered with the record that it had before any unit began
 abbrev pub AllAnswerAgain : Setup → Project → List (Event BadUnit) → List (Option (List Directive)) → World → Type 0
 AllAnswerAgain setup project es done first = (index : ℕ) (answer : Answer BadUnit) → slice_get (states_in project es) index ≡ Some (Answered answer) → is_started es index ≡ false
     → AnswersAgain setup project done first index answer
 
--- Each unit without a child has answered with the record that it had at first. Each unit in flight
--- without a child will answer with this record, too.
+-- Each answered unit without a child has answered with the record that it had before any unit
+-- began. Each unit in flight without a child will answer with its record, too.
 pub record Replays (setup : Setup) (project : Project) (done : List (Option (List Directive))) (running : List RunningUnit) (es : List (Event BadUnit)) (first now : World) : Type 0 where
   pub waits : AllByRecursion (λ (a : RunningUnit). FliesAgain setup project done first now a) running
   pub gave : AllAnswerAgain setup project es done first
 
--- Each unit with a child has answered with the child's reply to what the child sees of this world.
--- This is so whether the records are true or not.
+-- Over any records, true or not, each answered unit with a child answered with the child's reply,
+-- given what the child sees of this world.
 abbrev pub AllAnswerAnew : Answers → Setup → Project → List (Event BadUnit) → List (Option (List Directive)) → World → Type 0
 AllAnswerAnew child setup project es done now = (index : ℕ) (answer : Answer BadUnit) → slice_get (states_in project es) index ≡ Some (Answered answer) → is_started es index ≡ true → AnswersAnew child setup project done now index answer
 
--- Each unit with a child has answered with the child's reply, as `AllAnswerAnew` says. Each unit in
--- flight with a child will answer with the child's reply, too.
+-- Each answered unit with a child has answered with the child's reply, as `AllAnswerAnew` says.
+-- Each unit in flight with a child will answer with the child's reply, too.
 pub record Replies (child : Answers) (setup : Setup) (project : Project) (done : List (Option (List Directive))) (running : List RunningUnit) (es : List (Event BadUnit)) (now : World) (flying : List ChildInFlight) (still : ℕ → Type 0) : Type 0 where
   pub waits : AllByRecursion (FliesAnew child setup project done now flying still) running
   pub gave : AllAnswerAnew child setup project es done now
@@ -304,15 +305,14 @@ events_until (Began unit spawned ∷ es) index = events_until es index
 events_until (Gave unit answer ∷ es) index = if unit == index then es else events_until es index
 
 -- The record of a unit for which a child was started. The record has the unit's command, the
--- child's reply to what the child sees of this world, and the present values of the inputs. The
--- numbers of the needed units, and this run number, are also in the record.
+-- child's reply in this world, and the present values of the inputs. The record also has this run
+-- number, and the run numbers of the needed units.
 abbrev pub record_anew : Answers → Setup → Project → List (Option (List Directive)) → World → Planned → ℕ → Record
 record_anew child setup project done now u number = record_of project u (command_of setup project u done) number (ended_by (reply_in child (command_of setup project u done) now)) now
 
 -- The record of a unit that has answered. A good unit with a child has the record of the child's
--- reply, with the number that was next when the unit began. A good unit without a child has the
--- record that it had at first. If that record had no number, it now has a number. A bad unit
--- without a child has the same record as at first.
+-- reply, with the run number that was next when the unit began. A unit without a child has its old
+-- record; if the unit is good and the old record had no number, the record now has a number.
 pub record LeavesRecord (child : Answers) (setup : Setup) (project : Project) (done : List (Option (List Directive))) (started : Bool) (before until : List (Event BadUnit)) (next : Option ℕ) (first now : World) (index : ℕ) (answer : Answer BadUnit) : Type 0 where
   pub unit : Planned
   pub there : unit_at project index ≡ Some unit
@@ -323,8 +323,7 @@ pub record LeavesRecord (child : Answers) (setup : Setup) (project : Project) (d
       × (records (records_folder project) now unit.key ≡ migrated number (numbered (records (records_folder project) now) (needed_keys project unit)) (records (records_folder project) first unit.key))
   pub bad : started ≡ false → IsSome answer.fault → finite.get now.files (record_path (records_folder project) unit.key) ≡ finite.get first.files (record_path (records_folder project) unit.key)
 
--- Each answered unit has left a record as `LeavesRecord` says. This is so whether the records are
--- true or not.
+-- Over any records, true or not, each answered unit has left a record as `LeavesRecord` says.
 abbrev pub AllLeaveRecords : Answers → Setup → Project → List (Event BadUnit) → List (Option (List Directive)) → Option ℕ → World → World → Type 0
 AllLeaveRecords child setup project es done next first now = (index : ℕ) (answer : Answer BadUnit) → slice_get (states_in project es) index ≡ Some (Answered answer)
     → LeavesRecord child setup project done (is_started es index) (events_before es index) (events_until es index) next first now index answer
@@ -345,17 +344,19 @@ pub record FliesSo (b : BuildContext) (es : List (Event BadUnit)) (next : Option
   pub reaches : (u : Planned) → unit_at b.project a.unit ≡ Some u → are_good (states_in b.project es) u.reaches ≡ true
   pub started : is_started es a.unit ≡ is_some (child_of a.begun)
 
--- `BuildInvariant` is true. Each unit in flight has begun, and each answered unit has its outcome.
+-- `BuildInvariant` is true. Each unit in flight has begun as `FliesSo` says. Each answered unit has
+-- its outcome of a clean build.
 pub record HistoryHolds (b : BuildContext) (done : List (Option (List Directive))) (running : List RunningUnit) (next : Option ℕ) (es : List (Event BadUnit)) (world : World) (flying : List ChildInFlight) (still : ℕ → Type 0) : Type 0 where
   pub keeps : BuildInvariant b (states_in b.project es) done next world
   pub begun : AllByRecursion (FliesSo b es next world flying still) running
   pub gave : (index : ℕ) (answer : Answer BadUnit) → slice_get (states_in b.project es) index ≡ Some (Answered answer) → HasGiven b es done index answer
 
--- if every record had a number at first, the world is unchanged as long as no child is started
+-- Suppose that every record had a number before any unit began. Then the world is unchanged as long
+-- as no child is started.
 abbrev pub IsQuiet : Project → List (Event BadUnit) → World → World → Type 0
 IsQuiet project es first now = started_by es ≡ [] → ((index : ℕ) → LacksNumber project first index false) → now ≡ first
 
--- as long as a unit has not begun, its note is the same as at first
+-- as long as a unit has not begun, its note of a first difference is unchanged
 abbrev pub NotesUnbegun : Project → List (Event BadUnit) → Reasons → Reasons → Type 0
 NotesUnbegun project es first now = (index : ℕ) → slice_get (states_in project es) index ≡ Some Untouched → slice_get now index ≡ slice_get first index
 
@@ -371,8 +372,8 @@ NotesStarted project es now = (index : ℕ) (s : State BadUnit) → slice_get (s
 abbrev pub untouched : Project → List (State BadUnit)
 untouched project = states_in project []
 
--- The predicate `Since` is true of each build context with this child, setup and project of which
--- `BuildInvariant` was true at first, before any event.
+-- Take any build context with this child, setup and project. If `BuildInvariant` was true of this
+-- context before any event, `Since` is true of the context.
 abbrev pub FromFirst : Answers → UnitExecutor → BuildState → UnitExecutor → (BuildContext → Type 0) → Type 0
 FromFirst child first at c Since = (premise : Premise) (sources : World)
     → BuildInvariant (build_context premise child c.setup c.project sources) (untouched c.project) first.done.items first.store.next at.world
@@ -403,18 +404,18 @@ pub record History (is_modelled : Bool) (child : Answers) (first : UnitExecutor)
 abbrev pub IsBeginning : Project → List ℕ → Bool → List (Event BadUnit) → List (Event BadUnit) → Type 0
 IsBeginning project key spawned before es = (unit : ℕ) × (key_at project unit ≡ key ∷ []) × (es ≡ Began unit spawned ∷ before)
 
--- A fault came after the events `es`. If a unit could not begin, the newest of these events is its
--- failed beginning, and `before` lists the events before that one. Otherwise the two lists are
--- equal.
+-- A fault came after the events `es`. If a unit could not begin, the newest of these events is the
+-- unit's failed beginning, and `before` lists the events before that one. Otherwise `before` equals
+-- `es`.
 abbrev pub CameAfter : Project → BuildFault → List (Event BadUnit) → List (Event BadUnit) → Type 0
 CameAfter project (Child key CannotStart) before es = IsBeginning project key true before es
 CameAfter project (Device key fault) before es = (es ≡ before) ⊎ IsBeginning project key false before es
 CameAfter project OutOfMemory before es = (es ≡ before) ⊎ ((unit : ℕ) × (spawned : Bool) × (es ≡ Began unit spawned ∷ before))
 CameAfter project fault before es = es ≡ before
 
--- The unit that a fault names. If an answer was taken, this is the unit of the answer, after all
--- these events. If not, this is the unit that could not begin. If the sink failed, or memory ran
--- out, the fault names no unit.
+-- The unit that a fault names. If an answer was being taken when the fault came, the fault names
+-- the unit of this answer. Otherwise the fault names the unit that could not begin. If the sink
+-- failed, or memory ran out, the fault names no unit.
 abbrev pub NamesUnit : Project → BuildFault → Option ℕ → List (Event BadUnit) → List (Event BadUnit) → Type 0
 NamesUnit project (Child key fault) None before es = IsBeginning project key true before es
 NamesUnit project (Child key fault) (Some unit) before es = (key_at project unit ≡ key ∷ []) × (es ≡ before)
@@ -422,8 +423,9 @@ NamesUnit project (Device key fault) None before es = IsBeginning project key fa
 NamesUnit project (Device key fault) (Some unit) before es = (key_at project unit ≡ key ∷ []) × (es ≡ before)
 NamesUnit project fault asked before es = Unit {0}
 
--- What has happened up to a fault. If an answer was taken, it is that of the unit `asked`. Each
--- unit that is still in flight was in flight before the fault, and is not the unit `asked`.
+-- What has happened up to a fault. If an answer was being taken when the fault came, `asked` is the
+-- unit of this answer. Each unit that is still in flight was in flight before the fault, and is not
+-- the unit `asked`.
 pub record StoryEnds (is_modelled : Bool) (child : Answers) (fault : BuildFault) (asked : Option ℕ) (first : UnitExecutor) (at : BuildState) (c : UnitExecutor) (now : BuildState) (still : ℕ → Type 0) (es : List (Event BadUnit)) : Type 0 where
   pub setup : c.setup ≡ first.setup
   pub project : c.project ≡ first.project

@@ -51,14 +51,14 @@ fault_in Waiting = None
 fault_in (Good files directives messages) = None
 fault_in (Bad bad messages) = Some bad
 
--- a child was started for the unit at this index when it began
+-- the unit at this index has begun with a child
 abbrev pub is_started : List (Event BadUnit) → ℕ → Bool
 is_started [] index = false
 is_started (Began unit spawned ∷ es) index = if unit == index then spawned else is_started es index
 is_started (Gave unit answer ∷ es) index = is_started es index
 
--- The lines of these units, the first of which has the index `i`. Each line says whether a child
--- was started for its unit.
+-- The lines of these units, one unit after another; the first unit has the index `i`. Each line
+-- says whether a child was started for the line's unit.
 abbrev pub said_from : Project → List (Event BadUnit) → ℕ → List Row → List ℕ
 said_from project es i [] = []
 said_from project es i (row ∷ rows) = unit_lines project row.unit (is_started es i) (messages_in row.outcome) ++ said_from project es (suc i) rows
@@ -77,7 +77,7 @@ bad_or key Waiting rest = rest
 bad_or key (Good files directives messages) rest = rest
 bad_or key (Bad bad messages) rest = Some (key, bad)
 
--- the key of the first bad unit, and why it is bad
+-- the key of the first bad unit, and why this unit is bad
 abbrev pub bad_of : List Row → Option (List ℕ × BadUnit)
 bad_of [] = None
 bad_of (row ∷ rows) = bad_or row.unit.key row.outcome (bad_of rows)
@@ -137,8 +137,8 @@ summary_of project es reasons rows = record {
   directives = directives_told rows;
 }
 
--- The same reports, made from the answers. These definitions also work over a index that is not
--- modelled.
+-- What a build reports, made from the units' states instead of their outcomes. These definitions
+-- also work over a place that is not modelled.
 
 abbrev pub fault_of : State BadUnit → Option BadUnit
 fault_of Untouched = None
@@ -159,14 +159,14 @@ abbrev pub bad_told : List Planned → List (State BadUnit) → Option ℕ → O
 bad_told units states None = None
 bad_told units states (Some index) = bad_with (slice_get units index) (slice_get states index)
 
--- for each of these units that has noted directives, its key and these directives
+-- the keys of those units that have noted directives, each with the unit's directives
 abbrev pub noted_of : List Planned → List (Option (List Directive)) → List (List ℕ × List Directive)
 noted_of [] noted = []
 noted_of (u ∷ us) [] = []
 noted_of (u ∷ us) (d ∷ noted) = keyed u.key d ++ noted_of us noted
 
--- The number of reported units. If a bad unit has this index, these are all units up to and
--- including the bad unit. If there is no index, these are all units.
+-- The number of reported units. If a bad unit has this index, the units up to and including the bad
+-- unit are reported. Without an index, all units are reported.
 abbrev pub count_told : ℕ → Option ℕ → ℕ
 count_told units None = units
 count_told units (Some index) = index + 1

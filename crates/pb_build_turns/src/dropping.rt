@@ -1,5 +1,5 @@
-//! Children in flight at the end of a build. The end of each child is awaited, and its answer is
-//! dropped.
+//! Children in flight at the end of a build. The end of each child is awaited, and the child's
+//! answer is dropped.
 
 ghost use Rattle.std.specs.Prelude.{◌≡◌, ◌<◌, [], List, length, IsTrue};
 ghost use Rattle.std.specs.List.{remove};

@@ -37,18 +37,18 @@ pub struct RunningUnit {
 /// Begins the units of a build and takes their answers.
 #[derive(Drop)]
 pub struct UnitExecutor {
-    /// The setup: how things are compiled.
+    /// The setup: how the units are compiled.
     pub setup: Setup,
     /// What is built.
     pub project: OrderedProject,
     /// The records of the profile's folder.
     pub store: Store,
-    /// For each unit, the directives of its run. A unit that has not answered, is bad, or is not a
-    /// run has no directives.
+    /// For each unit, the directives that it printed as a run. A unit that has not answered, is
+    /// bad, or is not a run has no directives.
     pub done: Vec<Option<Directives>>,
     /// The units in flight, in the order in which they began.
     pub running: Vec<RunningUnit>,
-    /// The units for which a child was started, in order.
+    /// The units for which a child was started, in the order of these starts.
     pub started: Vec<usize>,
     /// For each unit, the note of its first difference. A unit that has not begun has no note. The
     /// note of a unit that has begun contains the difference, or says that nothing differed.

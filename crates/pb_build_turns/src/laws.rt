@@ -12,8 +12,8 @@ pub fn answers_say_rows()
     ensures { SaysFirstRows }
 {}
 
-/// If each unit has its record at first, and nothing differs from the record, no child is started.
-/// The order in which the units begin and answer does not matter.
+/// If each unit has its record before any unit begins, and nothing differs from the record, no
+/// child is started. The order in which the units begin and answer does not matter.
 pub fn nothing_differs_again()
     ensures { StartsNothing }
 {}

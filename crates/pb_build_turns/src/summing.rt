@@ -208,8 +208,8 @@ fn told_apart(alloc: Global, bad: Option<(Text, BadUnit)>) -> (Option<(Text, Uni
     }
 }
 
-/// Returns the number of reported units, from the start of plan order. All units are reported, or
-/// else all units up to and including the first bad unit.
+/// Returns how many units, from the start of plan order, are reported. Without a bad unit, all
+/// units are reported; otherwise all units up to and including the first bad unit.
 fn count_told(units: usize, bad: Option<usize>) -> usize
     requires { IfSome bad (λ index. index < units) }
     ensures { result ≡ count_told units bad }

@@ -56,7 +56,7 @@ fn nothing_noted<T: Drop>(alloc: Global, units: &[Planned]) -> Result<Vec<Option
     Ok(noted)
 }
 
-/// Returns a flight of a project's units in which nothing has begun.
+/// Returns a flight of a project's units in which no unit has begun.
 fn flight_of(alloc: Global, project: &OrderedProject) -> Result<Flight<BadUnit>, AllocError>
     ensures { IfOk result (λ flight. flight ≡ fresh (needs_of project.now)) }
 {

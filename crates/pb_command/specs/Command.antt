@@ -1,6 +1,6 @@
--- The command of a unit: its program, folder, arguments and environment, and what it may read. Also
--- the command that asks a compiler for its version (The Cargo Book, cargo build, Build Scripts,
--- Environment Variables).
+-- The command of a unit: program, folder, arguments, environment, and the folders that the child
+-- may read. This file also defines the command that asks a compiler for its version (The Cargo
+-- Book, cargo build, Build Scripts, Environment Variables).
 use Rattle.std.specs.Prelude.{ℕ, codes, List, [], ◌∷◌, ◌++◌, Option, Some, None}
 use Rattle.pb_directive.specs.declared.directive.Directive.{Directive}
 use Rattle.pb_place_types.specs.declared.command.Command.{Command}
@@ -35,8 +35,7 @@ query_of rustc root target = record {
 abbrev pub crate_part : Project → Planned → Package → List (List ℕ)
 crate_part project unit p = crate_words project unit p ++ output_words unit p ++ settings_words unit.unit.what unit.settings ++ feature_words project unit p
 
--- the arguments that say what is linked and requested: libraries, what build scripts request, and
--- the user's flags
+-- the arguments for libraries, the arguments that build scripts request, and the user's flags
 abbrev pub asked_part : Setup → Project → Planned → List (Option (List Directive)) → Package → List (List ℕ)
 asked_part setup project unit done p = library_words project unit p ++ said_words project unit done p ++ setup.flags
 
@@ -44,7 +43,7 @@ asked_part setup project unit done p = library_words project unit p ++ said_word
 abbrev pub words_of : Setup → Project → Planned → List (Option (List Directive)) → Package → List (List ℕ)
 words_of setup project unit done p = crate_part project unit p ++ asked_part setup project unit done p
 
--- the command of a compile; it starts in the workspace's root
+-- the command of a compile; a compile starts in the workspace's root
 abbrev pub compile_of : Setup → Project → Planned → List (Option (List Directive)) → Package → Command
 compile_of setup project unit done p = record {
   program = setup.rustc;
@@ -66,13 +65,13 @@ abbrev pub run_program : List (List ℕ) → List ℕ → List ℕ
 run_program [] script = script
 run_program (program ∷ words) script = program
 
--- the arguments of a run: the runner's other words, and then the script's path; without a runner
--- there are no arguments
+-- The arguments of a run with a runner are the runner's words after the first, and then the
+-- script's path. Without a runner there are no arguments.
 abbrev pub run_words : List (List ℕ) → List ℕ → List (List ℕ)
 run_words [] script = []
 run_words (program ∷ words) script = words ++ script ∷ []
 
--- the command of a run; it starts in its package's folder
+-- the command of a run; a run starts in the folder of its package
 abbrev pub run_of : Setup → Project → Planned → List (Option (List Directive)) → Package → Command
 run_of setup project unit done p = record {
   program = run_program setup.runner (script_path project unit);
@@ -107,6 +106,6 @@ abbrev pub command_for : Setup → Project → Planned → List (Option (List Di
 command_for setup project unit done None = nothing_of setup project
 command_for setup project unit done (Some p) = command_by unit.unit.what setup project unit done p
 
--- the command of a unit, given the directives of the runs that come before it in the plan
+-- the command of a unit, given the directives of the runs that come before the unit in the plan
 abbrev pub command_of : Setup → Project → Planned → List (Option (List Directive)) → Command
 command_of setup project unit done = command_for setup project unit done (package_of project unit)

@@ -1,5 +1,5 @@
--- Which replies to a command are good. The command alone decides whether a reply is good, and no
--- plan does. So the answer of a unit that is no longer in a plan is judged as before.
+-- Which replies to a command are good. The command alone, and not the plan, decides whether a reply
+-- is good. So if a unit is no longer in a plan, its answer is still judged in the same way.
 use Rattle.std.specs.Prelude.{◌≡◌, ℕ, Bool, if◌then◌else◌, codes, List, [], ◌∷◌, ◌++◌, Option, Some, None, Result, Ok, Err, slice_get}
 use Rattle.std.specs.FinMap as finite
 use Rattle.std.specs.Str.{bytes_eq}
@@ -27,7 +27,7 @@ use Rattle.pb_command.specs.Command.{command_of}
 abbrev pub ended_by : Reply → Ended
 ended_by r = record { status = r.status; stdout = r.stdout; stderr = r.stderr }
 
--- the files that this reply puts into an output folder that was empty
+-- the files that this reply puts into an empty output folder
 abbrev pub replied_files : List ℕ → Reply → Map
 replied_files out r = files_in out (put_files out r.files finite.empty)
 
@@ -35,12 +35,12 @@ abbrev pub file_at : Option (List ℕ) → Map → Option (List ℕ)
 file_at None files = None
 file_at (Some path) files = finite.get files path
 
--- the output folder is that of a unit that runs a script: the last word of its path is `run`
+-- the output folder belongs to a run: the last word of the folder's path is `run`
 abbrev pub is_of_run : List ℕ → Bool
 is_of_run out = bytes_eq (last_word out) (codes "run")
 
--- The name of the compiled crate, which is the second argument. In each compile of a plan the first
--- argument is `--crate-name`, but this definition does not need that.
+-- The name of the compiled crate is the second argument. This definition does not check that the
+-- first argument is `--crate-name`, as it is in each compile of a plan.
 abbrev pub crate_in : List (List ℕ) → List ℕ
 crate_in [] = []
 crate_in (option ∷ []) = []
@@ -50,8 +50,8 @@ crate_in (option ∷ name ∷ words) = name
 abbrev pub dep_info_in : Command → List ℕ → Map → Option (List ℕ)
 dep_info_in c out files = file_at (file_in out (crate_in c.words ++ codes ".d")) files
 
--- The answer of a child that ended in this way and left these files. A script is run in its
--- package's folder.
+-- The answer of a child that ended in this way and left these files. For a run, relative paths
+-- start at the command's folder.
 abbrev pub answered_in : Command → List ℕ → Ended → Map → Result CheckedReply UnitFault
 answered_in c out e files = unless_fault (ended_fault e) (if is_of_run out then run_answered c c.folder e else compile_answered c (dep_info_in c out files))
 
@@ -69,7 +69,7 @@ unfoldable pub judge : Command → Reply → Option (List InputName)
 judge c r = judge_in c c.out r
 
 -- For the command of each unit of a plan, `judge` accepts a reply if and only if the unit's answer
--- is good. Then `judge` returns the inputs of this answer.
+-- is good. For a good answer, `judge` returns the answer's inputs.
 abbrev pub JudgesAsAnswered : Type 0
 JudgesAsAnswered = (setup : Setup) (project : Project) (u : Planned) (done : List (Option (List Directive))) (selection : Selection) (index : ℕ) (r : Reply)
     → IsSettled project.workspace → IsPlan project.workspace project.features selection project.profile project.plan → slice_get project.plan.planned index ≡ Some u

@@ -19,14 +19,13 @@ use Rattle.pb_command_environment.specs.Pairs.{composed, pairs_of}
 abbrev pub PairsRise : Type 0
 PairsRise = (setup : Setup) (project : Project) (unit : Planned) (done : List (Option (List Directive))) → IsAscending (names_of (command_of setup project unit done).pairs)
 
--- The last value of a variable counts. So a script's value replaces the builder's value, and the
--- value of a later line replaces that of an earlier line.
+-- The last value of a variable counts. So a script's value replaces the builder's value, and a
+-- later line's value replaces an earlier line's value.
 abbrev pub LastValuesCount : Type 0
 LastValuesCount = (setup : Setup) (project : Project) (unit : Planned) (done : List (Option (List Directive))) (p : Package) (name : List ℕ)
     → value_at name (pairs_of setup project unit done p) ≡ last_value name (composed setup project unit done p)
 
--- Libraries are sorted by their names and then by their paths. This is so because a name has no
--- byte 0.
+-- Because names have no byte 0, libraries are sorted by their names and then by their paths.
 abbrev pub LibrariesInOrder : Type 0
 LibrariesInOrder = (name other path next : List ℕ) → has_byte_0 name ≡ false → has_byte_0 other ≡ false
     → slice_cmp nat_cmp (extern_key name path) (extern_key other next) ≡ ordering_then (slice_cmp nat_cmp name other) (slice_cmp nat_cmp path next)

@@ -337,7 +337,8 @@ fn nothing_of(alloc: Global, setup: &Setup, project: &Project) -> Result<Command
 /// the index of each run in the plan. At the index of a compile, `done` contains no directives. An
 /// index past the end of `done` counts as an index without directives.
 ///
-/// A compile starts the compiler in the workspace's root. Its arguments are, in this order:
+/// A compile starts the compiler in the workspace's root. The arguments of a compile are, in this
+/// order:
 ///
 /// - the crate's name, edition and source;
 /// - the crate's types and output;

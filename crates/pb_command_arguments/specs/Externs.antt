@@ -1,5 +1,6 @@
--- Which libraries a compile gets, by which names, and where the compiler looks for them (The Cargo
--- Book, Specifying Dependencies, Renaming dependencies in Cargo.toml).
+-- Which libraries a compile gets, which names these libraries have, and in which folders the
+-- compiler looks for libraries (The Cargo Book, Specifying Dependencies, Renaming dependencies in
+-- Cargo.toml).
 use Rattle.std.specs.Prelude.{ℕ, ◌&&◌, Bool, false, if◌then◌else◌, codes, List, [], ◌∷◌, ◌++◌, Option, Some, None, slice_get}
 use Rattle.std.specs.List.{flat_map}
 use Rattle.pb_data.specs.Ascii.{equals}
@@ -46,8 +47,8 @@ folder_words_at project index = folder_words_in (unit_at project index)
 abbrev pub dependency_words : Project → Planned → List (List ℕ)
 dependency_words project unit = flat_map (folder_words_at project) unit.reaches
 
--- An entry of this kind counts for a unit of this kind. Normal entries count for libraries and
--- binaries, and build entries count for scripts.
+-- Dependencies of the kind `kind` count for a unit of the kind `what`. Normal entries count for
+-- libraries and binaries, and build entries count for scripts.
 abbrev pub leads : What → DependencyKind → Bool
 leads Lib kind = is_normal kind
 leads (Bin name) kind = is_normal kind
@@ -59,12 +60,12 @@ abbrev pub library_name_at : Project → ℕ → List ℕ
 library_name_at project index = library_name (library_in (slice_get project.workspace.packages index))
 
 -- The name that source code has for an entry's library. If `package` renames the library, this is
--- the entry's key with `_` for each `-`. If not, this is the library's crate name.
+-- the entry's key with `_` for each `-`. Otherwise the name is the library's crate name.
 abbrev pub entry_name : Project → Entry → List ℕ
 entry_name project entry = if entry.renamed then underscored entry.key else library_name_at project entry.to
 
--- The key by which a library is sorted: its name and its path, with byte 0 between them. Names and
--- paths have no byte 0, and byte 0 comes before all other bytes.
+-- The key by which a library is sorted: the library's name and path, with byte 0 between them.
+-- Names and paths have no byte 0, and byte 0 comes before all other bytes.
 unfoldable pub extern_key : List ℕ → List ℕ → List ℕ
 extern_key name path = name ++ 0 ∷ path
 
@@ -94,11 +95,12 @@ externs project unit p = placed (entry_extern project unit) 0 p.entries ++ own_e
 abbrev pub extern_word : List ℕ × List ℕ → List (List ℕ)
 extern_word e = option (codes "--extern") e.1
 
--- the option `--extern` with `NAME=PATH` for each library, each once, in byte order of the names
--- and then of the paths
+-- The option `--extern` with `NAME=PATH` for each library. Each library occurs once, in byte order
+-- of the names and then of the paths.
 abbrev pub extern_words : Project → Planned → Package → List (List ℕ)
 extern_words project unit p = flat_map extern_word (in_order (externs project unit p))
 
--- the arguments for the folders of libraries, followed by those for the libraries
+-- the arguments for the folders of libraries, followed by the arguments for the libraries
+-- themselves
 abbrev pub library_words : Project → Planned → Package → List (List ℕ)
 library_words project unit p = dependency_words project unit ++ extern_words project unit p

@@ -50,16 +50,17 @@ binary_word name _ = []
 abbrev pub searched_words : List (Option (List Directive)) → ℕ → List (List ℕ)
 searched_words done index = flat_map search_word (said_at done index)
 
--- the search folders that are requested by the runs that the unit reaches, in plan order
+-- the search folders requested by the runs that the unit reaches, in plan order
 abbrev pub search_words : Planned → List (Option (List Directive)) → List (List ℕ)
 search_words unit done = flat_map (searched_words done) unit.reaches
 
--- the conditions that are on, followed by the conditions that are expected
+-- the arguments for the conditions that are on, followed by the arguments for the expected
+-- conditions
 abbrev pub condition_words : List Directive → List (List ℕ)
 condition_words said = flat_map condition_word said ++ flat_map check_word said
 
--- the linker flags of a binary: those for all targets, those for all binaries, and those for this
--- binary
+-- the linker flags of a binary: first the flags for all targets, then the flags for all binaries,
+-- and then the flags for this binary
 abbrev pub argument_words : List ℕ → List Directive → List (List ℕ)
 argument_words name said = flat_map argument_word said ++ flat_map binaries_word said ++ flat_map (binary_word name) said
 

@@ -1,5 +1,5 @@
--- The arguments of a compile, group by group (The Cargo Book, Build Cache, Profiles, Features, and
--- the compiler's own command line).
+-- The arguments of a compile, group by group. The sources are The Cargo Book (Build Cache,
+-- Profiles, Features) and the compiler's own command line.
 use Rattle.std.specs.Prelude.{ℕ, Bool, true, false, not, ◌&&◌, ◌||◌, if◌then◌else◌, codes, List, [], ◌∷◌, ◌++◌, Option, Some, None}
 use Rattle.std.specs.Fmt.{decimal}
 use Rattle.std.specs.List.{flat_map, join_by}
@@ -34,7 +34,7 @@ name_words name = option (codes "--crate-name") name
 unfoldable pub edition_word : Edition → List ℕ
 edition_word edition = codes "--edition=" ++ edition_text edition
 
--- the option by which the compiler reports diagnostics as JSON
+-- the option that makes the compiler report diagnostics as JSON
 unfoldable pub format_words : List (List ℕ)
 format_words = codes "--error-format=json" ∷ []
 
@@ -83,8 +83,8 @@ abbrev pub is_value : Option Setting → Setting → Bool
 is_value None value = false
 is_value (Some other) value = same other value
 
--- The key needs no option for this unit. Either the compiler uses this value without an option, or
--- only binaries have the option and the unit is not a binary.
+-- The key needs no option for this unit. Either the compiler uses this value if there is no option.
+-- Or only binaries have the option, and the unit is not a binary.
 abbrev pub is_untold : What → ProfileKey → Setting → Bool
 is_untold what k value = ((row k).of_binaries && not (is_binary what)) || is_value (row k).untold value
 

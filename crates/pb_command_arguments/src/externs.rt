@@ -47,7 +47,7 @@ fn push_reads(
 }
 
 /// Returns the output folders of all units that a unit reaches, in plan order: these are the
-/// folders that its child may read.
+/// folders that the unit's child may read.
 ///
 /// Errors: only out of memory.
 pub fn reads_of(

@@ -269,7 +269,7 @@ fn push_all_arguments(
     Ok(())
 }
 
-/// Adds the libraries to link to a binary, if its package has no library.
+/// Adds the libraries to link to a binary, if the binary's package has no library.
 fn push_binary_links(
     alloc: Global,
     words: &mut Items<Text>,

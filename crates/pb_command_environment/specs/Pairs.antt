@@ -40,7 +40,8 @@ about_pairs a =
     (codes "CARGO_PKG_AUTHORS", a.authors) ∷ (codes "CARGO_PKG_DESCRIPTION", a.description) ∷ (codes "CARGO_PKG_HOMEPAGE", a.homepage) ∷ (codes "CARGO_PKG_LICENSE", a.license)
     ∷ (codes "CARGO_PKG_LICENSE_FILE", a.license_file) ∷ (codes "CARGO_PKG_README", a.readme) ∷ (codes "CARGO_PKG_REPOSITORY", a.repository) ∷ (codes "CARGO_PKG_RUST_VERSION", a.rust_version) ∷ []
 
--- the three numbers of a version, and its other parts; zeros if the version cannot be read
+-- The three numbers of a version, and the version's other parts. If the version cannot be read, the
+-- numbers are 0 and the other parts are empty.
 abbrev pub numbers_in : {E : Type 0} → Result (ℕ × ℕ × ℕ × List ℕ × List ℕ) E → ℕ × ℕ × ℕ × List ℕ × List ℕ
 numbers_in (Ok parts) = parts
 numbers_in (Err e) = (0, 0, 0, [], [])
@@ -102,7 +103,7 @@ feature_pair name = (feature_name name, codes "1")
 abbrev pub described_pairs : Project → Planned → Package → List (List ℕ × List ℕ)
 described_pairs project unit p = links_pairs p.links ++ map feature_pair (features_at project.features unit.unit.package unit.unit.side)
 
--- the text, if there is one and it is not empty
+-- the text, if there is a text and the text is not empty
 abbrev pub unless_empty : Option (List ℕ) → Option (List ℕ)
 unless_empty None = None
 unless_empty (Some []) = None
@@ -112,7 +113,7 @@ abbrev pub host_in_text : Option (List ℕ) → Option (List ℕ)
 host_in_text None = None
 host_in_text (Some line) = unless_empty (after_prefix (codes "host: ") line)
 
--- the host that follows `host: ` in a line, if the line is UTF-8 and the host is not empty
+-- the host that a line names after `host: `, if the line is UTF-8 and the host is not empty
 abbrev pub host_in : List ℕ → Option (List ℕ)
 host_in line = host_in_text (text_of line)
 
@@ -139,8 +140,7 @@ abbrev pub released_text : Result (List Seen) ProfileFault → List ℕ
 released_text (Ok line) = if is_released line then codes "release" else codes "debug"
 released_text (Err fault) = codes "debug"
 
--- `release` for the profile `release` and for each profile that inherits from it; `debug` for any
--- other profile
+-- `release` if the profile is `release` or inherits from `release`; `debug` for any other profile
 abbrev pub profile_word : Project → List ℕ
 profile_word project = released_text (checked_line project.workspace.profiles project.profile)
 
@@ -148,7 +148,7 @@ profile_word project = released_text (checked_line project.workspace.profiles pr
 abbrev pub platform_pairs : List ℕ → List (List ℕ × List ℕ)
 platform_pairs triple = (codes "TARGET", triple) ∷ (codes "HOST", triple) ∷ (codes "NUM_JOBS", codes "1") ∷ []
 
--- the variables for the settings of the package, in the role of the run's side
+-- the variables for the settings that the run's package has in the role of the run's side
 abbrev pub settings_pairs : List Setting → List ℕ → List (List ℕ × List ℕ)
 settings_pairs s profile = (codes "OPT_LEVEL", spelled (opt_level s)) ∷ (codes "DEBUG", truth_text (is_debugged (debug s))) ∷ (codes "PROFILE", profile) ∷ []
 
@@ -160,7 +160,7 @@ encoded flags = join_by (λ flag. flag) (31 ∷ []) flags
 abbrev pub compiler_pairs : Setup → List (List ℕ × List ℕ)
 compiler_pairs setup = (codes "RUSTC", setup.rustc) ∷ (codes "CARGO_ENCODED_RUSTFLAGS", encoded setup.flags) ∷ []
 
--- the variables for the run's output folder, and for how its package is compiled
+-- the variables for the run's output folder, and for how the run's package is compiled
 abbrev pub building_pairs : Setup → Project → Planned → List (List ℕ × List ℕ)
 building_pairs setup project unit =
     (codes "OUT_DIR", unit.out) ∷ platform_pairs (triple_of setup.toolchain) ++ settings_pairs unit.settings (profile_word project) ++ compiler_pairs setup
@@ -196,10 +196,11 @@ own_pairs setup project unit done p (Bin name) = crate_pairs project unit ++ bin
 own_pairs setup project unit done p Script = crate_pairs project unit
 own_pairs setup project unit done p Run = run_pairs setup project unit done p
 
--- all variables that a command sets; a later variable replaces an earlier one of the same name
+-- all variables that a command sets; a later variable replaces an earlier variable of the same name
 abbrev pub composed : Setup → Project → Planned → List (Option (List Directive)) → Package → List (List ℕ × List ℕ)
 composed setup project unit done p = package_pairs setup p ++ about_pairs p.about ++ version_pairs p.version ++ own_pairs setup project unit done p unit.unit.what
 
--- the variables that are set in addition to the inherited ones, sorted by name, each name once
+-- the variables that the command sets, sorted by name, each name once; the child also inherits
+-- variables
 abbrev pub pairs_of : Setup → Project → Planned → List (Option (List Directive)) → Package → List (List ℕ × List ℕ)
 pairs_of setup project unit done p = in_order (composed setup project unit done p)

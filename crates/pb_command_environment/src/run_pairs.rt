@@ -202,7 +202,7 @@ fn set_folder(alloc: Global, all: &mut TextMap, unit: &Planned) -> Result<(), Al
     Ok(())
 }
 
-/// Sets the folder into which a run writes its files, and how its package is compiled.
+/// Sets the folder into which a run writes its files, and how the run's package is compiled.
 #[tactic(auto, using(pb_command_types::proofs::NamedTexts::set_laws))]
 fn set_building(
     alloc: Global,

@@ -38,15 +38,16 @@ is_binary what = is_some (binary_name what)
 
 -- Settings.
 
--- a value as the compiler spells it, unless it is the value `other`
+-- a value as the compiler spells it; there is no text if the value is `other`
 abbrev pub unless_is : Setting → List ℕ → Setting → Option (List ℕ)
 unless_is other shown value = if same other value then None else Some (value_text shown value)
 
--- the row of a table for a value, or no row if there is no value
+-- a row with this name and this value; there is no row if there is no value
 abbrev pub row : List ℕ → Option (List ℕ) → List (List ℕ × List ℕ)
 row name value = option_to_list (option_map (λ text. (name, text)) value)
 
--- the settings with their values; a setting has no row if the compiler gets no option for it
+-- The settings with their values. If the compiler gets no option for a setting, the setting has no
+-- row.
 abbrev pub settings_table : What → List Setting → List (List ℕ × List ℕ)
 settings_table what s =
     (codes "opt-level", value_text (codes "on") (setting_at s key.OptLevel))
@@ -77,7 +78,7 @@ as_line (RerunIfEnvChanged name) = (codes "rerun-if-env-changed", name)
 as_line (Error text) = (codes "error", text)
 as_line _ = ([], [])
 
--- the values of those lines that have this key, in printed order
+-- the values of the lines with this key, in printed order
 abbrev pub asked : List ℕ → List Directive → List (List ℕ)
 asked key said = values key (map as_line said)
 
@@ -90,7 +91,7 @@ hears what = is_library what || is_binary what
 abbrev pub heard : Project → Planned → List (Option (List Directive)) → List Directive
 heard project unit done = if hears unit.unit.what then own_said project unit done else []
 
--- the linker flags that a binary gets from the directives that it hears
+-- the linker flags of a binary, from the directives that the binary hears
 abbrev pub linker_flags : What → List Directive → List (List ℕ)
 linker_flags (Bin name) said = asked (codes "rustc-link-arg") said ++ asked (codes "rustc-link-arg-bins") said ++ asked (codes "rustc-link-arg-bin=" ++ name) said
 linker_flags _ said = []
@@ -110,7 +111,7 @@ features_there_are features = codes "cfg(feature, values(" ++ join_by (λ (f : F
 
 -- Libraries.
 
--- the units at these indices that are libraries
+-- the libraries among the units at these indices
 abbrev pub libraries_at : Project → List ℕ → List Planned
 libraries_at project indices = filter (λ (u : Planned). is_library u.unit.what) (filter_map (unit_at project) indices)
 
@@ -138,8 +139,8 @@ pub record CompileSays (project : Project) (unit : Planned) (done : List (Option
   pub are : AreLibraries Is libraries
 
 -- Law: the arguments of a compile say what `CompileSays` states, followed by what the user's flags
--- say. The unit's package belongs to a workspace that was read. The unit's source has a normalised
--- absolute path.
+-- say. The unit's package must belong to a workspace that was read, and the unit's source must have
+-- a normalised absolute path.
 abbrev pub CompilesSay : Type 0
 CompilesSay = (setup : Setup) (project : Project) (unit : Planned) (done : List (Option (List Directive))) (p : Package)
     → IsSettled project.workspace → package_of project unit ≡ Some p → is_run unit.unit.what ≡ false → is_path (source_by p unit.unit.what) ≡ true

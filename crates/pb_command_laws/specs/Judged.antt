@@ -33,11 +33,13 @@ IsShort bytes = length bytes ≤ max_stream_bytes
 abbrev pub EndedWell : Ended → Type 0
 EndedWell e = IsShort e.stdout × IsShort e.stderr × (e.status ≡ pos 0)
 
--- the path that a text spells from a folder; a text with byte 0 spells no path
+-- the path that a text spells if relative texts start at this folder; a text with byte 0 spells no
+-- path
 abbrev pub path_said : List ℕ → List ℕ → List (List ℕ)
 path_said folder text = option_to_list (result_ok (joined folder text))
 
--- the paths that these texts spell from a folder, each once, in order of first mention
+-- the paths that these texts spell if relative texts start at this folder; each path occurs once,
+-- in order of first mention
 abbrev pub paths_said : List ℕ → List (List ℕ) → List (List ℕ)
 paths_said folder texts = once (flat_map (path_said folder) texts)
 
@@ -50,8 +52,9 @@ abbrev pub is_foreign : Command → List ℕ → Bool
 is_foreign c path = is_at_or_below c.target path && not (list_any (λ folder. is_at_or_below folder path) c.reads)
 
 -- The paths and variables that a child reports as inputs.
--- - A compile reports those of its dep-info, except variables that the command sets.
--- - A run reports those of its lines, or its package's folder if no line names an input.
+-- - A compile reports what its dep-info names, except variables that the command sets.
+-- - A run reports what its lines name as inputs. If its lines name none, the run reports its
+--   package's folder.
 pub data ReportsInputs (what : What) (c : Command) (folder : List ℕ) (e : Ended) (dep_info : Option (List ℕ)) : Option (List Directive) → List (List ℕ) → List (List ℕ) → Type 0 where
   compile : (is : is_run what ≡ false) (info : DepInfo) (read : HasInfo dep_info info) → ReportsInputs what c folder e dep_info None (paths_said c.folder info.words) (inherited c info.variables)
   run : (is : is_run what ≡ true) (said : List Directive) (read : directives_of e.stdout ≡ Ok said) (fine : asked (codes "error") said ≡ []) → ReportsInputs what c folder e dep_info (Some said)

@@ -21,14 +21,14 @@ abbrev pub crate_at : Project → ℕ → List ℕ
 crate_at project index = library_name (library_in (slice_get project.workspace.packages index))
 
 -- The name that source code uses for an entry's library. If `package` renames the entry, this is
--- the entry's key with `_` for each `-`. If not, this is the name of the library's crate.
+-- the entry's key with `_` for each `-`. Otherwise the name is that of the library's crate.
 pub data IsCalled (project : Project) (entry : Entry) : List ℕ → Type 0 where
   renamed : (is : entry.renamed ≡ true) → IsCalled project entry (underscored entry.key)
   itself : (is : entry.renamed ≡ false) → IsCalled project entry (crate_at project entry.to)
 
 -- A library with this name and this file is passed to the compile.
 -- - It may be the library of an entry that is enabled on the unit's side, if the unit needs this
---   library. The entry is of `[build-dependencies]` for a script, and of `[dependencies]` for any
+--   library. The entry is in `[build-dependencies]` for a script, and in `[dependencies]` for any
 --   other unit.
 -- - It may be the library of a binary's own package.
 pub data IsLibrary (project : Project) (unit : Planned) (p : Package) : List ℕ → List ℕ → Type 0 where

@@ -26,9 +26,9 @@ pub data Hears (project : Project) (u : Planned) (p : Package) (done : List (Opt
   nothing : (is : (hears u.unit.what && is_some p.script) ≡ false) → Hears project u p done [] None
   own_run : (is : (hears u.unit.what && is_some p.script) ≡ true) (index : ℕ) (run : Planned) (there : unit_at project index ≡ Some run) (same : run.unit ≡ unit u.unit.package u.unit.side Run) → Hears project u p done (said_at done index) (Some run.out)
 
--- The command is that of a compile. It starts the compiler and has the variables of
--- `compile_table`. Its arguments say what `CompileSays` states, followed by what the user's flags
--- say. The names of the variables ascend, so each occurs once.
+-- The command of a compile starts the compiler and has the variables of `compile_table`. The
+-- arguments say what `CompileSays` states, followed by what the user's flags say. The variables are
+-- in ascending order of their names, so each name occurs once.
 pub record IsCompile (setup : Setup) (project : Project) (u : Planned) (done : List (Option (List Directive))) (p : Package) (command : Command) : Type 0 where
   pub starts : StartsCompiler setup project u command
   pub lines : List Directive
@@ -40,15 +40,16 @@ pub record IsCompile (setup : Setup) (project : Project) (u : Planned) (done : L
   pub words : said_by command.words ≡ said ++ said_by setup.flags
   pub says : CompileSays project u done p lines (IsWanted project u p) said
 
--- The command is that of a run. It starts the script of the run's package on the run's side, and
--- has the variables of `run_table`. The names of the variables ascend, so each occurs once.
+-- The command of a run starts the script of the run's package on the run's side, and has the
+-- variables of `run_table`. The variables are in ascending order of their names, so each name
+-- occurs once.
 pub record IsRun (setup : Setup) (project : Project) (u : Planned) (done : List (Option (List Directive))) (p : Package) (command : Command) : Type 0 where
   pub starts : StartsScript setup project u p (Some (below (folder_of project (unit u.unit.package u.unit.side Script)) (codes "build_script_build"))) command
   pub has : HasVariables command (run_table setup project u done p)
   pub order : IsAscending (names_of command.pairs)
 
--- The laws. The package belongs to a workspace that was read, and a compile's source has a
--- normalised absolute path.
+-- The laws about compiles and runs. The package of a compile must belong to a workspace that was
+-- read. The source of the compile must have a normalised absolute path.
 
 abbrev pub CompilesOfPlans : Type 0
 CompilesOfPlans = (setup : Setup) (project : Project) (u : Planned) (done : List (Option (List Directive))) (p : Package)

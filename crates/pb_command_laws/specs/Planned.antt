@@ -42,9 +42,9 @@ pub record IsLibraryOf (project : Project) (index : ℕ) (side : Side) (crate fi
   pub crate_is : crate ≡ library.name
   pub file_is : file_in (folder_of project (unit index side Lib)) (codes "lib" ++ crate ++ codes ".rlib") ≡ Some file
 
--- A library with this name and this file is wanted by a unit.
+-- A unit is to get a library with this name and this file.
 -- - It may be the library of an entry, on the side of the unit's role, if the entry is enabled on
---   the unit's side. The entry is of `[build-dependencies]` for a script, and of `[dependencies]`
+--   the unit's side. The entry is in `[build-dependencies]` for a script, and in `[dependencies]`
 --   for any other unit.
 -- - It may be the library of a binary's own package.
 pub data IsWanted (project : Project) (u : Planned) (p : Package) : List ℕ → List ℕ → Type 0 where
@@ -63,7 +63,7 @@ pub record IsRunOf (project : Project) (owner : ℕ) (side : Side) (index : ℕ)
   pub is : run.unit ≡ unit owner side Run
 
 -- A library or a binary hears the run of its own package, on its own side, if this package has a
--- script. If not, it hears no run.
+-- script. If the package has no script, the unit hears no run.
 pub record HearsOwnRun (project : Project) (u : Planned) (p : Package) : Type 0 where
   pub some : is_some p.script ≡ true → (index : ℕ) × (own_run project u ≡ Some index) × IsRunOf project u.unit.package u.unit.side index
   pub none : is_some p.script ≡ false → own_run project u ≡ None

@@ -5,8 +5,8 @@ use Rattle.std.specs.Str.{bytes_eq}
 use Rattle.pb_mini.specs.CommandLine.{takes_value}
 
 -- What arguments say, in order. If an option takes a value, the next argument is its value. Any
--- other argument is a value without an option: the option's name is empty. The same is true of an
--- option at the end that lacks its value.
+-- other argument is a value without an option: the option's name is empty. An option at the end
+-- that lacks its value also counts as a value without an option.
 abbrev pub said_by : List (List ℕ) → List (List ℕ × List ℕ)
 said_by [] = []
 said_by (word ∷ []) = ([], word) ∷ []

@@ -24,7 +24,7 @@ pub data LinesAreRead {T U : Type 0} (read : List ℕ → Result T Problem) (all
   first : (index : ℕ) (line : List ℕ) (problem : Problem) (there : slice_get lines index ≡ Some line) (wrong : read line ≡ Err problem)
       (before : (n : ℕ) (other : List ℕ) → n < index → slice_get lines n ≡ Some other → is_ok (read other) ≡ true) → LinesAreRead read all lines (Err (fault_at (index + 1) problem))
 
--- The directives of an output are those of its lines, line after line.
+-- The directives of an output are the directives of the output's lines, line after line.
 abbrev pub OutputsAreRead : Type 0
 OutputsAreRead = (bytes : List ℕ) → LinesAreRead line_directives (flat_map (λ said. said)) (lines_of bytes) (directives_of bytes)
 

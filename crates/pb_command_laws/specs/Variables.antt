@@ -28,8 +28,8 @@ use Rattle.pb_command.specs.Command.{command_of}
 use Rattle.pb_command_environment.specs.Pairs.{triple_of}
 use Rattle.pb_command_laws.specs.Compiles.{binary_name, row, hears, heard}
 
--- The command sets exactly the variables of the table. Each of these names has the last value that
--- the table has for it.
+-- The command sets exactly the variables of the table. If the table has several values for a name,
+-- the last of them is the variable's value.
 abbrev pub HasVariables : Command → List (List ℕ × List ℕ) → Type 0
 HasVariables command table = (name : List ℕ) → value_at name command.pairs ≡ value_at name (reverse table)
 
@@ -40,8 +40,7 @@ HasVariables command table = (name : List ℕ) → value_at name command.pairs �
 abbrev pub parts_of : List ℕ → ℕ × ℕ × ℕ × List ℕ × List ℕ
 parts_of version = result_unwrap_or (version_parts version) (0, 0, 0, [], [])
 
--- the variables about the builder and about the unit's package, and those with the package's texts
--- for people
+-- the variables about the builder and the unit's package, such as the package's version and authors
 abbrev pub package_table : Setup → Package → List (List ℕ × List ℕ)
 package_table setup p =
     (codes "CARGO", setup.tool) ∷ (codes "CARGO_MANIFEST_DIR", p.folder) ∷ (codes "CARGO_MANIFEST_PATH", p.manifest) ∷ (codes "CARGO_PKG_NAME", p.name)
@@ -58,10 +57,10 @@ abbrev pub variable_set : Directive → List (List ℕ × List ℕ)
 variable_set (Env name value) = (name, value) ∷ []
 variable_set _ = []
 
--- The variables of a compile. The variables of every unit come first, then the name of the crate,
--- and for a binary the binary's own name. `ran` is the output folder of the run that the unit
--- hears, if there is one. `said` are the lines of this run; their variables come last, and so
--- replace earlier variables.
+-- The variables of a compile. First come the variables of every unit, then the crate's name and,
+-- for a binary, the binary's own name. `ran` is the output folder of the run that the unit hears,
+-- if there is one. `said` are the lines of this run. Their variables come last, and so replace
+-- earlier variables.
 abbrev pub compile_table : Setup → Project → Planned → Package → List Directive → Option (List ℕ) → List (List ℕ × List ℕ)
 compile_table setup project unit p said ran =
     package_table setup p ++ (codes "CARGO_CRATE_NAME", crate_name_of project unit) ∷ row (codes "CARGO_BIN_NAME") (binary_name unit.unit.what) ++ row (codes "OUT_DIR") ran ++ flat_map variable_set said
@@ -83,7 +82,7 @@ abbrev pub debug_text : Word → List ℕ
 debug_text word.Zero = codes "false"
 debug_text _ = codes "true"
 
--- the native library that the package of a run links, if it links one
+-- the native library that the package of a run links, if the package links one
 abbrev pub links_of_run : Project → Planned → Option (List ℕ)
 links_of_run project u = if is_run u.unit.what then option_and_then (λ (p : Package). p.links) (package_of project u) else None
 
@@ -92,11 +91,11 @@ links_of_run project u = if is_run u.unit.what then option_and_then (λ (p : Pac
 abbrev pub handed_on : Project → List (Option (List Directive)) → ℕ → List (List ℕ × List ℕ)
 handed_on project done index = option_map_or (λ links. passed links (said_at done index)) (option_and_then (links_of_run project) (unit_at project index)) []
 
--- The variables of a run. The variables of every unit come first, then what the run's package
+-- The variables of a run. First come the variables of every unit, then what the run's package
 -- links, and `1` for each feature that is on. Then come the run's folder, the platform, the
 -- settings of the package, the compiler and the compiler's flags. Last comes the metadata of the
 -- runs that this run needs, in plan order. `PROFILE` is `release` if the profile is `release` or
--- inherits from it.
+-- inherits from `release`.
 abbrev pub run_table : Setup → Project → Planned → List (Option (List Directive)) → Package → List (List ℕ × List ℕ)
 run_table setup project unit done p =
     package_table setup p ++ row (codes "CARGO_MANIFEST_LINKS") p.links

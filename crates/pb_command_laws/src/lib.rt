@@ -11,15 +11,15 @@ ghost use Rattle.pb_command_laws.specs.Starts.{CompilesStart, RunsStart};
 ghost use Rattle.pb_command_laws.specs.Texts.{InfosAreRead, LinesAreTrimmed, OutputsAreRead};
 ghost use Rattle.pb_command_laws.specs.Variables.{CompilesHave, RunsHave};
 
-/// A law: the arguments of a compile, as the compiler's own option grammar reads them. They list
-/// the crate, settings, conditions, folders and libraries of the compile, and then what the user's
-/// flags request.
+/// A law: the arguments of a compile, as the compiler's own option grammar reads them. The
+/// arguments list the crate, settings, conditions, folders and libraries of the compile, and then
+/// what the user's flags request.
 pub fn compiles_say()
     ensures { CompilesSay }
 {}
 
-/// A law: if arguments are read by this grammar, the same arguments can be made from the result. So
-/// no argument is skipped.
+/// A law: if arguments are read by the compiler's option grammar, the same arguments can be made
+/// from the result. So no argument is skipped.
 pub fn sayings_keep_words()
     ensures { SayingsKeepWords }
 {}
@@ -54,9 +54,9 @@ pub fn commands_follow_plans()
     ensures scripts { RunsStartScripts }
 {}
 
-/// This law applies all other laws to the command of a unit in a plan. It says what the command
-/// starts, which variables, arguments and libraries it has, and from which run it gets directives,
-/// if any.
+/// This law applies all other laws to the command of a unit in a plan. The law says what the
+/// command starts, which variables, arguments and libraries it has, and from which run it gets
+/// directives, if any.
 pub fn commands_of_plans()
     ensures compiles { CompilesOfPlans }
     ensures runs { RunsOfPlans }

@@ -29,7 +29,7 @@ use Rattle.pb_command_types.specs.Targets.{folder_of}
 
 -- How the child ended.
 
--- the bytes of a child's stream, or of dep-info, are more than we accept
+-- a child's stream or dep-info has more bytes than we accept
 abbrev pub is_too_long : List ℕ → Bool
 is_too_long bytes = nat_lt max_stream_bytes (length bytes)
 
@@ -44,16 +44,17 @@ abbrev pub path_or_none : Result (List ℕ) PathFault → List (List ℕ)
 path_or_none (Ok path) = path ∷ []
 path_or_none (Err fault) = []
 
--- the path that a text spells from a folder, or no path if the text has byte 0
+-- the path that a text spells if relative texts start at this folder; a text with byte 0 spells no
+-- path
 unfoldable pub path_said : List ℕ → List ℕ → List (List ℕ)
 path_said folder text = path_or_none (joined folder text)
 
--- the paths that these texts spell from a folder, without repeats, in order of first mention
+-- the paths that these texts spell if relative texts start at this folder; each path occurs once,
+-- in order of first mention
 abbrev pub paths_from : List ℕ → List (List ℕ) → List (List ℕ)
 paths_from folder texts = once (flat_map (path_said folder) texts)
 
--- the path is at or below a folder that the command may read: the output folder of a unit that the
--- command's unit reaches
+-- the path is at or below a folder that the command may read
 unfoldable pub is_covered : Command → List ℕ → Bool
 is_covered command path = list_any (λ folder. is_at_or_below folder path) command.reads
 
@@ -68,11 +69,13 @@ abbrev pub unless_foreign : Option (List ℕ) → List (List ℕ) → Result (Li
 unless_foreign None paths = Ok paths
 unless_foreign (Some path) paths = Err (unit_fault.ForeignInput path)
 
--- the paths outside the target folder; the first foreign path, if there is one, is a fault
+-- the paths outside the target folder; if there is a foreign path, the first foreign path is a
+-- fault
 abbrev pub sources_in : Command → List (List ℕ) → Result (List (List ℕ)) UnitFault
 sources_in command paths = unless_foreign (find (is_foreign command) paths) (filter (is_source command) paths)
 
--- the inputs with these names: the paths first, and then the variables
+-- The inputs are first those paths that are outside the target folder, and then the variables. A
+-- foreign path is a fault.
 abbrev pub inputs_of : Command → List (List ℕ) → List (List ℕ) → Result (List InputName) UnitFault
 inputs_of command paths variables = sources_in command paths >>= (λ sources. Ok (map Path sources ++ map Variable variables))
 
@@ -95,8 +98,8 @@ read_info (Some bytes) = if is_too_long bytes then Err unit_fault.NoDepInfo else
 abbrev pub inherited : Command → List (List ℕ) → List (List ℕ)
 inherited command names = filter (λ name. not (is_mentioned (map (λ (pair : List ℕ × List ℕ). pair.0) command.pairs) name)) names
 
--- the inputs that dep-info names: its paths, which start at the command's folder, and its
--- variables, without those that the command sets
+-- The inputs that dep-info names: paths and variables. Relative paths start at the command's
+-- folder. Variables that the command sets are left out.
 abbrev pub info_inputs : Command → DepInfo → Result (List InputName) UnitFault
 info_inputs command info = inputs_of command (paths_from command.folder info.words) (inherited command info.variables)
 
@@ -113,12 +116,12 @@ abbrev pub changed_variable : Directive → List (List ℕ)
 changed_variable (RerunIfEnvChanged name) = name ∷ []
 changed_variable _ = []
 
--- the inputs for these paths, which start at a folder, and for these variables, without repeats
+-- the inputs for these paths and variables, each once; relative paths start at this folder
 abbrev pub marked_inputs : Command → List ℕ → List (List ℕ) → List (List ℕ) → Result (List InputName) UnitFault
 marked_inputs command folder paths names = inputs_of command (paths_from folder paths) (once names)
 
--- the inputs that are named by lines `rerun-if-changed` and `rerun-if-env-changed`; if there are no
--- such lines, the whole folder is the input
+-- The inputs that the lines `rerun-if-changed` and `rerun-if-env-changed` name. If there are no
+-- such lines, the whole folder is the input.
 abbrev pub rerun_inputs : Command → List ℕ → List (List ℕ) → List (List ℕ) → Result (List InputName) UnitFault
 rerun_inputs command folder [] [] = inputs_of command (folder ∷ []) []
 rerun_inputs command folder [] (name ∷ names) = marked_inputs command folder [] (name ∷ names)
@@ -134,7 +137,8 @@ is_error _ = false
 abbrev pub unless_error : List Directive → Result (List Directive) UnitFault
 unless_error said = if list_any is_error said then Err unit_fault.ScriptError else Ok said
 
--- the directives of a run, if all its lines can be read and no line reports an error
+-- the directives of a run, if all lines that the script printed can be read and no line reports an
+-- error
 abbrev pub said_in : Ended → Result (List Directive) UnitFault
 said_in ended = lifted unit_fault.Directive (directives_of ended.stdout) >>= unless_error
 
@@ -152,8 +156,8 @@ abbrev pub unless_fault : Option UnitFault → Result CheckedReply UnitFault →
 unless_fault None answered = answered
 unless_fault (Some fault) answered = Err fault
 
--- What a reply yields. How the child ended is checked first. Then a run's lines or a compile's
--- dep-info are read. The inputs come last.
+-- What a unit gets from its child's reply. First comes the check how the child ended. Then a run's
+-- lines or a compile's dep-info are read. The inputs come last.
 abbrev pub answered_of : Project → Planned → Command → Ended → Option (List ℕ) → Result CheckedReply UnitFault
 answered_of project unit command ended dep_info = unless_fault (ended_fault ended) (answered_by unit.unit.what command (folder_of project unit) ended dep_info)
 

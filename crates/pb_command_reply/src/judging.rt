@@ -390,7 +390,7 @@ pub fn check_reply(
 }
 
 /// Returns what the reply of a unit's child yields, as `check_reply` does, and with the same
-/// errors. Here the path of a text is the one that the place returns (`Place::path_from`). On a
+/// errors. `check_reply_at` takes the path of a text from the place (`Place::path_from`). On a
 /// machine, a `..` after a link leads to the folder that contains the link's target.
 pub fn check_reply_at<P: Place>(
     alloc: Global,

@@ -1,10 +1,10 @@
--- Texts that are set by their names, one after another.
+-- Texts with names. The texts are set one after another.
 use Rattle.std.specs.Prelude.{ℕ, List, [], ◌∷◌}
 use Rattle.std.specs.FinMap as map
 use Rattle.pb_place_types.specs.World.{Map}
 
--- the map after these texts are set one after another; a later text replaces an earlier text of the
--- same name
+-- The map that results if these texts are set one after another. A later text replaces an earlier
+-- text of the same name.
 abbrev pub all_set : Map → List (List ℕ × List ℕ) → Map
 all_set m [] = m
 all_set m (pair ∷ pairs) = all_set (map.insert m pair.0 pair.1) pairs

@@ -104,7 +104,7 @@ file_by (Bin binary) folder name = file_in folder name
 file_by Script folder name = file_in folder name
 file_by Run folder name = None
 
--- the file that a unit's compile produces; a run produces no file
+-- the file that the compile of a unit produces; a run produces no file
 abbrev pub made_file_of : Project → Planned → Option (List ℕ)
 made_file_of project unit = file_by unit.unit.what unit.out (crate_name_of project unit)
 
@@ -112,7 +112,8 @@ abbrev pub dep_info_by : What → List ℕ → List ℕ → Option (List ℕ)
 dep_info_by Run folder name = None
 dep_info_by _ folder name = file_in folder (name ++ codes ".d")
 
--- the file `C.d`, in which a unit's compile reports what it has read; a run has no such file
+-- the file `C.d`, in which the compile of a unit reports what the compiler has read; a run has no
+-- such file
 abbrev pub dep_info_of : Project → Planned → Option (List ℕ)
 dep_info_of project unit = dep_info_by unit.unit.what unit.out (crate_name_of project unit)
 
@@ -130,13 +131,14 @@ abbrev pub is_run : What → Bool
 is_run Run = true
 is_run _ = false
 
--- there is a unit, it is of the tested kind, and it belongs to the package at this index
+-- there is a unit, the test accepts the unit's kind, and the unit belongs to the package at this
+-- index
 abbrev pub is_one_of : (What → Bool) → ℕ → Option Planned → Bool
 is_one_of test owner None = false
 is_one_of test owner (Some unit) = test unit.unit.what && (unit.unit.package == owner)
 
--- the index of the needed unit that is of the tested kind and belongs to the package at this index,
--- if there is one
+-- of the units that this unit needs, the index of the first that belongs to the package at `owner`
+-- and has a kind that the test accepts
 abbrev pub needed : (What → Bool) → Project → Planned → ℕ → Option ℕ
 needed test project unit owner = find (λ index. is_one_of test owner (unit_at project index)) unit.needs
 
@@ -167,7 +169,8 @@ said_in None = []
 said_in (Some None) = []
 said_in (Some (Some directives)) = directives
 
--- the directives of the run at an index of the plan, or no directives if no run has ended there
+-- the directives of the run at an index of the plan; there are no directives if no run at this
+-- index has ended
 abbrev pub said_at : List (Option (List Directive)) → ℕ → List Directive
 said_at done index = said_in (slice_get done index)
 

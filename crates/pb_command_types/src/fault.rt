@@ -21,8 +21,8 @@ pub enum UnitFault {
     /// The compiler wrote no dep-info, or its dep-info cannot be read or is over 4,194,304 bytes.
     #[error("the compiler left no readable dep-info")]
     NoDepInfo,
-    /// A path at or below the target folder is named as an input. This path is in no folder of a
-    /// unit that this unit reaches.
+    /// A path at or below the target folder is named as an input. The path is in no folder of a
+    /// unit that the bad unit reaches.
     #[error("the input `{}` is in the target folder", .0.as_str())]
     ForeignInput(PathText),
     /// A stream of the child is over 4,194,304 bytes (our own choice).

@@ -1,5 +1,5 @@
-//! What a build knows after it is planned. This includes the project and its settings, what a unit
-//! produces and where, and what a unit needs. It also includes the directives of build scripts, the
+//! What a build knows after the planning: the project and its settings, what a unit produces and
+//! where, and what a unit needs. The crate also contains the directives of build scripts, the
 //! contents of a good answer, and the faults of a bad answer. The crates that make the commands of
 //! units use this crate, as do the other crates about units.
 #![tactic(auto)]

@@ -6,7 +6,7 @@ use pb_feature_types::Features;
 use pb_unit::Plan;
 use pb_workspace_types::Workspace;
 
-/// All that a build knows about its workspace after it is planned.
+/// All that a build knows about its workspace after the planning.
 #[derive(Drop)]
 pub struct Project {
     /// The workspace.
@@ -15,11 +15,11 @@ pub struct Project {
     pub features: Features,
     /// The plan of its units.
     pub plan: Plan,
-    /// The name of the profile under which it was planned.
+    /// The name of the profile under which the workspace was planned.
     pub profile: Text,
 }
 
-/// How things are compiled, as the variables and the options determine it.
+/// How units are compiled, as the variables and the options determine it.
 #[derive(Drop)]
 pub struct Setup {
     /// The value of the variable `CARGO` of a child.

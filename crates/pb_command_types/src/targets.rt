@@ -44,7 +44,7 @@ pub fn library_name(project: &Project, index: usize) -> &str
 }
 
 /// Returns the name of the crate that a unit compiles (The Cargo Book, Cargo Targets). A library
-/// has its own name, a binary has its name with `_` for each `-`, and each script is
+/// has its own name, and a binary has its name with `_` for each `-`. Each script has the name
 /// `build_script_build` (our own choice). A run compiles no crate, and the name is empty.
 ///
 /// Errors: only out of memory.

@@ -1,8 +1,8 @@
 //! Runs the examples: sessions in memory, and scripts that run the programs `pb_tool` and `pb_mini`
 //! over real folders and real children.
 //!
-//! This program is also `pb_tool` and `pb_mini`. If it is started under a name that ends in
-//! `pb_tool` or `pb_mini`, it does what the program of that name does. Under any other name, it
+//! This program is also `pb_tool` and `pb_mini`. If this program is started under a name that ends
+//! in `pb_tool` or `pb_mini`, it does what the program of that name does. Under any other name, it
 //! runs the files of the current folder, in byte order of their names:
 //!
 //! - `NAME.json` is a session, which the program runs as `pb_tool session` does.

@@ -1,5 +1,5 @@
--- What a compiler writes to its standard error (The Cargo Book, External Tools). Its diagnostics
--- are the lines that are JSON objects, byte for byte.
+-- What a compiler writes to its standard error (The Cargo Book, External Tools). The compiler's
+-- diagnostics are the lines that are JSON objects, byte for byte.
 use Rattle.std.specs.Prelude.{ℕ, Bool, true, false, if◌then◌else◌, List, [], ◌∷◌, ◌++◌, Option, Some, None}
 use Rattle.serde_json.specs.Data as json
 use Rattle.serde_json.specs.Read.{read}
@@ -19,7 +19,7 @@ abbrev pub object_text : Option (List ℕ) → Option (List ℕ)
 object_text None = None
 object_text (Some text) = if reads_as_object (read text) then Some text else None
 
--- the line without the blanks at its ends, if what remains is a diagnostic
+-- the line without the blanks at its two ends, if the rest is a diagnostic
 abbrev pub diagnostic_in : List ℕ → Option (List ℕ)
 diagnostic_in line = object_text (text_of (trimmed line))
 
@@ -49,6 +49,7 @@ abbrev pub plain_lines_in : List (List ℕ) → List ℕ
 plain_lines_in [] = []
 plain_lines_in (line ∷ lines) = plain_in line ++ plain_lines_in lines
 
--- the lines of a standard error that are neither blank nor diagnostics, each with a line feed
+-- the lines of a compiler's standard error that are neither blank nor diagnostics, each with a line
+-- feed
 abbrev pub plain_lines_of : List ℕ → List ℕ
 plain_lines_of stderr = plain_lines_in (lines_of stderr)

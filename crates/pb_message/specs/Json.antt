@@ -3,7 +3,7 @@ use Rattle.std.specs.Prelude.{ℕ, codes, List, [], ◌∷◌, ◌++◌, map}
 use Rattle.pb_data.specs.Ascii.{comma, open_bracket}
 use Rattle.pb_json.specs.Json.{json_string}
 
--- the texts, with a comma before each
+-- the texts, one after another, with a comma before each text
 abbrev pub after_commas : List (List ℕ) → List ℕ
 after_commas [] = []
 after_commas (x ∷ xs) = comma ∷ x ++ after_commas xs

@@ -1,5 +1,5 @@
 -- The message lines of a build (The Cargo Book, External Tools). A message line has no spaces
--- outside strings, and its keys are in this order.
+-- outside strings, and its keys have a fixed order.
 use Rattle.std.specs.Prelude.{ℕ, Bool, true, false, if◌then◌else◌, codes, List, [], ◌∷◌, ◌++◌, nat_eq}
 use Rattle.std.specs.List.{ends_with, concat}
 use Rattle.pb_json.specs.Json.{json_string}
@@ -20,8 +20,8 @@ use Rattle.pb_message.specs.declared.message.Level.TheVariants.{Warning, Error}
 use Rattle.pb_message.specs.declared.message.Message.{Message}
 use Rattle.pb_message.specs.declared.message.Message.TheVariants as message
 
--- The id of a package. The id has the package's folder. If the last part of the folder is not the
--- package's name, the id also has the name. Nothing in the id is escaped.
+-- The id of a package. The id contains the package's folder and version. If the last part of the
+-- folder is not the package's name, the id also contains the name. Nothing in the id is escaped.
 abbrev pub package_id : Subject → List ℕ
 package_id s =
     if ends_with nat_eq s.folder (codes "/" ++ s.name) then concat (codes "path+file://" ∷ s.folder ∷ codes "#" ∷ s.version ∷ [])
@@ -55,7 +55,7 @@ id_text s = concat (codes "\"package_id\":" ∷ json_string (package_id s) ∷ [
 unfoldable pub subject_object : List ℕ → List ℕ → List ℕ → List ℕ
 subject_object id manifest target = concat (id ∷ codes ",\"manifest_path\":" ∷ manifest ∷ codes ",\"target\":" ∷ target ∷ [])
 
--- the members with which each line of a compiled unit begins, after its reason
+-- the members that follow the reason in each line about a compiled unit
 abbrev pub subject_text : Subject → List ℕ
 subject_text s = subject_object (id_text s) (json_string s.manifest) (target_text s.target)
 
@@ -77,7 +77,7 @@ abbrev pub executable_text : Bool → List ℕ → List ℕ
 executable_text true file = json_string file
 executable_text false file = codes "null"
 
--- the line of a diagnostic, whose text is copied byte for byte
+-- the line of a diagnostic; the text of the diagnostic is copied byte for byte
 abbrev pub diagnostic_line : List ℕ → List ℕ → List ℕ
 diagnostic_line subject text = concat (codes "{\"reason\":\"compiler-message\"," ∷ subject ∷ codes ",\"message\":" ∷ text ∷ codes "}\n" ∷ [])
 
@@ -87,7 +87,7 @@ artifact_object subject profile features file executable fresh = concat (
     codes "{\"reason\":\"compiler-artifact\"," ∷ subject ∷ codes ",\"profile\":" ∷ profile ∷ codes ",\"features\":" ∷ features
     ∷ codes ",\"filenames\":[" ∷ file ∷ codes "],\"executable\":" ∷ executable ∷ codes ",\"fresh\":" ∷ fresh ∷ codes "}\n" ∷ [])
 
--- the line of an artifact; `fresh` is true if no child was started for its unit
+-- the line of an artifact; `fresh` is true if no child was started for the artifact's unit
 abbrev pub artifact_line : List ℕ → Artifact → Bool → List ℕ
 artifact_line subject a fresh = artifact_object subject (profile_text a.settings) (json_texts a.features) (json_string a.file) (executable_text a.is_executable a.file) (truth_text fresh)
 
@@ -113,8 +113,8 @@ executed_object id libraries paths conditions variables folder = concat (
 abbrev pub executed_line : List ℕ → Executed → List ℕ
 executed_line id e = executed_object id (json_texts e.linked_libraries) (json_texts e.linked_paths) (json_texts e.conditions) (json_pairs e.variables) (json_string e.out_folder)
 
--- The line of a message. `id` and `subject` are members that describe the message's unit; the line
--- may begin with one of them. `fresh` is true if no child was started for the unit.
+-- The line of a message. `id` and `subject` are members that describe the message's unit; one of
+-- the two follows the reason in the line. `fresh` is true if no child was started for the unit.
 abbrev pub line_from : List ℕ → List ℕ → Bool → Message → List ℕ
 line_from id subject fresh (message.CompilerMessage text) = diagnostic_line subject text
 line_from id subject fresh (message.CompilerArtifact artifact) = artifact_line subject artifact fresh
@@ -134,6 +134,6 @@ line_of s fresh m = line_from (id_text s) (subject_text s) fresh m
 abbrev pub lines_of : Subject → Bool → List Message → List ℕ
 lines_of s fresh ms = lines_from (id_text s) (subject_text s) fresh ms
 
--- the last line of a build
+-- the last line of a build, which says whether the build succeeded
 abbrev pub finish_line : Bool → List ℕ
 finish_line success = codes "{\"reason\":\"build-finished\",\"success\":" ++ truth_text success ++ codes "}\n"

@@ -5,7 +5,7 @@ use Rattle.pb_manifest_types.specs.declared.package.Edition.{Edition}
 use Rattle.pb_manifest_types.specs.declared.target.CrateType.{CrateType}
 use Rattle.pb_message.specs.declared.subject.Target.{Target}
 
--- the target of a library; its kinds are its crate types
+-- the target of a library; the target's kinds are the library's crate types
 abbrev pub library_target : List CrateType → List ℕ → List ℕ → Edition → Target
 library_target types name source edition = record { kinds = crate_type_texts types; crate_types = crate_type_texts types; name = name; source = source; edition = edition; required_features = [] }
 

@@ -415,7 +415,7 @@ fn push_lines(
 }
 
 /// Returns the line of a message, with its line feed. `fresh` is true if no child was started for
-/// its unit.
+/// the message's unit.
 ///
 /// Errors: out of memory only.
 pub fn line_of(
@@ -441,7 +441,7 @@ pub fn line_of(
 }
 
 /// Returns the lines of messages, one after another. `fresh` is true if no child was started for
-/// their unit.
+/// the messages' unit.
 ///
 /// Errors: out of memory only.
 pub fn lines_of(

@@ -16,9 +16,9 @@ pub enum Level {
 /// A file that a compile made.
 #[derive(Drop)]
 pub struct Artifact {
-    /// The settings under which it was compiled.
+    /// The settings under which the file was compiled.
     pub settings: Settings,
-    /// Those features of its package that are on, in byte order.
+    /// Those features of the file's package that are on, in byte order.
     pub features: Items<Text>,
     /// The file.
     pub file: PathText,
@@ -48,7 +48,8 @@ pub enum Message {
     CompilerMessage(Text),
     /// A compile succeeded and made this artifact.
     CompilerArtifact(Artifact),
-    /// A build script printed a note for its user. This reason is our own choice.
+    /// A build script printed a note for its user. The reason `build-script-note` is our own
+    /// choice.
     BuildScriptNote(Level, Text),
     /// A build script succeeded and passed this to the compiler.
     BuildScriptExecuted(Executed),

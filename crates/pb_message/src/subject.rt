@@ -12,10 +12,10 @@ use std::alloc::{AllocError, Global};
 /// A target of a package, as message lines describe it (The Cargo Book, External Tools).
 #[derive(Drop)]
 pub struct Target {
-    /// Its kinds: a library's crate types, `bin`, or `custom-build` for a script.
+    /// The target's kinds: a library's crate types, `bin`, or `custom-build` for a script.
     pub kinds: Items<Text>,
-    /// The crate types to which it is compiled: the crate types of a library, and `bin` for any
-    /// other target.
+    /// The crate types to which the target is compiled: the crate types of a library, and `bin` for
+    /// any other target.
     pub crate_types: Items<Text>,
     /// A library's crate name, a binary's name, or `build-script-build`.
     pub name: Text,

@@ -14,8 +14,8 @@ pub struct SinkFault;
 /// Writes lines into a sink. After success all bytes are written. After an error a prefix of the
 /// bytes is written, but not all of them.
 ///
-/// Errors: `SinkFault`, if the sink fails, or takes no byte of a write. In this case the number of
-/// the sink's failures has risen, and nothing more is written.
+/// Errors: `SinkFault`, if the sink fails, or takes no byte of a write. After this error the number
+/// of the sink's failures has risen, and nothing more is written.
 pub fn write_lines<O: Out>(out: &mut O, lines: &str) -> Result<(), SinkFault>
     ensures all { OnOk result (Appends (O.heard out.old).taken (O.heard out.new).taken lines.now) }
     ensures whole { OnOk result ((O.heard out.new).faults ≡ (O.heard out.old).faults) }

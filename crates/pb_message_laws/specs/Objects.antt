@@ -1,5 +1,5 @@
--- The JSON object of each message line. There is one form for each reason. The object is written
--- without spaces, followed by a line feed (The Cargo Book, External Tools).
+-- The JSON object of each message line. The form of the object depends on the message's reason. The
+-- object is written without spaces, followed by a line feed (The Cargo Book, External Tools).
 use Rattle.std.specs.Prelude.{◌≡◌, ℕ, Bool, true, false, if◌then◌else◌, codes, List, [], ◌∷◌, ◌++◌, map, Option, Some, None, IfSome}
 use Rattle.std.specs.List.{flat_map, position}
 use Rattle.std.specs.Option.{option_map_or}
@@ -42,8 +42,8 @@ abbrev pub target_of : Target → Data
 target_of t = of_members ((codes "kind", texts t.kinds) ∷ (codes "crate_types", texts t.crate_types) ∷ (codes "name", string t.name) ∷ (codes "src_path", string t.source)
     ∷ (codes "edition", string (edition_text t.edition)) ∷ required t.required_features)
 
--- the setting for debug information: the compiler's own word for it, or a number if this word is a
--- number
+-- the setting for debug information as the compiler spells it: a number for `0`, `1` and `2`, and a
+-- text for any other spelling
 abbrev pub debug_info_of : Word → Data
 debug_info_of w = option_map_or (λ n. number (unsigned n)) (position (bytes_eq (spelled w)) (codes "0" ∷ codes "1" ∷ codes "2" ∷ [])) (string (spelled w))
 
@@ -57,12 +57,13 @@ pairs ps = array (items_of (map (λ (p : List ℕ × List ℕ). texts (p.0 ∷ p
 
 -- The object of a message, one form for each reason.
 
--- the object of a message about a package: its reason, its package, and the members of `more`
+-- the object of a message about a package: the message's reason, the package, and the members of
+-- `more`
 abbrev pub of_package : List ℕ → Subject → List (List ℕ × Data) → Data
 of_package reason s more = of_members ((codes "reason", string reason) ∷ (codes "package_id", string (package_id s)) ∷ more)
 
--- the object of a message about a target of a package: its reason, the package, the target, and the
--- members of `more`
+-- the object of a message about a target of a package: the message's reason, the package, the
+-- target, and the members of `more`
 abbrev pub of_target : List ℕ → Subject → List (List ℕ × Data) → Data
 of_target reason s more = of_package reason s ((codes "manifest_path", string s.manifest) ∷ (codes "target", target_of s.target) ∷ more)
 
@@ -83,16 +84,16 @@ finished success = of_members ((codes "reason", string (codes "build-finished"))
 
 -- The laws.
 
--- The line of a message that is not a diagnostic is the text of the message's object, written
--- without spaces, and a line feed. `EndsAreObjects` says this of the last line of a build.
+-- If a message is not a diagnostic, its line is the text of the message's object, without spaces
+-- and followed by a line feed. `EndsAreObjects` states the same about the last line of a build.
 abbrev pub MessagesAreObjects : Type 0
 MessagesAreObjects = (s : Subject) (fresh : Bool) (m : Message) → IfSome (object_of s fresh m) (λ told. line_of s fresh m ≡ compact_text told ++ line_feed ∷ [])
 
 abbrev pub EndsAreObjects : Type 0
 EndsAreObjects = (success : Bool) → finish_line success ≡ compact_text (finished success) ++ line_feed ∷ []
 
--- The line of a diagnostic is the line of the diagnostic's object. In this line, the value of
--- `message` is the compiler's own text, byte for byte.
+-- The line of a diagnostic is the line of the diagnostic's object. The value of `message` in the
+-- line is the compiler's own text, byte for byte.
 abbrev pub DiagnosticsAreCopied : Type 0
 DiagnosticsAreCopied = (s : Subject) (fresh : Bool) (text : List ℕ)
     → (front : List ℕ) × (line_of s fresh (CompilerMessage text) ≡ front ++ text ++ codes "}\n") × ((message : Data) → compact_text (diagnostic s message) ≡ front ++ compact_text message ++ codes "}")

@@ -1,4 +1,4 @@
--- Laws: each message line is one line.
+-- Laws: each message line has exactly one line feed, which is its last byte.
 use Rattle.std.specs.Prelude.{◌≡◌, ℕ, ◌==◌, Bool, true, false, not, ◌&&◌, List, [], ◌∷◌}
 use Rattle.std.specs.List.{AllByRecursion}
 use Rattle.pb_data.specs.Ascii.{line_feed}
@@ -25,12 +25,12 @@ abbrev pub TellsOneLine : Message → Type 0
 TellsOneLine (CompilerMessage text) = IsOfOneLine text
 TellsOneLine _ = Unit {0}
 
--- The line of a message is one line, whatever package and target it is about. The text of a
--- diagnostic must have no line feed.
+-- The line of a message has exactly one line feed, at its end, whatever package and target the
+-- message is about. The text of a diagnostic must have no line feed.
 abbrev pub MessagesAreLines : Type 0
 MessagesAreLines = (subject : Subject) (fresh : Bool) (message : Message) → TellsOneLine message → is_line (line_of subject fresh message) ≡ true
 
--- the last line of a build is one line
+-- the finish line of a build has exactly one line feed, at its end
 abbrev pub BuildsEndInLine : Type 0
 BuildsEndInLine = (success : Bool) → is_line (finish_line success) ≡ true
 

@@ -1,5 +1,6 @@
-//! Laws of message lines, and of the meaning of a compiler's lines. Each message line is one line,
-//! and is the text of one JSON object with given members (The Cargo Book, External Tools).
+//! Laws of message lines, and of the meaning of a compiler's lines. Each message line ends with its
+//! only line feed, and is the text of one JSON object with given members (The Cargo Book, External
+//! Tools).
 #![tactic(auto)]
 
 ghost use Rattle.pb_message_laws.specs.Objects.{MessagesAreObjects, EndsAreObjects, DiagnosticsAreCopied, LinesFollow};
@@ -21,14 +22,14 @@ pub fn diagnostics_are_lines()
 {}
 
 /// A law: if two messages of the same package and target have the same line, the messages are of
-/// the same kind. If they are diagnostics or notes, the messages are equal. For artifacts and
+/// the same kind. If the two messages are diagnostics or notes, they are equal. For artifacts and
 /// executed scripts we promise no more, since the lines of these messages contain less than the
 /// messages.
 pub fn lines_tell_messages()
     ensures { LinesTellMessages }
 {}
 
-/// A law: each message line is the text of one object without spaces, with these members in this
+/// A law: each message line is the text of one object without spaces, with fixed members in a fixed
 /// order, and a line feed. A compiler's diagnostic is copied byte for byte as the member `message`.
 pub fn lines_are_objects()
     ensures messages { MessagesAreObjects }

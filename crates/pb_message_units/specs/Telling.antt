@@ -42,7 +42,7 @@ abbrev pub script_of : Package → Option (List ℕ) → Option Target
 script_of p None = None
 script_of p (Some source) = Some (script_target source p.edition)
 
--- the target of a package that a unit of this kind compiles or runs, if the package has it
+-- the target that a unit of this kind compiles or runs, if the package has such a target
 abbrev pub target_of : Package → What → Option Target
 target_of p Lib = library_of p p.library
 target_of p (Bin name) = binary_of p (find (λ b. bytes_eq name b.name) p.binaries)
@@ -118,14 +118,14 @@ abbrev pub good_messages : Project → Planned → List ℕ → Option (List Dir
 good_messages project u stderr None = compiler_messages stderr ++ artifacts project u (made_file_of project u)
 good_messages project u stderr (Some directives) = filter_map note_in directives ++ (executed u directives ∷ [])
 
--- The unit is a compile, and no stream of its child is too long. If so, the diagnostics of the bad
--- unit are reported.
+-- The diagnostics of a bad unit are reported if and only if the unit is a compile and no stream of
+-- the unit's child is too long.
 abbrev pub gives_diagnostics : What → UnitFault → Bool
 gives_diagnostics Run e = false
 gives_diagnostics w fault.OutputTooLong = false
 gives_diagnostics w e = true
 
--- the messages for a script's notes, or no messages if its output cannot be read
+-- the messages for a script's notes, or no messages if the script's output cannot be read
 abbrev pub notes_in : Result (List Directive) LineFault → List Message
 notes_in (Ok directives) = filter_map note_in directives
 notes_in (Err e) = []
@@ -142,7 +142,7 @@ bad_messages w e ended =
     if is_script_error e then notes_in (directives_of ended.stdout)
     else (if gives_diagnostics w e then compiler_messages ended.stderr else [])
 
--- What the child of a bad unit wrote, apart from what its messages contain.
+-- What the child of a bad unit wrote, apart from what the unit's messages contain.
 -- - If a stream is too long, this is nothing.
 -- - For a script that reported an error, it is the standard error; for any other script, both
 --   streams.

@@ -308,7 +308,7 @@ pub fn bad_messages(
     }
 }
 
-/// Returns two streams, one after the other.
+/// Returns both streams of a child, one after the other.
 fn both(alloc: Global, ended: &Ended) -> Result<Bytes, AllocError>
     ensures { IfOk result (λ said. said ≡ ended.now.stdout ++ ended.now.stderr) }
 {

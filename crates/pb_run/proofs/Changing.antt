@@ -18,7 +18,7 @@ use Rattle.pb_run.proofs.Writes.{none_changed, record_only, stays_apart, unkept_
 use Rattle.pb_store_soundness.specs.Apart.{is_of}
 use Rattle.pb_store_soundness.specs.Records.{out_of, record_path}
 
--- what is said of a record's index, by the folder and the key as they are named
+-- what is said of a record's path, by the folder and the key as they are named
 pub at_record : (Said : List ℕ → Type 0) (folder root key k : List ℕ) → folder ≡ root → key ≡ k → Said (record_path folder key) → Said (record_path root k)
 at_record Said folder root key k is its said = subst (λ f. Said (record_path f k)) is (subst (λ x. Said (record_path folder x)) its said)
 
@@ -37,7 +37,7 @@ module _ {T : Type 0} (Goes : T → Starts → Starts → Type 0) (May : StepFau
     takes = takes;
   }
 
-  -- or the record's index
+  -- or the record's path
   pub changes_record : (folder key : List ℕ) (old mid new : At) → mid.world ≡ old.world → KeepsStill old.still mid.still → mid.counts.starts ≡ old.counts.starts → ChangesOnly (is_at_or_below (record_path folder key)) mid.world new.world
       → KeepsStillOutside (is_at_or_below (record_path folder key)) mid.counts.starts.flying mid.still new.still → new.counts.starts ≡ mid.counts.starts → StepTakes Goes May result old.counts new.counts → ChangesUnit folder key None Goes May result old new
   changes_record folder key old mid new same keeps starts only holds later takes = record {
@@ -59,7 +59,7 @@ module _ {T : Type 0} (Goes : T → Starts → Starts → Type 0) (May : StepFau
     takes = takes;
   }
 
-  -- the record's index and the folder, before a child is spawned
+  -- the record's path and the folder, before a child is spawned
   pub changes_launched : (folder key out : List ℕ) (old mid new : At) → out ≡ out_of folder key → ChangesOnly (is_at_or_below (record_path folder key)) old.world mid.world
       → KeepsStillOutside (is_at_or_below (record_path folder key)) old.counts.starts.flying old.still mid.still → mid.counts.starts ≡ old.counts.starts → ChangesOnly (is_at_or_below out) mid.world new.world
       → KeepsStillOutside (is_at_or_below out) mid.counts.starts.flying mid.still new.still → ((t : ℕ) (f : ChildInFlight) → child_at t mid.counts.starts.flying ≡ Some f → child_at t new.counts.starts.flying ≡ Some f)

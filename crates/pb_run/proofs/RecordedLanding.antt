@@ -164,7 +164,7 @@ module _ (b : BuildContext) (order : IsInOrder b.project) (index : ℕ) (u : Pla
         }
     kept_record NoRecords number names ended holds waits stands = tt
 
-    -- what others find in its index
+    -- what others find at its path
     pub left_kept : (premise : Premise) (number : ℕ) (inputs : List Input) (ended : Ended) → AwaitsBy premise b u number next w
         → Leaves (Some (kept_of Folder u.key begun.command inputs number (numbered (records_in b w1) (needed_keys b.project u)) ended)) (records_in b w1 u.key) (records_in b w2 u.key)
         → IfRecords premise (Left (records_in b w) (records_in b w2) u.key (Some number))

@@ -55,7 +55,7 @@ pub if_records : (premise : Premise) (Fact : Type 0) → Fact → IfRecords prem
 if_records TrustedRecords Fact fact = fact
 if_records NoRecords Fact fact = tt
 
--- what became of the record in a unit's index: none counts; it is as it was; or it is one with this number, over units that stand
+-- what became of the record at a unit's path: none counts; it is as it was; or it is one with this number, over units that stand
 pub data Left (old new : RecordMap) (key : List ℕ) (number : Option ℕ) : Type 0 where
   vanished : new key ≡ None → Left old new key number
   as_before : new key ≡ old key → Left old new key number

@@ -197,7 +197,7 @@ module _ (b : BuildContext) (order : IsInOrder b.project) (index : ℕ) (u : Pla
         record_by holds r same (number_of r) refl next refl (stands ∙ ap (migrated next (numbered (records_in b w) (needed_keys b.project u))) same.stands) numbered_now
     migrated_record NoRecords holds same stands numbered_now = tt
 
-    -- what others find in its index
+    -- what others find at its path
     left_by : HoldsRecords b states next w → (r : Record) → IsSame reading Folder u.key begun.command w r → (has : Option ℕ) → number_of r ≡ has → (given : Option ℕ) → next ≡ given
         → records_in b w' u.key ≡ migrated_by has given (numbered (records_in b w) (needed_keys b.project u)) r → Left (records_in b w) (records_in b w') u.key next
     left_by holds r same (Some n) is given next_is stands = as_before (stands ∙ sym same.stands)

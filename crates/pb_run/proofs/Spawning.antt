@@ -52,7 +52,7 @@ pub still_join : (inside : List ℕ → Bool) (flying next : List ChildInFlight)
 still_join inside flying next before mid after same first second ticket stands stood =
     second ticket (λ v w only. subst (λ fs. StandsStill ticket fs v w) (sym same) (stands v w only)) (first ticket stands stood)
 
--- a unit's folder and its record's index are paths of it
+-- a unit's folder and its record's path are paths of it
 or_first : (a b : Bool) → a || b ≡ false → a ≡ false
 or_first true b h = absurd (false≢true (sym h))
 or_first false b h = refl

@@ -15,16 +15,15 @@ use Rattle.pb_workspace_types.specs.declared.package.Package.{Package}
 use Rattle.pb_command_types.specs.declared.project.Project.{Project}
 use Rattle.pb_command_types.specs.declared.project.Setup.{Setup}
 
--- the command is one that the unit has for some setup and some directives
+-- the unit has this command for some setup and some directives
 abbrev pub IsCommandOf : Project → Planned → Command → Type 0
 IsCommandOf project u c = (setup : Setup) × (done : List (Option (List Directive))) × (c ≡ command_of setup project u done)
 
--- the folder of the records of a project's units, which is the profile's folder in the target
--- folder
+-- the folder of a project's records: the profile's folder in the target folder
 abbrev pub records_folder : Project → List ℕ
 records_folder project = profile_folder project.workspace project.profile
 
--- this unit needs a unit that has the output folder `f`, or that reads the folder `f`
+-- this unit needs a unit whose output folder is `f`, or a unit that reads the folder `f`
 pub record IsReadByNeed (project : Project) (u : Planned) (f : List ℕ) : Type 0 where
   pub index : ℕ
   pub needed : Contains u.needs index
@@ -33,8 +32,8 @@ pub record IsReadByNeed (project : Project) (u : Planned) (f : List ℕ) : Type 
   pub own_or_read : (f ≡ need.out) ⊎ Contains (reads_of project need) f
 
 -- What a build requires of a project. The workspace is settled, and the plan is a plan of this
--- workspace. The other fields follow from these two. Those fields are about the units: their
--- packages, order, folders and keys, and what they need and read.
+-- workspace. The other fields follow from `settled` and `planned`. They are about the units'
+-- packages, order, folders and keys, and about what units need and read.
 pub record IsInOrder (project : Project) : Type 0 where
   pub settled : IsSettled project.workspace
   pub selection : Selection

@@ -1,5 +1,5 @@
--- How units come to their outcomes, one by one. The outcome of each unit follows from those of the
--- units before it.
+-- How units come to their outcomes, one by one. The outcome of each unit follows from the outcomes
+-- of the units before it.
 use Rattle.std.specs.Prelude.{ℕ, Bool, true, false, if◌then◌else◌, List, [], ◌∷◌, ◌++◌, map, Option, Some, None, Result, Ok, Err, slice_get, ◌≡◌, take}
 use Rattle.std.specs.FinMap as finite
 use Rattle.std.specs.List.{list_all}
@@ -42,8 +42,8 @@ abbrev pub is_good_at : Option Outcome → Bool
 is_good_at None = false
 is_good_at (Some o) = is_good o
 
--- A table with an entry for each unit. Each entry is made from the entries before it, and appended
--- to them. `tabled` is the whole table.
+-- A table with an entry for each unit. Each entry is made from the earlier entries, and appended to
+-- these. `tabled` is the whole table.
 abbrev pub tabled_from : {U A : Type 0} → (List A → U → A) → List A → List U → List A
 tabled_from step done [] = done
 tabled_from step done (u ∷ us) = tabled_from step (done ++ step done u ∷ []) us
@@ -57,12 +57,12 @@ abbrev pub files_at : Option Outcome → Map
 files_at (Some (Good files directives messages)) = files
 files_at _ = finite.empty
 
--- the files of `m`, overlaid with those of the units at these indices
+-- the files of `m`, overlaid with the files of the units at these indices
 abbrev pub with_made : List Outcome → List ℕ → Map → Map
 with_made done [] m = m
 with_made done (index ∷ indices) m = over (files_at (slice_get done index)) (with_made done indices m)
 
--- what a unit sees in a clean build: the sources, with the files of each unit that it reaches
+-- what a unit sees in a clean build: the sources, and the files of each unit that this unit reaches
 abbrev pub view_of : List Outcome → World → Planned → World
 view_of done sources u = record sources { files = with_made done u.reaches sources.files }
 
@@ -117,9 +117,9 @@ directives_of done = map directives_in done
 abbrev pub command_after : Setup → Project → List Outcome → Planned → Command
 command_after setup project done u = command_of setup project u (directives_of done)
 
--- The outcome of a unit, given those of the units before it. If this unit needs a unit that is not
--- good, the outcome is `Waiting`. Otherwise the child replies to the unit's command in the unit's
--- view, and the outcome is the judgement of this reply.
+-- The outcome of a unit, given the outcomes of the units before it. If this unit needs a unit that
+-- is not good, the outcome is `Waiting`. Otherwise the child replies to the unit's command in the
+-- unit's view, and the outcome is the judgement of this reply.
 abbrev pub outcome_of : Answers → Setup → Project → World → List Outcome → Planned → Outcome
 outcome_of child setup project sources done u =
     if list_all (λ index. is_good_at (slice_get done index)) u.needs then judged project u (command_after setup project done u) (child (command_after setup project done u) (view_of done sources u)) else Waiting

@@ -54,9 +54,9 @@ use Rattle.pb_store.specs.declared.store.Store.{Store}
 use Rattle.pb_unit.specs.declared.plan.Planned.{Planned}
 use Rattle.pb_message_units.specs.Telling.{unit_lines}
 
--- A child is in flight. The world in which it was spawned differs from the old world only at these
--- paths. The child's output folder was empty at that moment. What the child sees has not changed
--- since then.
+-- A child is in flight. The world in which the child was spawned differs from the old world only at
+-- these paths. The child's output folder was empty at the spawn. What the child sees has not
+-- changed since the spawn.
 pub record IsSpawned (inside : List ℕ → Bool) (child : Answers) (c : Command) (old : World) (ticket : ℕ) (flying : List ChildInFlight) (still : ℕ → Type 0) : Type 0 where
   pub spawned : World
   pub only : ChangesOnly inside old spawned
@@ -75,16 +75,16 @@ Calls Makes Ends result old new = MatchResult result (λ x. Makes x old new) (λ
 abbrev pub OneCall : {T : Type 0} → T → Counts → Counts → Type 0
 OneCall x old new = new ≡ past_call old
 
--- The one call of the step, which removes this path, failed with this fault. If memory ran out, the
--- call may have been made.
+-- A step whose one call removes this path ended with this fault. If memory ran out, the call may or
+-- may not have been made.
 abbrev pub RemovalEnds : List ℕ → StepFault → Counts → Counts → Type 0
 RemovalEnds path (step.Store (store.Place fault)) old new = Fails fault (call.Remove path) old new
 RemovalEnds path (step.Store store.NumbersSpent) old new = ⊥
 RemovalEnds path (step.Store store.OutOfMemory) old new = (new ≡ old) ⊎ (new ≡ past_call old)
 RemovalEnds path (step.Start fault) old new = ⊥
 
--- How a step ended with this fault. The step needs a run number and removes a record. If no number
--- is left, no call was made. Any other fault is one of `RemovalEnds`.
+-- A step that takes a run number and removes a record ended with this fault. If no number was left,
+-- no call was made. Any other fault is as in `RemovalEnds`.
 abbrev pub DropEnds : List ℕ → StepFault → Counts → Counts → Type 0
 DropEnds path (step.Store store.NumbersSpent) old new = new ≡ old
 DropEnds path e old new = RemovalEnds path e old new
@@ -94,8 +94,8 @@ pub record Spawns (child : Answers) (c : Command) (ticket : ℕ) (old new : Coun
   pub spawned : World
   pub counted : new ≡ counted_spawn (child_spawned (child c) c spawned) (Ok ticket) old
 
--- The spawn failed with this fault, and counts as one start. If memory ran out, the spawn may have
--- been made.
+-- A spawn ended with this fault. A failed spawn counts as one start. If memory ran out, the spawn
+-- may or may not have been made.
 abbrev pub SpawnStops : StepFault → Counts → Counts → Type 0
 SpawnStops (step.Store (store.Place fault)) old new = ⊥
 SpawnStops (step.Store store.NumbersSpent) old new = ⊥
@@ -109,32 +109,33 @@ abbrev pub SpawnsAnew : Answers → Command → ℕ → Counts → Counts → Ty
 SpawnsAnew child c ticket old new = Spawns child c ticket (past_call old) new
 
 -- Two calls removed the record and the files of the output folder, and then the child was spawned.
--- `LaunchEnds` says which of these calls were made if a call failed, and so it shows their order.
+-- `LaunchEnds` says which of these calls were made if one of them failed, and so shows their order.
 abbrev pub Launches : Answers → Command → ℕ → Counts → Counts → Type 0
 Launches child c ticket old new = SpawnsAnew child c ticket (past_call old) new
 
--- The step failed at one of two calls. The first removes the files of the output folder, and the
--- second spawns the child.
+-- The step failed at one of two calls. The first call removes the files of the output folder, and
+-- the second call spawns the child.
 abbrev pub AnewEnds : List ℕ → StepFault → Counts → Counts → Type 0
 AnewEnds folder e old new = RemovalEnds folder e old new ⊎ SpawnStops e (past_call old) new
 
--- The step failed at one of three calls. The first removes the record at this path, the second
+-- The step failed at one of three calls. The first call removes the record at this path, the second
 -- removes the files of the output folder, and the third spawns the child.
 abbrev pub LaunchEnds : List ℕ → List ℕ → StepFault → Counts → Counts → Type 0
 LaunchEnds path folder e old new = DropEnds path e old new ⊎ AnewEnds folder e (past_call old) new
 
 -- What the steps do to records.
 
--- What dropping a unit's record guarantees. After a success the record is gone. After a fault it is
--- gone or unchanged. The folder of records stays sound, and the next number stays above all others.
+-- What a step guarantees if it drops the record of a unit. After a success the record is gone.
+-- After a fault the record is gone or unchanged. The folder of records stays sound, and the next
+-- run number stays above all numbers in the records.
 pub record DropsFor {T : Type 0} (child : Answers) (folder key : List ℕ) (result : Result T StepFault) (before now : Option ℕ) (old new : World) : Type 0 where
   pub sound : (judge : Judge) → Sound reading judge child folder old.files → Sound reading judge child folder new.files
   pub stands : MatchResult result (λ x. records folder new key ≡ None) (λ e. Leaves None (records folder old key) (records folder new key))
   pub ahead : IsAhead (records folder old) before → IsAhead (records folder new) now
 
 -- The child of this ticket has ended with this answer. The child is no longer in flight, and a
--- failed wait is counted. Only the child's output folder changed. If the ticket stood still until
--- then, the child left exactly what was determined at the spawn.
+-- failed wait is counted. Only the child's output folder changed. If the ticket stood still to the
+-- child's end, the child left exactly what was determined at the spawn.
 pub record HasEnded (ticket : ℕ) (answer : Result Ended StartFault) (well stood : Type 0) (before after : World) (old new : Counts) : Type 0 where
   pub counted : new ≡ counted_finish ticket answer old
   pub answered : well → IsOk answer
@@ -147,7 +148,7 @@ abbrev pub EndsBy : Awaited → Result Ended StartFault → Type 0 → (ℕ → 
 EndsBy (awaited.Child launched) answer well still before after old new = HasEnded launched.ticket answer well (still launched.ticket) before after old new
 EndsBy (awaited.Record again) answer well still before after old new = (after ≡ before) × (new ≡ old) × (answer ≡ Ok again.ended)
 
--- what came of a unit; if it had no child, it is marked as not started
+-- what came of a unit; a unit without a child is marked as not started
 abbrev pub ran_from : Awaited → Ran → Ran
 ran_from (awaited.Child launched) ran = ran
 ran_from (awaited.Record again) ran = unstarted ran
@@ -156,21 +157,22 @@ ran_from (awaited.Record again) ran = unstarted ran
 abbrev pub IsJudged : Project → Planned → Command → Awaited → Ended → World → Ran → Type 0
 IsJudged project u c by ended w ran = ran ≡ ran_from by (ran_of project u c ended w.files)
 
--- The record that a good unit has afterwards.
+-- The record that a good unit has after its answer.
 
--- the names of the inputs in the answer of a child that ended in this way and left these files
+-- the names of the inputs in a child's answer, given how the child ended and which files it left
 abbrev pub names_of : Project → Planned → Command → Ended → Map → List InputName
 names_of project u c ended files = names_in (answered_of project u c ended (file_at (dep_info_of project u) files))
 
--- The record of a child's answer. The record has the command, the inputs with their values in this
--- world, and the run number. It also has the needed units with their numbers, and the child's
--- streams.
+-- The record of a child's answer. The record has the command, the run number, and the inputs with
+-- the values that they have in this world. The record also has the needed units with their run
+-- numbers, and the child's streams.
 abbrev pub record_of : Project → Planned → Command → ℕ → Ended → World → Record
 record_of project u c number ended w =
     kept_of (records_folder project) u.key c (map (input_in c.target w) (names_of project u c ended w.files)) number (numbered (records (records_folder project) w) (needed_keys project u)) ended
 
 -- The record of a unit after its answer. If the unit had a child, this is the record of the child's
--- answer. If not, this is the old record. An old record without a number gets the next number.
+-- answer. Otherwise this is the old record. An old record without a run number gets the next
+-- number.
 abbrev pub record_left : Project → Planned → Command → Awaited → Ended → Option ℕ → World → Option Record
 record_left project u c (awaited.Child launched) ended next w = Some (record_of project u c launched.number ended w)
 record_left project u c (awaited.Record again) ended next w =
@@ -189,7 +191,7 @@ dep_info_looked None = []
 dep_info_looked (Some path) = call.Read path ∷ []
 
 -- The calls that write a unit's record after its answer. If the unit has a child, these calls keep
--- a new record. If not, these calls give the old record a run number, provided that it lacks one.
+-- a new record. Without a child, these calls give a run number to an old record that lacks one.
 abbrev pub recorded_called : Project → Planned → Command → World → List InputName → Awaited → List Call
 recorded_called project u c w names (awaited.Child launched) = kept_called (records_folder project) u.key c.target w names
 recorded_called project u c w names (awaited.Record again) = if again.numbered then [] else migrated_called (records_folder project) u.key w
@@ -198,15 +200,15 @@ recorded_called project u c w names (awaited.Record again) = if again.numbered t
 abbrev pub judged_called : Project → Planned → Command → World → Awaited → Validated → List Call
 judged_called project u c w by j = if is_some j.ran.bad then [] else recorded_called project u c w j.names by
 
--- The calls after the end of a unit's child. The dep-info is read first. The other calls depend on
--- how the answer is judged.
+-- The calls after the end of a unit's child. The dep-info is read first. The calls after that
+-- depend on how the answer is judged.
 abbrev pub answered_called : Project → Planned → Command → World → Awaited → Ended → List Call
 answered_called project u c w by ended =
     dep_info_looked (dep_info_of project u) ++ judged_called project u c w by (judgement_by project u ended (answered_of project u c ended (file_at (dep_info_of project u) w.files)))
 
 -- If there is an answer, these calls were made in this order, up to the first that failed. Only the
--- replay of a record can fail because no run number is left. If the child gave no answer, no call
--- was made, and the fault is the child's.
+-- replay of a record can fail because no run number is left. If the child gave no answer, no
+-- further call was made, and the fault is the child's fault.
 abbrev pub CallsBehind : {T : Type 0} → Awaited → (Ended → List Call) → Result Ended StartFault → Result T StepFault → Counts → Counts → Type 0
 CallsBehind (awaited.Child launched) calls (Ok ended) result old new = StepMakes result (calls ended) old new
 CallsBehind (awaited.Record again) calls (Ok ended) result old new = NumbersInTurn result (calls ended) old new
@@ -229,18 +231,20 @@ pub record BeginsUnit (is_modelled : Bool) (child : Answers) (project : Project)
   -- `begun` has the unit's key and its command
   pub unit : begun.unit ≡ u.key
   pub asks : begun.command ≡ c
-  -- if the place is modelled, the reported difference is the first one
+  -- if the place is modelled, the reported difference is the first difference
   pub differs : IsTrue is_modelled → FirstDifference (records_folder project) u.key begun.command old.world begun.difference
   pub spawned : is_some (child_of begun) ≡ is_some begun.difference
-  -- If there is a child, it has the next run number, is counted as in flight, and writes into the
-  -- unit's folder. When it was spawned, this folder was empty and no record counted for the unit.
+  -- If there is a child, the child has the next run number, is counted as in flight, and writes
+  -- into the unit's folder. When the child was spawned, this folder was empty and no record counted
+  -- for the unit.
   pub number : MatchOption (child_of begun) (now.next ≡ before.next) (λ launched. (before.next ≡ Some launched.number) × (now.next ≡ after launched.number))
   pub most : MatchOption (child_of begun) (new.most ≡ old.most) (λ launched. new.most ≡ max old.most (length old.counts.starts.flying + 1))
   pub writes : WritesTo u.out (child_of begun) new.counts.starts.flying
   pub launched : IsTrue is_modelled → IfSome (child_of begun) (λ launched. IsSpawned (is_of (records_folder project) u.key) child begun.command old.world launched.ticket new.counts.starts.flying new.still)
   pub dropped : IsTrue is_modelled → IsSome (child_of begun) → records (records_folder project) new.world u.key ≡ None
   pub launches : IsTrue is_modelled → IfSome (child_of begun) (λ launched. Launches child begun.command launched.ticket (past_look project u begun.command old.world old.counts) new.counts)
-  -- if there is no child, nothing has changed, and no call came after the comparison
+  -- if there is no child, nothing has changed, and no call came after the comparison with the
+  -- record
   pub same : child_of begun ≡ None → new.world ≡ old.world
   pub looks : IsTrue is_modelled → child_of begun ≡ None → new.counts ≡ past_look project u begun.command old.world old.counts
   pub carries : IsTrue is_modelled → GivesRecord (records (records_folder project) old.world u.key) begun.awaited
@@ -252,7 +256,8 @@ StopsToBegin project u c fault w old new = StepStopsAt fault (unit_looks project
 
 pub record FailsToBegin (is_modelled : Bool) (project : Project) (u : Planned) (c : Command) (old new : At) (e : StepFault) : Type 0 where
   pub stops : IsTrue is_modelled → StopsToBegin project u c e old.world old.counts new.counts
-  -- if a call of the launch failed, if anything changed, or if a spawn was tried, something differs
+  -- if a call of the launch failed, if anything changed, or if a spawn was tried, something
+  -- differed from the unit's record
   pub cause : IsTrue is_modelled → starts e ≡ true → Differs project u c old.world
   pub spared : IsTrue is_modelled → (new.world ≡ old.world) ⊎ Differs project u c old.world
   pub tried : IsTrue is_modelled → (new.counts.starts ≡ old.counts.starts) ⊎ Differs project u c old.world
@@ -268,7 +273,7 @@ pub record BeginsBuild (b : BuildContext) (done : List (Option (List Directive))
 
 -- What a step guarantees as a whole.
 
--- What a step does to the store. The folder stays the same. The next number is unchanged or was
+-- What a step does to the store. The folder stays the same. The next run number is unchanged or was
 -- taken. After a success the store has the numbers of the records.
 pub record KeepsStore {T : Type 0} (is_modelled : Bool) (result : Result T StepFault) (before now : Store) (new : At) : Type 0 where
   pub folder : now.folder ≡ before.folder
@@ -276,8 +281,8 @@ pub record KeepsStore {T : Type 0} (is_modelled : Bool) (result : Result T StepF
   pub numbers : IsTrue is_modelled → OnOk result (HasNumbers (records before.folder new.world) now.numbers)
 
 -- Only this unit's folder and record change. All children in flight, except the child `ended`, stay
--- in flight. Such a child stands still unless a change at these paths touches what it sees. At most
--- one call failed, and no call came after it.
+-- in flight. Such a child's ticket stands still unless a change at these paths touches what the
+-- child sees. At most one call failed, and no call came after it.
 pub record ChangesUnit {T : Type 0} (folder key : List ℕ) (ended : Option SpawnedChild) (Goes : T → Starts → Starts → Type 0) (May : StepFault → Starts → Starts → Type 0) (result : Result T StepFault) (old new : At) : Type 0 where
   pub only : ChangesOnly (is_of folder key) old.world new.world
   pub still : KeepsOthersStill ended (is_of folder key) old.counts.starts.flying old.still new.still
@@ -293,7 +298,7 @@ pub record IsOf (project : Project) (u : Planned) (begun : Begun) : Type 0 where
   pub unit : begun.unit ≡ u.key
   pub asks : IsCommandOf project u begun.command
 
--- The answer has come. At that moment `Then` was true of the world and the counters.
+-- The answer has come. When it came, `Then` was true of the world and the counters.
 pub record AnswersThen (by : Awaited) (answer : Result Ended StartFault) (well : Type 0) (old : At) (Then : World → Counts → Type 0) : Type 0 where
   pub world : World
   pub counts : Counts
@@ -314,8 +319,8 @@ pub record AnswersUnit (is_modelled : Bool) (project : Project) (u : Planned) (b
   -- if the unit is good and its record had no number, the next number is taken
   pub taken : IsTrue is_modelled → awaits_number begun.awaited ≡ true → lacks_number (records (records_folder project) old.world u.key) ≡ true → is_some ran.bad ≡ false → TakesNext before.next now.next
 
--- Whether the step succeeds or fails, only these calls were made after the answer. The calls
--- changed only the unit's record.
+-- Whether the step succeeds or fails, only the calls of `answered_called` were made after the
+-- answer came. These calls changed only the unit's record.
 pub record EndsUnit {T : Type 0} (is_modelled : Bool) (project : Project) (u : Planned) (begun : Begun) (result : Result T StepFault) (before now : Store) (old new : At) : Type 0 where
   pub lands : IsTrue is_modelled → (answer : Result Ended StartFault) × AnswersThen begun.awaited answer (IsOk result) old (λ w counts.
       ChangesOnly (is_at_or_below (record_path (records_folder project) u.key)) w new.world × CallsBehind begun.awaited (answered_called project u begun.command w begun.awaited) answer result counts new.counts)

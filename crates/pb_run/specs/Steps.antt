@@ -49,7 +49,7 @@ abbrev pub bare : {T : Type 0} → Result T BuildFault → Result T StepFault
 bare (Ok x) = Ok x
 bare (Err e) = Err (fault_in e)
 
--- the fault names this unit, or it is out of memory
+-- the fault names this unit, or memory ran out
 abbrev pub IsOfUnit : List ℕ → BuildFault → Type 0
 IsOfUnit key (Device unit fault) = unit ≡ key
 IsOfUnit key build.OutOfMemory = Unit {0}
@@ -62,7 +62,7 @@ abbrev pub device_fault : List ℕ → PlaceFault → BuildFault
 device_fault unit place.OutOfMemory = build.OutOfMemory
 device_fault unit fault = Device unit (device.Place fault)
 
--- no child was started, and none has ended
+-- no child was started, and no child has ended
 abbrev pub NoStart : {T : Type 0} → T → Starts → Starts → Type 0
 NoStart x old new = new ≡ old
 
@@ -95,21 +95,21 @@ Drops (Some launched) old new = (result : Result Ended StartFault) × (new ≡ c
 
 -- Calls on files and variables that are made one after the other.
 
--- This fault of a build ended these calls. Either one of the calls failed; then all calls before it
--- succeeded, and no call came after it. Or memory ran out after the first n calls. No other fault
--- is possible.
+-- How these calls ended with this fault of a build. Either one of the calls failed; then all calls
+-- before it succeeded, and no call came after it. Or memory ran out after the first n calls. No
+-- other fault is possible.
 abbrev pub StopsAt : BuildFault → List Call → Counts → Counts → Type 0
 StopsAt (Device unit (device.Place fault)) calls old new = FailsAt fault calls old new
 StopsAt build.OutOfMemory calls old new = MakesSome calls old new
 StopsAt e calls old new = ⊥
 
--- After a success exactly these calls were made. After a fault, the calls stopped at one of them.
--- Each call may fail with its own fault, so the counters determine the order of the calls.
+-- After a success exactly these calls were made. After a fault, the calls stopped at one of these
+-- calls. Each call may fail with its own fault, so the counters determine the order of the calls.
 abbrev pub MakesInTurn : {T : Type 0} → Result T BuildFault → List Call → Counts → Counts → Type 0
 MakesInTurn result calls old new = MatchResult result (λ x. new ≡ past_calls calls old) (λ e. StopsAt e calls old new)
 
--- The cause of a step's fault. If a call failed, it had this fault, and no call came after it. If
--- no number was left, or memory ran out, no call failed.
+-- The cause of a step's fault. If a call failed, the call had this fault, and no later call was
+-- made. If no number was left, or memory ran out, no call failed.
 abbrev pub StepCause : StepFault → Counts → Counts → Type 0
 StepCause (step.Store (store.Place fault)) old new = FailedLast (Called fault) old new
 StepCause (step.Store store.NumbersSpent) old new = new.failures ≡ old.failures
@@ -123,8 +123,8 @@ abbrev pub StepTakes : {T : Type 0} → (T → Starts → Starts → Type 0) →
 StepTakes Goes May result old new = MatchResult result (λ x. (new.failures ≡ old.failures) × Goes x old.starts new.starts) (λ e. May e old.starts new.starts × StepCause e old new)
 
 -- The faults with which a unit may fail to begin, and how the starts change with each. If a spawn
--- was tried, one more start is counted. Otherwise the starts are unchanged. No further child is in
--- flight.
+-- was tried, one more start is counted. Otherwise the starts are unchanged. None of these faults
+-- leaves a new child in flight.
 abbrev pub BeginFaults : Option ℕ → StepFault → Starts → Starts → Type 0
 BeginFaults next (step.Store (store.Place fault)) old new = (fault ≢ place.Write) × (new ≡ old)
 BeginFaults next (step.Store store.NumbersSpent) old new = (next ≡ None) × (new ≡ old)
@@ -138,8 +138,8 @@ MayRemove (step.Store store.NumbersSpent) old new = ⊥
 MayRemove (step.Store store.OutOfMemory) old new = new ≡ old
 MayRemove (step.Start fault) old new = ⊥
 
--- A unit makes calls after its child's end, or without a child. These are the faults with which
--- those calls may fail. The calls read and write files, list folders and read variables.
+-- The faults of the calls that a unit makes after its child's end, or without a child. These calls
+-- read and write files, list folders and read variables.
 abbrev pub MayFollow : StepFault → Starts → Starts → Type 0
 MayFollow (step.Store (store.Place fault)) old new = (fault ≢ place.Remove) × (new ≡ old)
 MayFollow (step.Store store.NumbersSpent) old new = ⊥
@@ -172,7 +172,7 @@ HasCause fault old new = StepCause (fault_in fault) old new
 abbrev pub is_of_start : BuildFault → Bool
 is_of_start fault = starts (fault_in fault)
 
--- Calls that are made one after the other. Here the faults have no key.
+-- Calls that are made one after the other. In these definitions the faults have no key.
 
 -- How these calls ended with this fault of a step. Either one of the calls failed; then all calls
 -- before it succeeded, and no call came after it. Or memory ran out after the first n calls.
@@ -182,7 +182,8 @@ StepStopsAt (step.Store store.NumbersSpent) calls old new = ⊥
 StepStopsAt (step.Store store.OutOfMemory) calls old new = MakesSome calls old new
 StepStopsAt (step.Start fault) calls old new = ⊥
 
--- After a success exactly these calls were made. After a fault, the calls stopped at one of these.
+-- After a success exactly these calls were made. After a fault, the calls stopped at one of these
+-- calls.
 abbrev pub StepMakes : {T : Type 0} → Result T StepFault → List Call → Counts → Counts → Type 0
 StepMakes result calls old new = MatchResult result (λ x. new ≡ past_calls calls old) (λ e. StepStopsAt e calls old new)
 
@@ -197,7 +198,7 @@ NumbersInTurn result calls old new = MatchResult result (λ x. new ≡ past_call
 
 -- How a step changes the place.
 
--- the step only looks: nothing changes but the counters
+-- the step changes nothing but the counters
 pub record StepLooks {T : Type 0} (May : StepFault → Starts → Starts → Type 0) (result : Result T StepFault) (old new : At) : Type 0 where
   pub world : new.world ≡ old.world
   pub most : new.most ≡ old.most

@@ -1,5 +1,5 @@
--- What is true of the outside world while units of a build begin and answer. Any number of them may
--- be in flight.
+-- What is true of the outside world while units of a build begin and answer. Any number of units
+-- may be in flight.
 use Rattle.std.specs.Prelude.{◌≡◌, ◌≢◌, ◌∷◌, [], ℕ, Bool, true, false, not, List, Option, Some, None, IfSome, slice_get, take, length}
 use Rattle.std.specs.FinMap as finite
 use Rattle.std.specs.List.{flat_map}
@@ -100,29 +100,29 @@ pub record HasRecord (b : BuildContext) (w : World) (index : ℕ) : Type 0 where
 
 -- What stays true while units begin and answer.
 
--- The child is honest on the command of each unit. This is so in each world that has these sources
--- and in which the child sees the unit's view.
+-- The child is honest on the command of each unit, in each world that has these sources and shows
+-- the child the unit's view.
 abbrev pub IsHonestOnUnits : BuildContext → Type 0
 IsHonestOnUnits b = (index : ℕ) (u : Planned) (w : World) → unit_at b.project index ≡ Some u → from_nothing b.project.workspace.target w ≡ b.sources
     → seen_by (command_in b index u) w ≡ view_in b index u → IsHonest judge b.child (command_in b index u) w
 
--- The child is honest on the units' commands, and the folder of records is sound. All numbers in
--- the records are below the next number. Each unit that has answered and is good has its record.
+-- The child is honest on the units' commands, and the folder of records is sound. All run numbers
+-- in the records are below the next number. Each unit that has answered and is good has its record.
 pub record HoldsRecords (b : BuildContext) (states : List (State BadUnit)) (next : Option ℕ) (w : World) : Type 0 where
   pub honest : IsHonestOnUnits b
   pub sound : Sound reading judge b.child (records_folder b.project) w.files
   pub ahead : IsAhead (records_in b w) next
   pub recorded : (index : ℕ) → is_good_at (slice_get states index) ≡ true → HasRecord b w index
 
--- what the premise requires of the records: with `TrustedRecords`, what `HoldsRecords` states; with
--- `NoRecords`, that no unit has a record before it begins
+-- What the premise requires of the records. With `TrustedRecords`, `HoldsRecords` is true. With
+-- `NoRecords`, no unit has a record before the unit begins.
 abbrev pub HoldsBy : Premise → BuildContext → List (State BadUnit) → Option ℕ → World → Type 0
 HoldsBy TrustedRecords b states next w = HoldsRecords b states next w
 HoldsBy NoRecords b states next w = (index : ℕ) (u : Planned) → unit_at b.project index ≡ Some u → slice_get states index ≡ Some Untouched → records_in b w u.key ≡ None
 
--- What is true while units are in these states. There is a note for each state. The sources are
--- unchanged. Each good unit has its files, and reaches only good units. The records are as the
--- premise requires.
+-- What is true while units are in these states. There is an entry in `done` for each unit. The
+-- sources are unchanged. Each good unit has its files, and reaches only good units. The records are
+-- as the premise requires.
 pub record BuildInvariant (b : BuildContext) (states : List (State BadUnit)) (done : List (Option (List Directive))) (next : Option ℕ) (w : World) : Type 0 where
   pub long : length done ≡ length states
   pub sources_stay : from_nothing b.project.workspace.target w ≡ b.sources
@@ -148,7 +148,7 @@ needed_keys project u = flat_map (key_at project) u.needs
 abbrev pub begun_with : List ℕ → Command → Awaited → Begun
 begun_with key c by = record { unit = key; command = c; difference = None; awaited = by }
 
--- the child for which a unit waits, if it has one
+-- the child for which a unit waits, if the unit has a child
 abbrev pub child_in : Awaited → Option SpawnedChild
 child_in (awaited.Child launched) = Some launched
 child_in (awaited.Record again) = None
@@ -162,7 +162,7 @@ awaits_number (awaited.Child launched) = false
 awaits_number (awaited.Record again) = not again.numbered
 
 -- The unit's child is in flight. The child was spawned for this command, saw this view, and found
--- its output folder empty. None of this has changed since the spawn.
+-- its output folder empty. Neither the view nor the folder has changed since the spawn.
 pub record IsInFlight (child : Answers) (c : Command) (view : World) (ticket : ℕ) (flying : List ChildInFlight) (still : ℕ → Type 0) : Type 0 where
   pub spawned : World
   pub flies : child_at ticket flying ≡ Some (child_spawned (child c) c spawned ticket)
@@ -171,8 +171,8 @@ pub record IsInFlight (child : Answers) (c : Command) (view : World) (ticket : �
   pub stands : still ticket
 
 -- A record of the unit may be kept with this number. No record counts for the unit now, and no
--- record has or names the number. The number is below the next number. All needed units have their
--- records.
+-- record has or names this number. This number is below the next run number. All needed units have
+-- their records.
 pub record AwaitsRecord (b : BuildContext) (u : Planned) (number : ℕ) (next : Option ℕ) (w : World) : Type 0 where
   pub gone : records_in b w u.key ≡ None
   pub unnamed : NoneNames (records_in b w) number
@@ -206,8 +206,8 @@ abbrev pub WritesTo : List ℕ → Option SpawnedChild → List ChildInFlight �
 WritesTo out None flying = Unit {0}
 WritesTo out (Some launched) flying = IfSome (child_at launched.ticket flying) (λ spawned. spawned.command.out ≡ Some out)
 
--- Take a child that stood still before and is not the child `launched`. If changes at these paths
--- cannot touch what it sees, it stands still afterwards.
+-- Take a ticket that stood still before the step and is not the ticket of `launched`. If changes at
+-- these paths cannot touch what the ticket's child sees, the ticket stands still after the step.
 abbrev pub KeepsOthersStill : Option SpawnedChild → (List ℕ → Bool) → List ChildInFlight → (ℕ → Type 0) → (ℕ → Type 0) → Type 0
 KeepsOthersStill launched inside flying before after =
     (ticket : ℕ) → IfSome launched (λ its. ticket ≢ its.ticket) → ((v w : World) → ChangesOnly inside v w → StandsStill ticket flying v w) → before ticket → after ticket
@@ -228,8 +228,9 @@ pub record CanAnswer (b : BuildContext) (states : List (State BadUnit)) (done : 
   pub reaches : are_good states u.reaches ≡ true
   pub begun_so : IsBegun b index begun next w flying still
 
--- The unit `other` is not the unit at `index`. It has begun, and reaches only good units. If both
--- units have a child, their tickets differ, and so do their run numbers.
+-- The unit `other` is not the unit at `index`. The unit `other` has begun, and reaches only good
+-- units. If both units have a child, the two children have different tickets and different run
+-- numbers.
 pub record BeginsApart (b : BuildContext) (states : List (State BadUnit)) (index : ℕ) (launched : Option SpawnedChild) (other : ℕ) (its : Begun) (next : Option ℕ) (w : World) (flying : List ChildInFlight) (still : ℕ → Type 0) : Type 0 where
   pub another : other ≢ index
   pub unit : Planned

@@ -29,16 +29,16 @@ pub enum Awaited {
 /// A unit that has begun.
 #[derive(Drop)]
 pub struct Begun {
-    /// Its key, copied before its child was spawned, so that no copy can fail while the child is in
-    /// flight.
+    /// The unit's key. The key was copied before the unit's child was spawned, so that no copy can
+    /// fail while the child is in flight.
     pub unit: Text,
     /// Its command.
     pub command: Command,
-    /// The first difference from its record, which is the reason why its child was spawned. None if
-    /// nothing differs.
+    /// The first difference from the unit's record, which is why the unit's child was spawned. None
+    /// if nothing differs.
     pub difference: Option<Difference>,
-    /// The end of its child, or what its record replays. The record is kept here so that it is read
-    /// once.
+    /// The end of the unit's child, or what the unit's record replays. The record is kept here, so
+    /// that it is read only once.
     pub awaited: Awaited,
 }
 

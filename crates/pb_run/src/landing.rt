@@ -1,5 +1,5 @@
-//! How a unit answers. Its child ends, or its record is replayed. The answer is judged, and the
-//! record is kept or renewed.
+//! How a unit answers. The unit's child ends, or the unit's record is replayed. The answer is
+//! judged, and the record is kept or renewed.
 
 ghost use Rattle.std.specs.Prelude.{◌≡◌, ◌++◌, ℕ, true, List, Option, IsTrue, IsOk, IfOk, IfSome, MatchResult, OnOk, Ok, Err, Some, None, Result, slice_get};
 ghost use Rattle.std.specs.FinMap as finite;
@@ -32,7 +32,7 @@ use pb_store::{Key, Replayed, Store, StoreFault};
 use pb_unit::Planned;
 use std::alloc::{AllocError, Global};
 
-/// The fault of a step for which memory ran out.
+/// The fault of a step in which memory ran out.
 const OUT_OF_MEMORY: StepFault = StepFault::Store(StoreFault::OutOfMemory);
 
 /// Waits for the end of the child of a unit.
@@ -71,7 +71,7 @@ fn finish<P: Place>(
     }
 }
 
-/// Judges the answer of a unit's child by what its output folder contains.
+/// Judges the answer of a unit's child by what the unit's output folder contains.
 #[tactic(auto, using(crate::proofs::Calling::call_laws))]
 fn judged_now<P: Place>(
     alloc: Global,
@@ -95,7 +95,8 @@ fn judged_now<P: Place>(
         Ok(path) => path,
         Err(_) => return Err(OUT_OF_MEMORY),
     };
-    // Reading a file is a counted call, and `judge_reply` makes none. So the dep-info is read here.
+    // Reading a file is a counted call, and `judge_reply` makes no call. So the dep-info is read
+    // here.
     let dep_info = read_at(alloc, place, &path)?;
     match judge_reply(alloc, place, project.get(), unit, command, ended, &dep_info) {
         Ok(judgement) => Ok(judgement),

@@ -21,7 +21,7 @@ use std::alloc::Global;
 /// Spawns the child of a unit, by one call.
 #[tactic(auto, using(crate::proofs::Spawning::spawn_laws))]
 fn spawn<P: Place>(alloc: Global, place: &mut P, command: &Command) -> Result<u64, StepFault>
-    // The child is in flight, and nothing that it sees has changed.
+    // The child is in flight, and nothing that the child sees has changed.
     ensures flies { IfOk result (λ ticket. child_at ticket (P.at place.new).counts.starts.flying
         ≡ Some (child_spawned (P.child command.now) command.now (P.at place.old).world ticket)) }
     ensures stands { IfOk result (λ ticket. (P.at place.new).still ticket) }
@@ -56,7 +56,7 @@ fn spawn_anew<P: Place>(
 ) -> Result<u64, StepFault>
     requires out { command.now.out ≡ Some out.now }
 
-    // The child is in flight, was spawned over an empty folder, and writes into it.
+    // The child is in flight, was spawned over an empty folder, and writes into this folder.
     ensures spawned { IsTrue P.is_modelled →
         IfOk result (λ ticket. IsSpawned (is_at_or_below out.now)
         P.child command.now (P.at place.old).world ticket (P.at place.new).counts.starts.flying
@@ -89,8 +89,8 @@ fn spawn_anew<P: Place>(
 }
 
 /// Launches the child of a unit that differs from its record. If a run number is left, the number
-/// is taken and exactly three calls are made. They remove the record, empty the output folder and
-/// spawn the child.
+/// is taken and exactly three calls are made. These calls remove the record, empty the output
+/// folder and spawn the child.
 #[tactic(auto, using(crate::proofs::Spawning::launch_laws))]
 pub(crate) fn launch<P: Place>(
     alloc: Global,
@@ -106,8 +106,8 @@ pub(crate) fn launch<P: Place>(
     requires numbers { IsTrue P.is_modelled →
         HasNumbers (records store.old.folder (P.at place.old).world) store.old.numbers }
 
-    // The child is in flight with the next number, was spawned over an empty folder, and writes
-    // into it.
+    // The child is in flight with the next run number, was spawned over an empty folder, and writes
+    // into this folder.
     ensures number { IfOk result
         (λ launched. IsGiven launched.number store.old.next store.new.next) }
     ensures spawned { IsTrue P.is_modelled → IfOk result (λ launched.
@@ -120,7 +120,8 @@ pub(crate) fn launch<P: Place>(
         ≡ max (P.at place.old).most (length (P.at place.old).counts.starts.flying + 1))
         (λ e. (P.at place.new).most ≡ (P.at place.old).most) }
 
-    // The record is gone; after a fault it is gone or unchanged. Only this unit's paths change.
+    // After a success the record is gone; after a fault the record is gone or unchanged. Only this
+    // unit's paths change.
     ensures record { IsTrue P.is_modelled → DropsFor P.child store.old.folder key.now result
         store.old.next store.new.next (P.at place.old).world (P.at place.new).world }
     ensures store { KeepsStore P.is_modelled result store.old store.new (P.at place.new) }

@@ -5,8 +5,8 @@ use pb_data::Text;
 use pb_unit::Planned;
 use std::marker::Model;
 
-/// A project that is in order. Its workspace is settled, and its plan is a plan of this workspace.
-/// Units with different keys have separate folders. Contracts see the project.
+/// A project that is in order. The project's workspace is settled, and the plan is a plan of this
+/// workspace. Units with different keys have separate folders. Contracts see the project.
 #[derive(Drop)]
 pub struct OrderedProject {
     inside: Project,
@@ -49,14 +49,14 @@ impl OrderedProject {
         self.inside
     }
 
-    /// Returns the units of its plan, in plan order.
+    /// Returns the units of the project's plan, in plan order.
     pub fn units(&self) -> &[Planned]
         ensures { result.now ≡ self.now.plan.planned }
     {
         self.inside.plan.planned.as_slice()
     }
 
-    /// Returns the names of the packages that have no library although enabled dependencies of its
+    /// Returns the names of the packages that have no library although enabled dependencies of the
     /// plan lead to them.
     pub fn without_library(&self) -> &[Text]
         ensures { result.now ≡ self.now.plan.without_library }

@@ -22,7 +22,7 @@ use std::alloc::{AllocError, Global};
 /// The result of a unit.
 #[derive(Drop)]
 pub struct Ran {
-    /// Whether a child process was started for it.
+    /// Whether a child process was started for the unit.
     pub started: bool,
     /// Why the unit is bad, and what its child printed. None if the unit is good.
     pub bad: Option<BadUnit>,
@@ -37,7 +37,7 @@ pub struct Ran {
 pub struct Validated {
     /// The result of the unit.
     pub ran: Ran,
-    /// The inputs found in its answer. A bad unit has no inputs.
+    /// The inputs found in the answer of the unit's child. A bad unit has no inputs.
     pub names: Items<InputName>,
 }
 
@@ -90,7 +90,8 @@ fn bad(
 }
 
 /// Returns the judgement of the answer of a unit's child. `dep_info` is the content of the unit's
-/// dep-info file, if there is such a file. The place determines which paths the answer means.
+/// dep-info file, if there is such a file. The place determines the paths of the texts in the
+/// answer.
 ///
 /// Errors: only out of memory.
 pub fn judge_reply<P: Place>(

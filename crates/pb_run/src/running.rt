@@ -32,7 +32,7 @@ pub(crate) fn empty<P: Place>(
     }
 }
 
-/// Reads a file of a unit, if there is a path, by one call.
+/// Reads a file of a unit by one call. Without a path, no call is made.
 #[tactic(auto, using(crate::proofs::Causing::read_laws, crate::proofs::Calling::call_laws))]
 pub(crate) fn read_at<P: Place>(
     alloc: Global,

@@ -42,9 +42,10 @@ pub struct Outcome {
     pub directives: Option<Directives>,
     /// Its message lines.
     pub lines: Text,
-    /// Whether a child was started for it.
+    /// Whether a child was started for the unit.
     pub started: bool,
-    /// The first difference from its record. None if nothing differed and the record was replayed.
+    /// The first difference from the unit's record. None if nothing differed and the record was
+    /// replayed.
     pub difference: Option<Difference>,
 }
 
@@ -64,10 +65,11 @@ fn command(
 /// Begins the unit at an index of the plan.
 ///
 /// The unit is first compared with its record. If nothing differs, nothing is changed. If something
-/// differs and a run number is left, the number is taken and three calls are made. They remove the
-/// record, empty the output folder, and spawn the unit's child, in this order. The records of
-/// needed units are not read, because the store has their numbers. `done` contains, for each unit
-/// of the plan, the directives of its build script's run, if the run has answered.
+/// differs and a run number is left, the number is taken and three calls are made. These calls
+/// remove the record, empty the output folder, and spawn the unit's child, in this order. The
+/// records of needed units are not read, because the store has their numbers. `done` contains an
+/// entry for each unit of the plan. The entry of a build script's run contains the run's
+/// directives, if the run has answered.
 ///
 /// Errors: each error except `OutOfMemory` contains the unit's key. If a call of the place failed,
 /// it was the last call. After any error no new child is in flight, and the store may lack the
@@ -79,13 +81,14 @@ fn command(
 /// - `OutOfMemory`.
 ///
 /// Clauses and fields with the premise `P.is_modelled` are about a place whose files and variables
-/// are known to contracts. They say nothing about a real machine. On a real machine, the world that
-/// contracts see is constant, so `changes` says nothing about files there. What the contract says
-/// about calls, starts, children in flight, errors and run numbers is also true on a real machine.
+/// are known to contracts. These clauses and fields say nothing about a real machine. On a real
+/// machine, the world that contracts see is constant, so `changes` says nothing about files there.
+/// What the contract says about calls, starts, children in flight, errors and run numbers is also
+/// true on a real machine.
 ///
 /// The clause `build` is about a build that satisfies `BuildInvariant`, and about a unit of this
-/// build that satisfies `CanBegin`. Such a unit has not begun, and all units that it reaches have
-/// answered and are good.
+/// build that satisfies `CanBegin`. A unit that satisfies `CanBegin` has not begun, and all units
+/// that it reaches have answered and are good.
 #[tactic(auto, using(crate::proofs::Naming::naming_laws))]
 pub fn begin_unit<P: Place>(
     alloc: Global,
@@ -195,8 +198,8 @@ fn outcome_of(
 /// Answers a unit that has begun, and makes its message lines. The unit is at this index of the
 /// plan.
 ///
-/// If the unit has a child, the child's end is awaited, its dep-info is read, and the answer is
-/// judged. The record is kept if the answer is good. Without a child, the answer that the record
+/// If the unit has a child, the child's end is awaited, the unit's dep-info is read, and the answer
+/// is judged. The record is kept if the answer is good. Without a child, the answer that the record
 /// replays is judged, and a record of format 1 gets a run number. A record names the needed units
 /// by the numbers that the store has.
 ///
@@ -267,12 +270,14 @@ pub fn answer_unit<P: Place>(
 /// child's end.
 ///
 /// Whatever the place answers, the child is no longer in flight, and the other children stay in
-/// flight. Only the folder into which the child writes changes. A call that fails is counted.
+/// flight. Nothing changes except the folder into which the child writes. A call that fails is
+/// counted.
 pub fn drop_unit<P: Place>(alloc: Global, place: &mut P, begun: &Begun)
     requires flies { IfSome (child_of begun.now)
         (λ launched. is_flying launched.ticket (P.at place.old).counts.starts.flying ≡ true) }
 
-    // What is true of a build stays true, if its records are true or if there are no records.
+    // What is true of a build stays true, if the build's records are true or if there are no
+    // records.
     ensures build { (b : BuildContext) (index : ℕ) (unit : Planned) (next : Option ℕ) →
         IsInOrder b.project → unit_at b.project index ≡ Some unit → IsTrue P.is_modelled →
         DropsBuild b index unit begun.now next (P.at place.old) (P.at place.new) }
@@ -321,7 +326,7 @@ pub fn run_unit<P: Place>(
         (bare result) store.old store.new place.old place.new }
     ensures named { IfErr result (IsOfUnit unit.now.key) }
 
-    // After an error a start is counted only if something differs.
+    // After an error a start is counted only if something differed from the unit's record.
     ensures tried { IsTrue P.is_modelled → IfErr result (λ e.
         ((P.at place.new).counts.starts ≡ (P.at place.old).counts.starts)
         ⊎ Differs project.now unit.now (command_of setup.now project.now unit.now done.now)

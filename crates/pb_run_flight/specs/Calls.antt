@@ -1,4 +1,4 @@
--- What the calls of a flight hand out, taken together.
+-- Which lines all calls of a flight together hand out.
 use Rattle.std.specs.Prelude.{ℕ, List, [], ◌∷◌, ◌++◌}
 use Rattle.pb_run_flight.specs.Table.{Table, fresh, begun, answered, emitted, due_after}
 use Rattle.pb_run_flight.specs.Events.{Event, Began, Gave}

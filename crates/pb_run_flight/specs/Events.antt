@@ -5,8 +5,8 @@ use Rattle.pb_run_flight.specs.declared.flight.State.{State}
 use Rattle.pb_run_flight.specs.declared.flight.State.TheVariants.{Untouched, Begun, Answered}
 use Rattle.pb_run_flight.specs.Table.{is_bad, is_good_at, if_so}
 
--- in an event, either a unit begins, with or without a child that was spawned for it, or a unit
--- answers
+-- An event: a unit begins, or a unit answers. If a unit begins, `spawned` says whether a child was
+-- spawned for this unit.
 pub data Event (F : Type 0) : Type 0 where
   Began : (unit : ℕ) (spawned : Bool) → Event F
   Gave : (unit : ℕ) (answer : Answer F) → Event F
@@ -36,7 +36,7 @@ abbrev pub without : ℕ → List ℕ → List ℕ
 without u [] = []
 without u (v ∷ vs) = if v == u then vs else (v ∷ without u vs)
 
--- the units in flight, in the order in which they began; they have begun and not answered
+-- the units that have begun and not answered, in the order in which they began
 abbrev pub flying_after : {F : Type 0} → List (Event F) → List ℕ
 flying_after [] = []
 flying_after (Began u spawned ∷ es) = flying_after es ++ u ∷ []
@@ -63,14 +63,14 @@ pub record MayBegin {F : Type 0} (needs : List (List ℕ)) (states : List (State
   pub good : (v : ℕ) → Contains wanted v → is_good_at (slice_get states v) ≡ true
   pub first : (v : ℕ) (s : State F) → v < u → slice_get states v ≡ Some s → is_bad s ≡ false
 
--- Events are lawful if each unit begins only when it may, and answers once after it has begun. The
--- answer must be one that `Gives` allows.
+-- Events are lawful if each unit begins only when it may, and answers at most once, after it has
+-- begun. The answer must be one that `Gives` allows.
 pub data Lawful {F : Type 0} (needs : List (List ℕ)) (Gives : ℕ → Answer F → Type 0) : List (Event F) → Type 0 where
   nothing : Lawful needs Gives []
   begin : (es : List (Event F)) (u : ℕ) (spawned : Bool) (before : Lawful needs Gives es) (may : MayBegin needs (states_after needs es) u) → Lawful needs Gives (Began u spawned ∷ es)
   answer : (es : List (Event F)) (u : ℕ) (given : Answer F) (before : Lawful needs Gives es) (flying : slice_get (states_after needs es) u ≡ Some Begun) (gives : Gives u given) → Lawful needs Gives (Gave u given ∷ es)
 
--- one or more needs lead from one unit to another
+-- one unit reaches another if one or more needs lead from the first unit to the second
 pub data Reaches (needs : List (List ℕ)) : ℕ → ℕ → Type 0 where
   direct : (u v : ℕ) (wanted : List ℕ) (unit : slice_get needs u ≡ Some wanted) (need : Contains wanted v) → Reaches needs u v
   onward : (u v w : ℕ) (wanted : List ℕ) (unit : slice_get needs u ≡ Some wanted) (need : Contains wanted v) (more : Reaches needs v w) → Reaches needs u w

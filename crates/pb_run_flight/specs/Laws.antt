@@ -21,8 +21,8 @@ ReadyIsExact F = (needs : List (List ℕ)) (states : List (State F)) → IsStric
 abbrev pub HasBegun : {F : Type 0} → List (State F) → ℕ → Type 0
 HasBegun {F} states u = (s : State F) × (slice_get states u ≡ Some s) × (is_untouched s ≡ false)
 
--- After lawful events, take a unit that has begun or may begin. It reaches only units that have
--- answered and are good. So it reaches no unit in flight.
+-- After lawful events, a unit that has begun or may begin reaches only units that have answered and
+-- are good. So the unit reaches no unit in flight.
 abbrev pub ReachedIsGood : (F : Type 0) → Type 0
 ReachedIsGood F = (needs : List (List ℕ)) (es : List (Event F)) → IsLawful needs es → (u v : ℕ) → MayBegin needs (states_after needs es) u ⊎ HasBegun (states_after needs es) u → Reaches needs u v → is_good_at (slice_get (states_after needs es) v) ≡ true
 
@@ -37,12 +37,12 @@ abbrev pub EndsAs : {F : Type 0} → List (State F) → List (State F) → Type 
 EndsAs {F} states end = (u : ℕ) (answer : Answer F) → slice_get states u ≡ Some (Answered answer) → slice_get end u ≡ Some (Answered answer)
 
 -- Let each unit that has answered keep its answer to the end. If the lines of n units are due now,
--- they are the lines of the first n units at the end. They are a prefix of all lines due at the
--- end.
+-- they are the lines of the first n units at the end. The lines due now are a prefix of all lines
+-- due at the end.
 abbrev pub DueIsStart : (F : Type 0) → Type 0
 DueIsStart F = (states end : List (State F)) → EndsAs states end → (due states ≡ due_first (count_due states) end) × ((rest : List ℕ) × (due end ≡ due states ++ rest))
 
--- Once all units up to and including the first bad one have answered, the lines due now are all
+-- Once all units up to and including the first bad unit have answered, the lines due now are all
 -- lines due at the end. The first bad unit now is also the first bad unit at the end.
 abbrev pub FinishedIsAll : (F : Type 0) → Type 0
 FinishedIsAll F = (states end : List (State F)) → length states ≡ length end → is_finished states ≡ true → EndsAs states end → (due states ≡ due end) × (first_bad states ≡ first_bad end)
@@ -64,12 +64,12 @@ SomethingIsLeft F = (needs : List (List ℕ)) (es : List (Event F)) → IsInPlan
 
 -- Laws about the steps of a turn.
 
--- the events of steps are lawful, whatever decides the steps
+-- the events of steps are lawful, no matter what decides the steps
 abbrev pub StepsAreLawful : {S : Type 0} → (F : Type 0) → (S → List ℕ → List ℕ → Step → S → Type 0) → Type 0
 StepsAreLawful {S} F Turns = (needs : List (List ℕ)) (from now : S) (es : List (Event F)) → Flies Turns needs Anyhow Anything from es now → IsLawful needs es
 
--- Let a unit have a child if and only if it differs. The started units are then exactly those that
--- have begun and differ.
+-- Let a unit have a child if and only if the unit differs. The started units are then exactly those
+-- that have begun and differ.
 abbrev pub StartedDiffers : {S : Type 0} → (F : Type 0) → (S → List ℕ → List ℕ → Step → S → Type 0) → Type 0
 StartedDiffers {S} F Turns = (needs : List (List ℕ)) (different : List ℕ) (from now : S) (es : List (Event F)) → Flies Turns needs (SpawnsAs (Contains different)) Anything from es now
     → (u : ℕ) → Contains (started_by es) u ↔ (Contains (begun_by es) u × Contains different u)
@@ -78,7 +78,7 @@ StartedDiffers {S} F Turns = (needs : List (List ℕ)) (different : List ℕ) (f
 abbrev pub JobsBoundFlying : {S : Type 0} → (F : Type 0) → (S → List ℕ → ℕ → S → Type 0) → Type 0
 JobsBoundFlying {S} F Picks = (needs : List (List ℕ)) (from now : Jobs S) (es : List (Event F)) → Flies (TurnsOfJobs Picks) needs Anyhow Anything from es now → length (flying_after es) ≤ max from.jobs 1
 
--- Each unit answers before the next one begins. The last one may still be in flight.
+-- Each unit answers before the next unit begins. The unit that began last may still be in flight.
 pub data OneByOne {F : Type 0} : List (Event F) → Type 0 where
   nothing : OneByOne []
   begin : (es : List (Event F)) (u : ℕ) (spawned : Bool) (before : OneByOne es) (none : flying_after es ≡ []) → OneByOne (Began u spawned ∷ es)

@@ -8,8 +8,8 @@ use Rattle.pb_run_flight.specs.declared.flight.Answer.{Answer}
 
 -- A unit is known by its index in plan order.
 
--- The table has what each unit needs and the state of each unit. `given` is the number of units
--- whose lines have been handed out, from the start of plan order.
+-- The table has what each unit needs and the state of each unit. `given` counts the units, from the
+-- start of plan order, whose lines have been handed out.
 pub record Table (F : Type 0) : Type 0 where
   pub needs : List (List ℕ)
   pub states : List (State F)
@@ -65,8 +65,8 @@ ready_of needs states = ready_from states 0 needs states
 
 -- Which lines are due.
 
--- The lines of the units in plan order, up to the first unit that has not answered. A bad unit also
--- ends the lines, after its own lines.
+-- The lines of the units in plan order. The list ends before the first unit that has not answered,
+-- or after the first bad unit.
 abbrev pub due : {F : Type 0} → List (State F) → List ℕ
 due (Answered answer ∷ ss) = answer.lines ++ (if is_none answer.fault then due ss else [])
 due _ = []
@@ -100,7 +100,7 @@ abbrev pub first_bad : {F : Type 0} → List (State F) → Option ℕ
 first_bad states = first_bad_from 0 states
 
 -- all units up to and including the first bad unit have answered; without a bad unit, all units
--- have
+-- have answered
 abbrev pub is_finished : {F : Type 0} → List (State F) → Bool
 is_finished [] = true
 is_finished (Untouched ∷ ss) = false
@@ -119,6 +119,6 @@ begun u t = record t { states = slice_set t.states u Begun }
 abbrev pub answered : {F : Type 0} → ℕ → Answer F → Table F → Table F
 answered u answer t = record t { states = slice_set t.states u (Answered answer) }
 
--- the table after all lines that are due were handed out
+-- the table after a call has handed out all lines that are due
 abbrev pub emitted : {F : Type 0} → Table F → Table F
 emitted t = record t { given = count_due t.states }

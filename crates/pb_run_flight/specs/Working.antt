@@ -1,5 +1,5 @@
--- What the table stores besides the states, so that no call has to go through all needs again. Only
--- private functions need these definitions.
+-- What the table stores in addition to the states. So no call has to go through all needs again.
+-- Only private functions need these definitions.
 use Rattle.std.specs.Prelude.{◌≡◌, ℕ, zero, suc, ◌<◌, ◌≤◌, ◌+◌, ◌⊎◌, Bool, false, if◌then◌else◌, List, [], ◌∷◌, map, length, Contains, slice_index, slice_index_or, slice_get, Option, Some, None}
 use Rattle.pb_run_flight.specs.declared.flight.State.{State}
 use Rattle.pb_run_flight.specs.declared.flight.State.TheVariants.{Untouched, Begun, Answered}
@@ -11,12 +11,12 @@ abbrev pub count_met : {F : Type 0} → List (State F) → List ℕ → ℕ
 count_met states [] = 0
 count_met states (u ∷ us) = if is_good_at (slice_get states u) then suc (count_met states us) else 0
 
--- the list at this index of a list of lists of units; empty if there is none
+-- the list of units at this index of a list of lists, or the empty list if there is no such index
 abbrev pub units_at : List (List ℕ) → ℕ → List ℕ
 units_at lists u = slice_index_or lists u []
 
--- if one of the first `upto` units needs a unit, the needed unit's list in `needed_by` contains the
--- unit that needs it
+-- if the unit u is one of the first `upto` units and needs the unit v, the list of v in `needed_by`
+-- contains u
 pub record AreListed (needs : List (List ℕ)) (upto : ℕ) (needed_by : List (List ℕ)) : Type 0 where
   pub each : (u v : ℕ) → u < upto → Contains (units_at needs u) v → v < length needed_by → Contains (units_at needed_by v) u
 
@@ -50,8 +50,8 @@ abbrev pub ends_badly : {F : Type 0} → ℕ → List (State F) → Bool
 ends_badly zero states = false
 ends_badly (suc n) states = is_bad_at (slice_get states n)
 
--- The value is true if the unit has not begun and all its needs are met, and otherwise false. There
--- is no value if the unit has answered and is bad, or does not exist.
+-- Whether the unit has not begun and all its needs are met. There is no answer if the unit has
+-- answered and is bad, or does not exist.
 abbrev pub opening_by : {F : Type 0} → List (State F) → Option (List ℕ) → Option (State F) → Option Bool
 opening_by states None s = None
 opening_by states (Some wanted) None = None

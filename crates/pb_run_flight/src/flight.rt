@@ -168,7 +168,7 @@ fn ready_of<F>(
     Ok(ready)
 }
 
-/// Returns the units after the first `count`.
+/// Returns the states of the units after the first `count` units.
 fn after<F>(states: &[State<F>], count: usize) -> &[State<F>]
     requires { count ≤ length states.now }
     ensures { result.now ≡ drop count states.now }
@@ -351,9 +351,9 @@ impl<F: Drop> Flight<F> {
         first_bad(self.states.as_slice())
     }
 
-    /// Returns the units that may begin, in plan order. Such a unit has not begun. All units that
-    /// it needs have answered and are good. No unit before it in plan order has answered and is
-    /// bad.
+    /// Returns the units that may begin, in plan order. A unit may begin if it has not begun, and
+    /// all units that it needs have answered and are good. No earlier unit in plan order may have
+    /// answered and be bad.
     ///
     /// Errors: out of memory.
     pub fn ready(&self, alloc: Global) -> Result<Vec<usize>, AllocError>
@@ -397,8 +397,8 @@ impl<F: Drop> Flight<F> {
     /// Returns the lines that are due now and have not been handed out. The lines of a unit are due
     /// if the unit and all earlier units in plan order have answered, and no earlier unit is bad.
     ///
-    /// Errors: out of memory. Then nothing has been handed out, and the next call returns these
-    /// lines too.
+    /// Errors: out of memory. After this error nothing has been handed out, and the next call
+    /// returns these lines, too.
     pub fn emit(&mut self, alloc: Global) -> Result<Vec<u8>, AllocError>
         ensures lines { IfOk result
             (λ lines. lines.items ≡ due_after self.old.given self.old.states) }

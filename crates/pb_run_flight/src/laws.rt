@@ -10,7 +10,7 @@ pub fn ready_is_exact<F>()
 {}
 
 /// After lawful events, a unit that may begin or has begun reaches only units that have answered
-/// and are good. So such a unit reads nothing that a unit in flight writes.
+/// and are good. So the unit reads nothing that a unit in flight writes.
 pub fn reached_is_good<F>()
     ensures { ReachedIsGood F }
 {}
@@ -28,7 +28,7 @@ pub fn due_is_start<F>()
 {}
 
 /// Once all units up to and including the first bad unit have answered, no further lines will be
-/// due at the end. This bad unit will still be the first bad unit at the end.
+/// due at the end. The first bad unit of that moment is still the first bad unit at the end.
 pub fn finished_is_all<F>()
     ensures { FinishedIsAll F }
 {}

@@ -8,7 +8,7 @@ use crate::flight::{State, is_good_at};
 use pb_data::Items;
 use std::alloc::{AllocError, Global};
 
-/// Adds `unit` to the list of `need`, which is a unit that `unit` needs.
+/// Adds `unit` to the list of `need`, a unit that `unit` needs.
 fn list_at(lists: &mut Vec<Items<usize>>, need: usize, unit: usize) -> Result<(), AllocError>
     ensures long { length lists.new.items ≡ length lists.old.items }
     ensures listed { OnOk result (need < length lists.old.items
@@ -72,7 +72,8 @@ pub fn none_met(alloc: Global, needs: &[Items<usize>]) -> Result<Vec<usize>, All
     Ok(met)
 }
 
-/// Returns how many of these needs are met. The first `from` needs are known to be met.
+/// Returns how many of these needs are met before the first one that is not. The first `from` needs
+/// are known to be met.
 fn met_from<F>(states: &[State<F>], needs: &[usize], from: usize) -> usize
     requires { from ≤ count_met states.now needs.now }
     ensures { result ≡ count_met states.now needs.now }

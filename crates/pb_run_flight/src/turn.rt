@@ -4,8 +4,8 @@ ghost use Rattle.std.specs.Prelude.{◌≡◌, ◌<◌, ◌+◌, ℕ, List, leng
 ghost use Rattle.pb_run_flight.specs.declared.turn.Step.{Step};
 ghost use Rattle.pb_run_flight.specs.Steps.{IsWithin, PicksFirst, PicksLast, PicksLent, TurnsOfJobs};
 
-/// A step of a build: a unit begins or a unit answers. The first list contains the units that may
-/// begin. The second list contains the units in flight.
+/// A step of a build: a unit begins or a unit answers. A turn gets two lists: the first contains
+/// the units that may begin, the second the units in flight.
 #[derive(Clone, Copy, Debug)]
 pub enum Step {
     /// The unit at this index of the first list begins.
@@ -21,8 +21,8 @@ pub trait Turn {
 
     /// Returns the next step. `ready` contains the units that may begin, in plan order. `flying`
     /// contains the units that have begun and not answered, in the order in which they began. At
-    /// least one of the two lists contains a unit. The step names an item of its list. No memory is
-    /// used.
+    /// least one of the two lists contains a unit. The step has an index of `ready` for `Begin`,
+    /// and of `flying` for `Answer`. No memory is used.
     fn turn(&mut self, ready: &[usize], flying: &[usize]) -> Step
         requires some { 0 < length ready.now + length flying.now }
         ensures turned { turns self.old ready.now flying.now result self.new }
@@ -76,8 +76,8 @@ impl Pick for Last {
 }
 
 /// A turn that a number of jobs and a pick determine. If a unit may begin and the number of units
-/// in flight is less than the number of jobs, the picked unit begins. Otherwise the unit in flight
-/// that began first answers. Zero jobs count as one job (our own choice).
+/// in flight is less than the number of jobs, the picked unit begins. Otherwise the unit that has
+/// been in flight longest answers. Zero jobs count as one job (our own choice).
 #[derive(Drop)]
 pub struct Jobs<P> {
     /// Which unit begins.

@@ -4,7 +4,7 @@ use pb_data::Text;
 use pb_tests_files::Shown;
 use pb_unit::{Plan, PlanFault, Planned};
 
-/// Puts places with commas between them.
+/// Puts indices with commas between them.
 fn put_indices(out: &mut Shown, indices: &[usize]) {
     let mut before = "";
     for index in indices {

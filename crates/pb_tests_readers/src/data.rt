@@ -203,8 +203,8 @@ fn add_entries(alloc: Global, items: &mut Items<Entry>) -> Result<(), AllocError
     add_entry(alloc, items, "b", None)
 }
 
-/// Returns whether two lists have two entries each, with the same texts and with bytes in the same
-/// places.
+/// Returns whether two lists have two entries each, with the same texts and with bytes at the same
+/// indices.
 fn are_alike(first: &[Entry], second: &[Entry]) -> bool {
     for (one, other) in first.iter().zip(second) {
         if one.0 != other.0 || one.1.is_some() != other.1.is_some() {

@@ -7,9 +7,9 @@
 //! `pb_tool explain NAME` prints what the name of an error means. The status is 0, or 1 if there is
 //! no such name.
 //!
-//! `pb_tool session FILE` runs a session in memory with the small compiler. It prints all message
-//! lines and then one result line for each build. The status is 0. For a bad command line or a bad
-//! session, the status is 1.
+//! `pb_tool session FILE` runs a session in memory with the small compiler. The command prints all
+//! message lines and then one result line for each build. The status is 0. For a bad command line
+//! or a bad session, the status is 1.
 #![tactic(auto)]
 
 use pb_tool_program::tool;

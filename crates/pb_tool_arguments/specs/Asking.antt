@@ -39,7 +39,7 @@ profile_of release rows = if release then codes "release" else unwrap_or (first_
 abbrev pub HasTwoProfiles : List Row → Type 0
 HasTwoProfiles rows = IsFlag (codes "release") rows true × ((profile : Text) × (first_of (codes "profile") rows ≡ Some profile))
 
--- the profile is the given one, and `--release` and `--profile` were not both given
+-- the profile is the one of `profile_of`, and `--release` and `--profile` were not both given
 abbrev pub IsProfile : List Row → Text → Type 0
 IsProfile rows profile =
     (release : Bool) × IsFlag (codes "release") rows release × (release ≡ true → first_of (codes "profile") rows ≡ None) × (profile ≡ profile_of release rows)
@@ -54,7 +54,7 @@ abbrev pub IsJobs : ℕ → Option Text → ℕ → Type 0
 IsJobs processors None n = n ≡ 1
 IsJobs processors (Some text) n = (text ≡ codes "default") × (n ≡ processors) ⊎ IsNumber text n
 
--- the value of `--jobs` is neither a number nor `default`
+-- `--jobs` was given with a value that is neither a number nor `default`
 abbrev pub HasBadJobs : List Row → Type 0
 HasBadJobs rows = (text : Text) × (first_of (codes "jobs") rows ≡ Some text) × (text ≢ codes "default") × ((n : ℕ) → ¬ IsNumber text n)
 
@@ -70,7 +70,7 @@ file_of rows = unwrap_or (first_of (codes "FILE") rows) []
 abbrev pub name_of : List Row → Text
 name_of rows = unwrap_or (first_of (codes "NAME") rows) []
 
--- the options of a build are those that these values express
+-- the build has the options that these values express
 pub record IsOptions (called : Text) (here : Here) (rows : List Row) (options : Options) : Type 0 where
   pub manifest : joined here.folder (manifest_of rows) ≡ Ok options.manifest
   pub packages : options.packages ≡ values_of (codes "package") rows
@@ -97,16 +97,16 @@ ShowsProgress here rows progress =
 abbrev pub ShowsCounts : Here → List Row → Bool → Type 0
 ShowsCounts here rows counts = (quiet : Bool) × IsFlag (codes "quiet") rows quiet × (counts ≡ (here.is_terminal && not quiet))
 
--- `colors` is true if levels have colours. They always have colours if the option's value is
--- `always`, and never if it is `never`. With any other value, or without the option, levels have
--- colours if `shows` is true.
+-- `colors` is true if levels have colours. Levels always have colours if the option's value is
+-- `always`, and never if the value is `never`. With any other value, or without the option, levels
+-- have colours if `shows` is true.
 abbrev pub IsColored : Bool → Option Text → Bool → Type 0
 IsColored shows None colors = colors ≡ shows
 IsColored shows (Some text) colors =
     (text ≡ codes "always" → colors ≡ true) × (text ≡ codes "never" → colors ≡ false)
     × (text ≢ codes "always" → text ≢ codes "never" → colors ≡ shows)
 
--- these values say what is shown of a build besides its message lines
+-- these values say what is shown of a build besides the build's message lines
 pub record IsShown (here : Here) (rows : List Row) (shown : Shown) : Type 0 where
   pub explain : IsFlag (codes "explain") rows shown.explain
   pub render : IsFlag (codes "render") rows shown.render
@@ -130,7 +130,7 @@ HasTwoForms rows = IsFlag (codes "json") rows true × IsFlag (codes "dot") rows 
 abbrev pub NamesProfile : List Row → Bool → Type 0
 NamesProfile rows named = (release : Bool) × IsFlag (codes "release") rows release × (named ≡ (release || is_some (first_of (codes "profile") rows)))
 
--- the subcommand with these values requests this
+-- the given subcommand, with its values, requests this invocation
 abbrev pub AsksBy : Text → Here → Option (Text × List Row) → Invocation → Type 0
 AsksBy tool here given (Build options shown) = (rows : List Row) × (given ≡ Some (codes "build", rows)) × IsFlag (codes "dry-run") rows false × IsOptions tool here rows options × IsShown here rows shown
 AsksBy tool here given (Preview options) = (rows : List Row) × (given ≡ Some (codes "build", rows)) × IsFlag (codes "dry-run") rows true × IsOptions tool here rows options
@@ -139,13 +139,13 @@ AsksBy tool here given (Plan options form) = (rows : List Row) × (given ≡ Som
 AsksBy tool here given (Clean options one_profile) = (rows : List Row) × (given ≡ Some (codes "clean", rows)) × IsOptions tool here rows options × NamesProfile rows one_profile
 AsksBy tool here given (Explain name) = (rows : List Row) × (given ≡ Some (codes "explain", rows)) × (name ≡ name_of rows)
 
--- the first word of a command line, which is how the program was called
+-- the first word of a command line; this word says how the program was called
 abbrev pub tool_of : List Text → Text
 tool_of [] = []
 tool_of (word ∷ words) = word
 
--- The description of the command line accepts the words. `clap` finds no fault with them, and they
--- do not request help.
+-- The description of the command line accepts the words. `clap` finds no fault with the words, and
+-- the words do not request help.
 abbrev pub IsTaken : Choices → List Text → Type 0
 IsTaken choices words = fault_of (program choices) words ≡ []
 
@@ -155,8 +155,8 @@ Requests words here asked = (choices : Choices) × AreChoices choices × IsTaken
 
 -- Why words request nothing.
 
--- The texts that are reported for wrong words. They are about byte 0 in a path, two profiles, wrong
--- jobs, two forms of a plan, and an unknown command.
+-- The texts that are reported for wrong words. These texts are about byte 0 in a path, two
+-- profiles, wrong jobs, two forms of a plan, and an unknown command.
 abbrev pub path_told : Text
 path_told = codes "error: a path contains byte 0\n"
 
@@ -179,15 +179,15 @@ pub data BuildsWrongly (folder : Text) (rows : List Row) (text : Text) : Type 0 
   two_profiles : (path : Text) (good : joined folder (manifest_of rows) ≡ Ok path) (both : HasTwoProfiles rows) (told : text ≡ profiles_told) → BuildsWrongly folder rows text
   bad_jobs : (path profile : Text) (good : joined folder (manifest_of rows) ≡ Ok path) (one : IsProfile rows profile) (bad : HasBadJobs rows) (told : text ≡ jobs_told) → BuildsWrongly folder rows text
 
--- Why a plan with these values requests nothing, and the text that is reported. The first reason is
--- two forms, and the second is options that are wrong for a build.
+-- Why a plan with these values requests nothing, and the text that is reported. First both forms of
+-- a plan may be given. Then a value may be one with which a build would request nothing.
 pub data PlansWrongly (folder : Text) (rows : List Row) (text : Text) : Type 0 where
   two_forms : (both : HasTwoForms rows) (told : text ≡ forms_told) → PlansWrongly folder rows text
   bad_options : (form : PlanForm) (one : IsForm rows form) (wrong : BuildsWrongly folder rows text) → PlansWrongly folder rows text
 
 -- Why a subcommand with these values requests nothing, and the text that is reported. The values of
--- a build, plan or removal may be wrong. A session's path may have byte 0. The subcommand may be
--- none of the five.
+-- a build, plan or removal may be wrong. A session's path may have byte 0. Or the subcommand is not
+-- one of the five.
 pub data AsksWrongly (folder : Text) (given : Option (Text × List Row)) (text : Text) : Type 0 where
   bad_build : (rows : List Row) (build : given ≡ Some (codes "build", rows)) (wrong : BuildsWrongly folder rows text) → AsksWrongly folder given text
   bad_plan : (rows : List Row) (plan : given ≡ Some (codes "plan", rows)) (wrong : PlansWrongly folder rows text) → AsksWrongly folder given text
@@ -196,8 +196,8 @@ pub data AsksWrongly (folder : Text) (given : Option (Text × List Row)) (text :
   no_command : (no_build : option_map (λ p. p.0) given ≢ Some (codes "build")) (no_plan : option_map (λ p. p.0) given ≢ Some (codes "plan")) (no_clean : option_map (λ p. p.0) given ≢ Some (codes "clean"))
       (no_session : option_map (λ p. p.0) given ≢ Some (codes "session")) (no_explain : option_map (λ p. p.0) given ≢ Some (codes "explain")) (told : text ≡ command_told) → AsksWrongly folder given text
 
--- an error of this kind is not a fault of the words: help or the version is requested, or there are
--- no words
+-- an error of this kind reports no wrong words: help or the version is requested, or there are no
+-- words
 abbrev pub is_help : ErrorKind → Bool
 is_help kind.DisplayHelp = true
 is_help kind.DisplayVersion = true
@@ -213,8 +213,8 @@ abbrev pub ClapRefuses : Choices → List Text → Type 0
 ClapRefuses choices words = (found : ErrorKind) × (is_help found ≡ false) × IsAmong found (fault_of (program choices) words)
 
 -- Why the words request nothing, and the text that is reported. We promise nothing about the texts
--- of `clap`. Wrong values are reported only for words that `clap` accepts, so they are never
--- reported if help is requested.
+-- of `clap`. Wrong values are reported only for words that `clap` accepts, so wrong values are
+-- never reported if help is requested.
 abbrev pub Unasks : List Text → Text → ArgumentsError → Type 0
 Unasks words folder (Help text) = (choices : Choices) × AreChoices choices × AsksForHelp choices words
 Unasks words folder (Wrong text) = (choices : Choices) × AreChoices choices × (ClapRefuses choices words ⊎ IsTaken choices words × AsksWrongly folder (subcommand_of (program choices) words) text)

@@ -46,7 +46,7 @@ telling colors =
 abbrev pub paths : List Rule
 paths = option (codes "manifest-path") ∷ option (codes "target-dir") ∷ []
 
--- the options for the form of messages, for the runner, and for the value of `CARGO` that children
+-- the options for the form of messages, for the runner, and for the text of `CARGO` that children
 -- see
 abbrev pub children : ValueParser → List Rule
 children formats = record (option (codes "message-format")) { parser = Some formats } ∷ option (codes "runner") ∷ option (codes "tool") ∷ []
@@ -55,7 +55,7 @@ children formats = record (option (codes "message-format")) { parser = Some form
 abbrev pub without_effect : List Rule
 without_effect = flag (codes "locked") ∷ flag (codes "offline") ∷ flag (codes "frozen") ∷ []
 
--- Which values two options may have.
+-- Which values the options for the form of messages and for colours may have.
 pub record Choices : Type 0 where
   -- the forms that messages may have
   pub formats : ValueParser
@@ -72,12 +72,12 @@ pub record AreChoices (choices : Choices) : Type 0 where
   pub formats : IsOneOf (codes "json" ∷ []) choices.formats
   pub colors : IsOneOf (codes "auto" ∷ codes "always" ∷ codes "never" ∷ []) choices.colors
 
--- the command after these rules are added to it one by one
+-- the command that results if these rules are added to a command, one by one
 abbrev pub with_rules : List Rule → App → App
 with_rules [] app = app
 with_rules (rule ∷ rules) app = with_rules rules (with_rule app rule)
 
--- the command with further options, which choose what is built and how it is built
+-- the command with further options, which choose what is built, and how
 abbrev pub choosing : App → App
 choosing app = with_rules features (with_rules selection app)
 
@@ -111,8 +111,8 @@ session = with_rule (new_app (codes "session")) record (new_rule (codes "FILE"))
 abbrev pub explain : App
 explain = with_rule (new_app (codes "explain")) record (new_rule (codes "NAME")) { required = true }
 
--- the same command, which now has a version, requires a subcommand, and shows help if there are no
--- words
+-- the command with three changes: it has a version, requires a subcommand, and shows help if there
+-- are no words
 abbrev pub wanting : App → App
 wanting app = record app { top = record app.top { has_version = true; arg_required_else_help = true; subcommand_required = true } }
 

@@ -9,7 +9,7 @@ use Rattle.pb_tool_arguments.specs.Description.{AreChoices, Choices}
 use Rattle.pb_tool_arguments.specs.declared.invocation.ArgumentsError.{ArgumentsError}
 use Rattle.pb_tool_arguments.specs.declared.invocation.ArgumentsError.TheVariants.{Help, Wrong, OutOfMemory}
 
--- the error does not show help; if it reports wrong words, `why` is true of its text
+-- the error does not show help; if the error reports wrong words, `why` is true of the error's text
 abbrev pub ToldWrong : (Text → Type 0) → ArgumentsError → Type 0
 ToldWrong why (Help text) = ⊥
 ToldWrong why (Wrong text) = why text

@@ -52,7 +52,7 @@ pub struct Shown {
     pub explain: bool,
     /// Diagnostics, and the warnings of scripts, as text.
     pub render: bool,
-    /// The program and the arguments of each child, before it is started.
+    /// The program and the arguments of each child, before the child is started.
     pub verbose: bool,
     /// Which unit begins, on one line; each new text overwrites the old one.
     pub progress: bool,
@@ -82,8 +82,8 @@ impl From<AllocError> for ArgumentsError {
     }
 }
 
-/// Returns whether the reader of the words reports a request for help or for the version. Such a
-/// request is not a mistake.
+/// Returns whether `clap` reports a request for help or for the version. Such a request is not a
+/// mistake.
 fn is_help(kind: ErrorKind) -> bool
     ensures { result ≡ is_help kind }
 {
@@ -92,8 +92,8 @@ fn is_help(kind: ErrorKind) -> bool
         || kind == ErrorKind::DisplayHelpOnMissingArgumentOrSubcommand
 }
 
-/// Returns what the reader of the words reports. The text is for the output if help was requested,
-/// and otherwise for standard error.
+/// Returns what `clap` reports about the words of a command line. The text is for the output if
+/// help was requested, and otherwise for standard error.
 pub(crate) fn unasked_of(alloc: Global, error: &Error) -> ArgumentsError
     ensures { TellsKind (kind_of error.now) result }
 {

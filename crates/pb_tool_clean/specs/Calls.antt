@@ -11,7 +11,7 @@ use Rattle.pb_tool_clean.specs.Names.{is_among}
 use Rattle.pb_tool_clean.specs.declared.fault.CleanFault.{CleanFault}
 use Rattle.pb_tool_clean.specs.declared.fault.CleanFault.TheVariants.{Call, OutOfMemory, Nothing, NoSuchProfile}
 
--- the parts of a place at one moment that a removal uses
+-- the parts of a place that removals use, at one moment
 pub record Moment : Type 0 where
   pub world : World
   pub counts : Counts
@@ -86,13 +86,13 @@ abbrev pub removed_each : List (List ℕ) → World → World
 removed_each [] w = w
 removed_each (path ∷ paths) w = removed_each paths (removed path w)
 
--- A removal failed. Each file at or below the path is unchanged or gone, and nothing else has
--- changed.
+-- A removal at this path failed. Each file at or below the path is unchanged or gone, and nothing
+-- else has changed.
 abbrev pub Cut : List ℕ → World → World → Type 0
 Cut path w new = (new ≡ w) ⊎ PartlyRemoved path w new
 
--- Removals, one after another, ended early. The removal at one path failed. What was at the earlier
--- paths is gone, and what is at the later paths is unchanged.
+-- Removals, one after another, ended early. The removal at one path failed. The files at the
+-- earlier paths are gone, and the files at the later paths are unchanged.
 abbrev pub CutsEach : List (List ℕ) → World → World → Type 0
 CutsEach [] w new = new ≡ w
 CutsEach (path ∷ paths) w new = Cut path w new ⊎ CutsEach paths (removed path w) new

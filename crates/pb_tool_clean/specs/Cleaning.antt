@@ -1,5 +1,5 @@
--- What a removal does, in three steps. It finds the target folder. It lists the content of the
--- profiles' folders. Then it removes what is chosen.
+-- What a removal does, in three steps: it finds the target folder, lists what the profiles' folders
+-- contain, and removes what is chosen.
 use Rattle.std.specs.Prelude.{◌≡◌, ◌≢◌, ℕ, ◌==◌, ◌&&◌, Bool, true, false, not, if◌then◌else◌, unwrap_or, codes, length, List, [], ◌∷◌, ◌++◌, Option, Some, None, Result, Ok, Err, IfOk, IfErr, OnOk, OnErr, IsTrue}
 use Rattle.std.specs.FinMap as finite
 use Rattle.std.specs.Str.{bytes_eq}
@@ -30,13 +30,13 @@ path_or other (Ok path) = path
 path_or other (Err fault) = other
 
 -- The path that a text spells; a relative text starts at the root. If there is no text, or the text
--- has byte 0, this is the path `other`.
+-- has byte 0, the result is the path `other`.
 abbrev pub told_or : List ℕ → List ℕ → Option (List ℕ) → List ℕ
 told_or root other None = other
 told_or root other (Some text) = path_or other (joined root text)
 
--- the folder of `--target-dir`, or else that of `CARGO_TARGET_DIR`, or else `target` in the folder
--- of the manifest
+-- the folder of `--target-dir`, or else the folder of `CARGO_TARGET_DIR`, or else `target` in the
+-- folder of the manifest
 abbrev pub target_of : Options → Map → List ℕ
 target_of options variables =
     let root = folder_of options.manifest in
@@ -49,11 +49,12 @@ listed_in target w = record { files = files_of (profiles_of target w) w; folders
 
 -- What is removed.
 
--- all paths that are chosen: first those of records, and then those of folders
+-- all paths that are chosen: first the paths of records, and then the paths of units' folders
 abbrev pub chosen_of : Choice → Listed → List (List ℕ)
 chosen_of choice listed = records_among choice listed.files ++ folders_among choice listed.folders
 
--- Exactly what is at or below these paths is removed. A failure ends the removal at one of them.
+-- Exactly what is at or below these paths is removed. A failure ends the removal at one of these
+-- paths.
 pub record RemovesEach (is_modelled : Bool) (paths : List (List ℕ)) (result : Result (Unit {0}) CleanFault) (old new : Moment) : Type 0 where
   pub removes : Removes (is_among paths) result old new
   pub gone : IsTrue is_modelled → OnOk result (new.world ≡ removed_each paths old.world)
@@ -73,13 +74,13 @@ is_bare listed = are_none listed.files listed.folders
     are_none [] [] = true
     are_none files folders = false
 
--- Nothing is left in the target folder but its tag. Nothing is in the folders of its profiles, and
--- the target folder has no file other than the tag. On a machine, a folder without files, or
--- another target folder, shows only in the list of what is in the profiles' folders.
+-- Nothing is left in the target folder but the tag: nothing is in the profiles' folders, and no
+-- file but the tag is in the target folder. On a machine, only the list of what the profiles'
+-- folders contain shows a folder without files, or another target folder.
 abbrev pub is_emptied : List ℕ → World → Bool
 is_emptied target w = is_bare (listed_in target w) && is_tag_alone (tag_in target) (listed target w)
 
--- if nothing but its tag is left in the target folder, the whole folder is removed; otherwise
+-- if nothing is left in the target folder but the tag, the whole folder is removed; otherwise
 -- nothing is removed
 pub record RemovesRest (is_modelled : Bool) (target : List ℕ) (result : Result (Unit {0}) CleanFault) (old new : Moment) : Type 0 where
   pub removes : Removes (is_at_or_below target) result old new
@@ -113,7 +114,8 @@ abbrev pub CleansListed : Bool → Choice → Result Listed CleanFault → Resul
 CleansListed is_modelled choice (Ok listed) result old new = Cleans is_modelled choice listed result old new
 CleansListed is_modelled choice (Err fault) result old new = (result ≡ Err fault) × (new ≡ old)
 
--- the content of the profiles' folders was listed, and then the chosen part of it was removed
+-- the content of the profiles' folders was listed, and then the chosen part of this content was
+-- removed
 pub record CleansNow (is_modelled : Bool) (choice : Choice) (result : Result (Unit {0}) CleanFault) (old new : Moment) : Type 0 where
   pub listed : Result Listed CleanFault
   pub mid : Moment
@@ -127,19 +129,19 @@ pub record CleansNow (is_modelled : Bool) (choice : Choice) (result : Result (Un
 abbrev pub all_of : List ℕ → Choice
 all_of target = record { target = target; packages = []; profile = None }
 
--- the same choice, but of all packages
+-- the same choice, but for all packages
 abbrev pub of_all_packages : Choice → Choice
 of_all_packages choice = record choice { packages = [] }
 
--- the folder in which a choice looks: that of the profile, if one is named, and otherwise the
--- target folder
+-- the folder to which a choice refers: the folder of the named profile, or the target folder if no
+-- profile is named
 abbrev pub looked_in : Choice → List ℕ
 looked_in choice = unwrap_or choice.profile choice.target
 
 -- What is missing, if the list contains nothing of the choice.
 -- - `All`: the list has no record and no unit's folder.
--- - `OfProfile`: it has some, but none in the chosen profile's folder.
--- - `OfPackages`: it has some in the profile's folder, but none of a chosen package.
+-- - `OfProfile`: the list has records or units' folders, but none of the chosen profile.
+-- - `OfPackages`: the list has some of the chosen profile, but none of the chosen packages.
 abbrev pub ReportsMissing : Choice → Listed → Option Wanted → Type 0
 ReportsMissing choice listed (Some wanted.All) = chosen_of (all_of choice.target) listed ≡ []
 ReportsMissing choice listed (Some wanted.OfProfile) =
@@ -153,15 +155,16 @@ abbrev pub folder_for : Wanted → Choice → List ℕ
 folder_for wanted.All choice = choice.target
 folder_for some choice = looked_in choice
 
--- if the list contains something of the choice, the choice stays as it is; otherwise it is refused
+-- if the list contains something of the choice, the choice stays as it is; otherwise the choice is
+-- refused
 abbrev pub RequiresListed : Choice → Listed → Result Choice CleanFault → Type 0
 RequiresListed choice listed (Ok judged) = (judged ≡ choice) × ReportsMissing choice listed None
 RequiresListed choice listed (Err (Nothing some folder)) = ReportsMissing choice listed (Some some) × (folder ≡ folder_for some choice)
 RequiresListed choice listed (Err OutOfMemory) = Unit {0}
 RequiresListed choice listed (Err fault) = ⊥
 
--- The folder of the named profile, which must have a name. If all profiles are chosen, there is no
--- folder.
+-- The folder of the named profile. The profile's folder must have a name. If all profiles are
+-- chosen, there is no folder.
 abbrev pub IsProfile : List ℕ → List ℕ → Bool → Option (List ℕ) → Type 0
 IsProfile target name false profile = profile ≡ None
 IsProfile target name true profile = (is_relative (profile_folder name) ≡ true) × (profile ≡ Some (below target (profile_folder name)))
@@ -170,8 +173,8 @@ IsProfile target name true profile = (is_relative (profile_folder name) ≡ true
 abbrev pub HasNoFolder : Options → Bool → Type 0
 HasNoFolder options one_profile = (one_profile ≡ true) × (is_relative (profile_folder options.profile) ≡ false)
 
--- A choice is refused because the folder of its profile would have no name. Memory may also run
--- out.
+-- A choice is refused because the folder of the chosen profile would have no name. Memory may also
+-- run out.
 abbrev pub RefusesChoice : Options → Bool → CleanFault → Type 0
 RefusesChoice options one_profile NoSuchProfile = HasNoFolder options one_profile
 RefusesChoice options one_profile OutOfMemory = Unit {0}

@@ -20,12 +20,12 @@ is_binary word = bytes_eq (take 4 word) (codes "bin-")
 abbrev pub is_what : List ℕ → Bool
 is_what word = bytes_eq word (codes "lib") || (bytes_eq word (codes "script") || (bytes_eq word (codes "run") || is_binary word))
 
--- the words are those of a name `PACKAGE.SIDE.WHAT`
+-- the words are the words of a name `PACKAGE.SIDE.WHAT`
 abbrev pub is_unit : List (List ℕ) → Bool
 is_unit (first ∷ side ∷ what ∷ []) = is_side side && is_what what
 is_unit words = false
 
--- the words are those of a name `PACKAGE.SIDE.WHAT.record`
+-- the words are the words of a name `PACKAGE.SIDE.WHAT.record`
 abbrev pub is_record : List (List ℕ) → Bool
 is_record (first ∷ side ∷ what ∷ ending ∷ []) = is_side side && (is_what what && bytes_eq ending (codes "record"))
 is_record words = false
@@ -35,7 +35,7 @@ abbrev pub is_named : List (List ℕ) → List ℕ → Bool
 is_named [] word = true
 is_named (name ∷ names) word = list_any (bytes_eq word) (name ∷ names)
 
--- the package that a key names, which is the key's first word
+-- the name of a key's package, which is the key's first word
 abbrev pub package_in : List (List ℕ) → List ℕ
 package_in [] = []
 package_in (word ∷ words) = word
@@ -45,20 +45,21 @@ abbrev pub is_within : Option (List ℕ) → List ℕ → Bool
 is_within None path = true
 is_within (Some folder) path = is_below folder path
 
--- A chosen path is below the target folder, belongs to a named package, and is below the profile's
--- folder. `words` are those of the path's last part.
+-- A chosen path is below the target folder, belongs to a chosen package, and is in a chosen
+-- profile's folder. `words` are the words of the path's last part.
 abbrev pub is_chosen : Choice → List (List ℕ) → List ℕ → Bool
 is_chosen choice words path = is_below choice.target path && (is_named choice.packages (package_in words) && is_within choice.profile path)
 
--- The path is that of a chosen record. `is_chosen_folder` says the same of a chosen unit's folder.
+-- The path is the path of a chosen record. `is_chosen_folder` says the same of a chosen unit's
+-- folder.
 abbrev pub is_chosen_record : Choice → List ℕ → Bool
 is_chosen_record choice path = is_record (words_in (last_part path)) && is_chosen choice (words_in (last_part path)) path
 
 abbrev pub is_chosen_folder : Choice → List ℕ → Bool
 is_chosen_folder choice path = is_unit (words_in (last_part path)) && is_chosen choice (words_in (last_part path)) path
 
--- Those of these paths that are chosen records, in order. `folders_among` lists those that are
--- chosen units' folders.
+-- The chosen records among these paths, in order. `folders_among` lists the chosen units' folders
+-- among these paths.
 abbrev pub records_among : Choice → List (List ℕ) → List (List ℕ)
 records_among choice [] = []
 records_among choice (path ∷ paths) = if is_chosen_record choice path then path ∷ records_among choice paths else records_among choice paths

@@ -121,7 +121,7 @@ fn folder_in(alloc: Global, target: &PathText, profile: &str) -> Result<PathText
     }
 }
 
-/// Returns the folder of the profile, if one is named.
+/// Returns the folder of the profile, if a profile is named.
 fn profile_of(
     alloc: Global,
     target: &PathText,
@@ -168,8 +168,8 @@ fn choice_in(
 }
 
 /// Returns what the options of a removal choose: the target folder, the named packages or all
-/// packages, and the folder of the named profile, if any. At least one chosen record or unit's
-/// folder exists. The function changes nothing.
+/// packages, and the named profile's folder, if any. At least one chosen record or unit's folder
+/// exists. The function changes nothing.
 ///
 /// Errors:
 ///

@@ -1,4 +1,4 @@
-//! What is in the folders of the profiles of a target folder.
+//! What the profiles' folders in a target folder contain.
 
 ghost use Rattle.std.specs.Prelude.{◌≡◌, ◌++◌, IfOk, OnOk, IsTrue, codes};
 ghost use Rattle.pb_place_types.specs.World.{listed, listed_directly, listed_folders, removed};
@@ -10,7 +10,7 @@ use pb_data::{Items, TryCopy};
 use pb_place_types::{PathText, Place, RelativePath};
 use std::alloc::{AllocError, Global};
 
-/// What is in the folders of the profiles of a target folder.
+/// What the profiles' folders in a target folder contain.
 #[derive(Drop)]
 pub struct Listed {
     /// The files directly in one of these folders.
@@ -164,7 +164,7 @@ fn folders_of<P: Place>(
     Ok(found)
 }
 
-/// Returns what is in the folders of the profiles of a target folder.
+/// Returns what the profiles' folders in a target folder contain.
 ///
 /// Errors: `Call`, with the path of the folder that could not be listed; `OutOfMemory`.
 pub fn look<P: Place>(alloc: Global, place: &mut P, target: &PathText) -> Result<Listed, CleanFault>

@@ -31,7 +31,7 @@ fn unless_empty(found: Option<Text>) -> Option<Text>
     }
 }
 
-/// Returns the value of the variable, by one call.
+/// Returns the value of `CARGO_TARGET_DIR`, by one call.
 fn variable<P: Place>(alloc: Global, place: &mut P) -> Result<Option<Text>, CleanFault>
     ensures ok { IsTrue P.is_modelled → IfOk result (λ found. found ≡ set_text
         (finite.get (P.at place.old).world.variables (codes "CARGO_TARGET_DIR"))) }
@@ -75,7 +75,7 @@ fn standard(alloc: Global, root: &PathText) -> Result<PathText, AllocError>
     root.below(alloc, &name)
 }
 
-/// Returns the target folder, from the options and the value of the variable.
+/// Returns the target folder, from the options and the value of `CARGO_TARGET_DIR`.
 fn target_by(
     alloc: Global,
     options: &Options,
@@ -92,8 +92,9 @@ fn target_by(
     told_or(alloc, &root, other, &options.target_dir)
 }
 
-/// Returns the target folder of a build with these options. This is the value of `--target-dir`,
-/// else the value of the variable `CARGO_TARGET_DIR`, else `target` in the folder of the manifest.
+/// Returns the target folder of a build with these options. The folder is the value of
+/// `--target-dir`, else the value of the variable `CARGO_TARGET_DIR`, else `target` in the folder
+/// of the manifest.
 ///
 /// Errors: `Call`, with the variable's name; `OutOfMemory`.
 pub fn target_of<P: Place>(

@@ -236,8 +236,8 @@ fn tell_all_unused(alloc: Global, notes: &mut Notes, pages: &Pages) -> Result<()
     Ok(())
 }
 
-/// If the root package is built alone, and a workspace in a folder above lists it, adds a note that
-/// says so.
+/// If the root package is built alone, and a workspace in a folder above lists the package, adds a
+/// note that says so.
 fn tell_root_above<P: Place + Remembering>(
     alloc: Global,
     place: &mut P,
@@ -270,9 +270,9 @@ fn tell_passed_over<P: Place + Remembering>(
 
 /// Returns notes on a workspace that the loader refuses, or in which nothing is selected.
 ///
-/// Four functions return notes: this function and the three below it. They only read manifests
-/// again, list folders, and check whether files exist. If a call fails or memory runs out, each of
-/// them returns the notes that it has made so far.
+/// Four functions return notes: this function and the three below it. These functions only read
+/// manifests again, list folders, and check whether files exist. If a call fails or memory runs
+/// out, each function returns the notes that it has made so far.
 pub fn notes_on_load<P: Place + Remembering>(
     alloc: Global,
     place: &mut P,

@@ -1,5 +1,5 @@
-//! Notes on one manifest. They say which rules its text, its keys or their values break, and which
-//! keys nothing reads.
+//! Notes on one manifest. The notes say which rules the manifest's text, keys or values break, and
+//! which keys nothing reads.
 #![tactic(auto)]
 
 mod kinds;

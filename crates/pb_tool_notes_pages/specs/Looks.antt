@@ -1,4 +1,4 @@
--- How a second look changes a place.
+-- What a second look at the manifests changes in a place.
 use Rattle.std.specs.Prelude.{◌≡◌}
 use Rattle.pb_place_types.specs.At.{At}
 

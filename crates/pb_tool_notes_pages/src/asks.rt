@@ -124,7 +124,7 @@ fn ask_of(
     }))
 }
 
-/// Returns the entry at a key of `[workspace.dependencies]`, if it is a table.
+/// Returns the entry at a key of `[workspace.dependencies]`, if the entry is a table.
 pub fn shared_entry<'a>(root: &'a Page, key: &str) -> Option<&'a Table> {
     root.table_at("workspace")
         .and_then(|workspace| workspace.get("dependencies"))

@@ -144,7 +144,7 @@ fn is_excluded(
     Ok(false)
 }
 
-/// Adds the folders that match a pattern and that `exclude` does not exclude.
+/// Adds the folders that match a pattern, except the folders that `exclude` excludes.
 fn push_kept(
     alloc: Global,
     all: &mut Vec<PathText>,

@@ -71,7 +71,7 @@ fn plain_text(alloc: Global, text: &str) -> Result<String, AllocError> {
     Ok(out)
 }
 
-/// Returns whether all bytes of a text are greater than 31. So the text has no line feed.
+/// Returns whether all bytes of a text are greater than 31. A text of such bytes has no line feed.
 fn is_plain(text: &str) -> bool
     ensures { IsTrue result ↔ All IsPlain text.now }
 {

@@ -147,7 +147,7 @@ pub fn is_taken(table: &Table) -> bool {
     matches!(table.get("workspace").and_then(Value::as_bool), Some(true))
 }
 
-/// Returns whether a value is allowed by a rule about a type.
+/// Returns whether a rule that names a type allows a value.
 fn fits_type(rule: &str, value: &Value) -> bool {
     match rule {
         "text" => value.is_str(),
@@ -163,7 +163,7 @@ fn fits_type(rule: &str, value: &Value) -> bool {
     }
 }
 
-/// Returns whether a value is allowed by a rule about some values.
+/// Returns whether a rule that names some values allows a value.
 fn fits_values(rule: &str, value: &Value) -> bool {
     match rule {
         "edition" => is_word(value, "2015,2018,2021,2024"),
@@ -185,7 +185,7 @@ fn fits_values(rule: &str, value: &Value) -> bool {
     }
 }
 
-/// Returns whether a value is allowed by a rule.
+/// Returns whether a rule allows a value.
 pub fn fits(rule: &str, value: &Value) -> bool {
     match rule.strip_suffix('+') {
         Some(own) => match value.as_table() {

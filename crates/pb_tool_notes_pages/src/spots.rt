@@ -7,7 +7,7 @@ use toml::{Table, Value};
 /// A table of a manifest.
 #[derive(Drop)]
 pub struct Spot<'a> {
-    /// Its whole key path, as `bin[2]`; empty for the manifest itself.
+    /// The table's whole key path, as `bin[2]`; empty for the manifest itself.
     pub way: String,
     /// The table.
     pub table: &'a Table,

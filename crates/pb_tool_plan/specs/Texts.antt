@@ -34,7 +34,8 @@ abbrev pub unit_lines : List Planned → List Planned → List ℕ
 unit_lines units [] = []
 unit_lines units (p ∷ ps) = unit_line units p ++ unit_lines units ps
 
--- a line for each unit, in plan order, with its key and the keys of what it needs, in plan order
+-- a line for each unit, in plan order; the line has the unit's key, and the keys of the needed
+-- units in plan order
 abbrev pub plan_lines : Plan → List ℕ
 plan_lines plan = unit_lines plan.planned plan.planned
 
@@ -78,7 +79,7 @@ abbrev pub arrows : List Planned → List ℕ → List ℕ → List ℕ
 arrows units key [] = []
 arrows units key (need ∷ needs) = codes "  " ++ quoted key ++ codes " -> " ++ quoted (key_at units need) ++ codes ";\n" ++ arrows units key needs
 
--- the node of a unit, followed by its arrows
+-- the node of a unit, followed by the node's arrows
 abbrev pub unit_statements : List Planned → Planned → List ℕ
 unit_statements units p = codes "  " ++ quoted p.key ++ codes ";\n" ++ arrows units p.key p.needs
 
@@ -86,6 +87,6 @@ abbrev pub statements : List Planned → List Planned → List ℕ
 statements units [] = []
 statements units (p ∷ ps) = unit_statements units p ++ statements units ps
 
--- a node for each unit with its arrows, in plan order, one statement per line
+-- for each unit, in plan order, a node and the node's arrows, one statement per line
 abbrev pub plan_dot : Plan → List ℕ
 plan_dot plan = codes "digraph plan {\n" ++ statements plan.planned plan.planned ++ codes "}\n"

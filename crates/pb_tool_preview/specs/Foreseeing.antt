@@ -40,7 +40,7 @@ is_kept_if (Some fate) = is_kept fate
 abbrev pub is_kept_at : List Fate → ℕ → Bool
 is_kept_at fates index = is_kept_if (slice_get fates index)
 
--- the index of the first of these units that is not kept, if there is one
+-- the index of the first of these units that is not kept, if there is such a unit
 abbrev pub first_unkept : List Fate → List ℕ → Option ℕ
 first_unkept fates reached = find (λ index. not (is_kept_at fates index)) reached
 
@@ -53,8 +53,9 @@ ends_badly (Some Bad) = true
 ends_badly (Some (Waits index)) = false
 ends_badly (Some (Unreached index)) = true
 
--- The fate of a unit that reaches units which are not kept. The first of these has this index. If
--- that first unit ends badly, the unit is not reached. If not, the unit waits for that first unit.
+-- The fate of a unit, given the index of the first reached unit that is not kept. If a build would
+-- not get past the reached unit, as `ends_badly` says, the unit is `Unreached`. Otherwise the unit
+-- waits for the reached unit.
 abbrev pub waits_for : List Fate → ℕ → Fate
 waits_for fates index = if ends_badly (slice_get fates index) then Unreached index else Waits index
 
@@ -73,7 +74,7 @@ pub record IsReplay (project : Project) (w : World) (u : Planned) (c : Command) 
   pub judged : Judges (ran_of project u c again.ended w.files) fate said
 
 -- How a unit compares with its record, for this command. If a build would start a child for the
--- unit, the fate has the first difference. If not, nothing differs, and the record determines the
+-- unit, the fate has the first difference. Otherwise nothing differs, and the record determines the
 -- fate, as `IsReplay` says.
 abbrev pub IsCompared : Project → World → Planned → Command → Fate → Option (List Directive) → Type 0
 IsCompared project w u c (Starts difference) said = FirstDifference (records_folder project) u.key c w (Some difference) × (said ≡ None)
@@ -85,8 +86,8 @@ IsCompared project w u c (Unreached index) said = ⊥
 -- The units of a plan.
 
 -- The fate of a unit, given the fates and the directives of the units before it. If the unit
--- reaches only kept units, it is compared with its record. The command is that of the unit in a
--- build.
+-- reaches only kept units, the unit is compared with its record. The unit has the same command as
+-- in a build.
 abbrev pub IsFate : Setup → Project → World → List Fate → List (Option (List Directive)) → Planned → Fate → Option (List Directive) → Type 0
 IsFate setup project w fates done u fate said =
     MatchOption (first_unkept fates u.reaches) (IsCompared project w u (command_of setup project u done) fate said) (λ index. (fate ≡ waits_for fates index) × (said ≡ None))
@@ -108,13 +109,13 @@ pub record Looks {T : Type 0} (result : Result T BuildFault) (old new : At) : Ty
   pub starts : new.counts.starts ≡ old.counts.starts
   pub cause : MatchResult result (λ x. new.counts.failures ≡ old.counts.failures) (λ e. HasCause e old.counts new.counts)
 
--- The fault is that of a look at the unit with this key. A file, a folder or a variable could not
--- be read, or memory ran out.
+-- The fault came from the comparison of the unit with this key. A file, a folder or a variable
+-- could not be read, or memory ran out.
 abbrev pub LookFails : List ℕ → BuildFault → Type 0
 LookFails key (Device unit (device.Place fault)) = unit ≡ key
 LookFails key OutOfMemory = Unit {0}
 LookFails key fault = ⊥
 
--- the fault is that of a look at one of the units of a project
+-- the fault came from the comparison of one of the units of a project
 abbrev pub LooksAtSome : Project → BuildFault → Type 0
 LooksAtSome project fault = (index : ℕ) × (u : Planned) × (unit_at project index ≡ Some u) × LookFails u.key fault

@@ -15,7 +15,7 @@ use Rattle.pb_tool_preview.specs.declared.fate.Fate.{Fate}
 use Rattle.pb_tool_preview.specs.declared.fate.Fate.TheVariants.{Starts, Kept, Bad, Waits, Unreached}
 use Rattle.pb_unit.specs.declared.plan.Planned.{Planned}
 
--- the difference that a fate foresees, if it foresees one
+-- the difference that a fate foresees, if the fate foresees a difference
 abbrev pub foreseen : Fate → Option Difference
 foreseen (Starts difference) = Some difference
 foreseen Kept = None
@@ -23,8 +23,8 @@ foreseen Bad = None
 foreseen (Waits index) = None
 foreseen (Unreached index) = None
 
--- Take a unit that begins in the world that was looked at, with the command of that look. Its first
--- difference is the foreseen difference.
+-- Take a unit that begins in the world for which the fates were foreseen, with the command of that
+-- comparison. The unit's first difference is the foreseen difference.
 abbrev pub BeginsAsForeseen : {P : Type 0} → (P → At) → Bool → Answers → Type 0
 BeginsAsForeseen {P} at is_modelled child =
     (setup : Setup) (project : Project) (u : Planned) (done : List (Option (List Directive))) (before now : Store) (old new : P) (begun : Begun) (fate : Fate) (said : Option (List Directive))

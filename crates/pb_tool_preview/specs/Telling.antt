@@ -71,7 +71,8 @@ started_text started kept = decimal started ++ codes " would be started, " ++ ke
 abbrev pub counts_text : ℕ → ℕ → ℕ → ℕ → List ℕ
 counts_text started kept waiting unreached = started_text started kept ++ others_text waiting unreached
 
--- the number of kept units: those that would not be started, would not wait, and are not unreached
+-- the number of kept units, whether good or bad: all units but those that would be started, would
+-- wait or would not be reached
 abbrev pub count_kept : List Fate → ℕ
 count_kept fates = length fates - count_by is_started fates - count_by is_waiting fates - count_by is_unreached fates
 

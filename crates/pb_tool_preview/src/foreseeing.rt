@@ -20,8 +20,8 @@ use pb_store::Store;
 use pb_unit::Planned;
 use std::alloc::{AllocError, Global};
 
-/// Returns the fate of the unit at an index of the plan, and the unit's directives. Both follow
-/// from the fates and the directives of the units before it.
+/// Returns the fate of the unit at an index of the plan, and the unit's directives. Both results
+/// follow from the fates and the directives of the units before that unit.
 fn fate_of<P: Place>(
     alloc: Global,
     place: &mut P,
@@ -53,7 +53,7 @@ fn fate_of<P: Place>(
     }
 }
 
-/// Appends the fate of one more unit, and its directives.
+/// Appends the fate and the directives of one more unit.
 ///
 /// Errors: out of memory.
 fn append(

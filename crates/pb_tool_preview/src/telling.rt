@@ -121,8 +121,8 @@ fn rows_of(alloc: Global, units: &[Planned], fates: &[Fate]) -> Result<Items<Row
     Ok(rows)
 }
 
-/// Returns the end of the line: how many units may be started, and how many are not reached, if
-/// any.
+/// Returns the end of the last line: how many units may be started, and how many are not reached,
+/// if any.
 fn others_text(alloc: Global, waiting: usize, unreached: usize) -> Result<String, AllocError>
     ensures { IfOk result (λ text. string_bytes text ≡ others_text waiting unreached) }
 {
@@ -215,9 +215,9 @@ fn counts_line(alloc: Global, fates: &[Fate]) -> Result<String, AllocError>
 }
 
 /// Returns what a build would do with units of these fates. Each unit that is not kept has a line,
-/// in plan order, with its key and the reason. Five or more units with the same text share one
-/// line. The last line says how many units would be started, are kept, wait, or are not reached.
-/// Each line ends with a line feed. The words are our own choice.
+/// in plan order, with the unit's key and the reason. Five or more units with the same text share
+/// one line. The last line says how many units would be started, are kept, wait, or are not
+/// reached. Each line ends with a line feed. The words are our own choice.
 ///
 /// Errors: out of memory.
 pub fn preview_lines(alloc: Global, units: &[Planned], fates: &[Fate]) -> Result<String, AllocError>

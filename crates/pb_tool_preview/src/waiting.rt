@@ -1,4 +1,4 @@
-//! Units that reach a unit that is not kept.
+//! The fates of units if one of their reached units is not kept.
 
 ghost use Rattle.std.specs.Prelude.{◌≡◌, option_map};
 ghost use Rattle.pb_tool_preview.specs.Foreseeing.{ends_badly, first_unkept, is_kept, is_kept_at, waits_for};
@@ -43,8 +43,8 @@ fn ends_badly(fate: Option<&Fate>) -> bool
     }
 }
 
-/// Returns the fate of a unit that reaches a unit that is not kept. `index` is the index of the
-/// first unit that is reached and not kept.
+/// Returns the fate of a unit if not all units that it reaches are kept. `index` is the index of
+/// the first reached unit that is not kept.
 pub(crate) fn waits_for(fates: &[Fate], index: usize) -> Fate
     ensures { result ≡ waits_for fates.now index }
 {

@@ -39,8 +39,8 @@ status_of (Err fault) = 101
 abbrev pub moved_note : List ℕ → List ℕ → List ℕ
 moved_note path key = codes "note: " ++ path ++ codes " was changed while " ++ key ++ codes " was built: that unit will be built again\n"
 
--- A line for each path that was changed. The line names the unit by its key, which is the last part
--- of the path of the unit's output folder.
+-- A line for each changed path, with the key of the unit whose child read the path. The key is the
+-- last part of the path of the unit's output folder.
 abbrev pub moved_notes : List Moved → List ℕ
 moved_notes [] = []
 moved_notes (one ∷ others) = moved_note one.path (last_part one.out) ++ moved_notes others
@@ -49,8 +49,9 @@ moved_notes (one ∷ others) = moved_note one.path (last_part one.out) ++ moved_
 abbrev pub error_of : Result Summary BuildFault → List ℕ
 error_of answer = codes "error: " ++ result_line answer ++ codes "\n"
 
--- What is written if memory runs out for the reason of a failure. The next definitions are the same
--- for notes, moved files, reasons, a child's output, and the detail of a fault.
+-- What is written if there is no memory to show why a build failed. The next definitions are lines
+-- of this kind for changed files, reasons of starts, a child's output, a fault's detail, a fault's
+-- report, and notes.
 abbrev pub why_lost : List ℕ
 why_lost = codes "error: the build failed; there is no memory to show the reason\n"
 
@@ -72,8 +73,8 @@ report_lost = codes "note: there is no memory to show the details of the fault\n
 abbrev pub look_lost : List ℕ
 look_lost = codes "note: there is no memory to show the notes\n"
 
--- What is written at the end of a build. If all its units are good, nothing is written. If the
--- build failed, the reason is written, or one line says that memory ran out for the reason.
+-- What is written at the end of a build. If all units of the build are good, nothing is written. If
+-- the build failed, the reason is written, or one line says that memory ran out.
 abbrev pub TellsWhy : ℕ → Result Summary BuildFault → SinkState → SinkState → Type 0
 TellsWhy zero answer old new = new ≡ old
 TellsWhy (suc status) answer old new = Tells (error_of answer) old new ⊎ Tells why_lost old new
@@ -85,18 +86,18 @@ units_if true (Ok plan) = Some (length plan.project.plan.planned)
 units_if explain (Err fault) = None
 
 -- the lines that say why the children of these units were started, or one line which says that
--- memory ran out for the reasons
+-- memory ran out
 abbrev pub TellsStarted : ℕ → List (List ℕ) → List Difference → List Detail → ℕ → SinkState → SinkState → Type 0
 TellsStarted units keys differences details kept old new = Tells (explanation units keys differences details kept) old new ⊎ Tells reasons_lost old new
 
--- The reasons, if a build with this number of units ended without a fault. The summary has the
--- started units and what differed. The place has noted the details of each difference. Nothing is
--- promised about these details.
+-- A build of `units` units ended without a fault. This is what is written about the reasons of
+-- starts. The summary has the started units and what differed. The place has noted the details of
+-- each difference. Nothing is promised about these details.
 abbrev pub TellsSummary : ℕ → Summary → SinkState → SinkState → Type 0
 TellsSummary units summary old new = (details : List Detail) × TellsStarted units summary.started summary.differences details (length summary.kept) old new
 
--- The reasons, if a fault ended a build with this number of units. The place has noted all reasons.
--- If memory ran out for a note, only a line about this is written.
+-- A fault ended a build of `units` units. This is what is written about the reasons of starts. The
+-- place has noted the reasons. If memory ran out for a note, only a line that says so is written.
 abbrev pub TellsNotedUnless : Bool → ℕ → Noted → SinkState → SinkState → Type 0
 TellsNotedUnless true units noted old new = Tells reasons_lost old new
 TellsNotedUnless false units noted old new = TellsStarted units noted.started noted.differences noted.details noted.kept old new
@@ -104,28 +105,28 @@ TellsNotedUnless false units noted old new = TellsStarted units noted.started no
 abbrev pub TellsNoted : ℕ → Noted → SinkState → SinkState → Type 0
 TellsNoted units noted old new = TellsNotedUnless noted.lost units noted old new
 
--- What is written about the reasons of a build with this number of units, if reasons are requested.
--- Lines say why children were started, or one line says that memory ran out for the reasons. In any
--- other case nothing is written.
+-- What is written about the reasons of a build. If the number of units is given, lines say why
+-- children were started, or one line says that memory ran out. If the number is not given, nothing
+-- is written.
 abbrev pub TellsReasons : Option ℕ → Result Summary BuildFault → Noted → SinkState → SinkState → Type 0
 TellsReasons None answer noted old new = new ≡ old
 TellsReasons (Some units) (Err fault) noted old new = TellsNoted units noted old new
 TellsReasons (Some units) (Ok summary) noted old new = TellsSummary units summary old new
 
--- What is written if a build ended without a fault. What a bad unit's child printed is written, if
--- no message line contains it. If memory ran out for this output, one line says so. Without such
--- output nothing is written.
+-- What a build without a fault writes about the first bad unit: the part of the child's output that
+-- no message line contains. If memory ran out, one line says so instead. Without such output
+-- nothing is written.
 abbrev pub TellsSaid : Result Summary BuildFault → SinkState → SinkState → Type 0
 TellsSaid (Err fault) old new = new ≡ old
 TellsSaid (Ok summary) old new = TellsOr said_lost (said_by_bad summary.bad summary.said) old new
 
 -- What is written about the fault of a build: the fault's detail, or one line which says that
--- memory ran out for the detail. If all units are good, nothing is written.
+-- memory ran out. If all units are good, nothing is written.
 abbrev pub TellsDetail : Bool → Result Summary BuildFault → SinkState → SinkState → Type 0
 TellsDetail rendered answer old new = TellsOr detail_lost (detail rendered answer) old new
 
 -- What a place reports about a fault from outside: at most ten texts without line feeds. Nothing
--- more is promised about these texts. Without such a fault there are no texts.
+-- more is promised about these texts. Without a fault from outside there are no texts.
 abbrev pub Reported : Result Summary BuildFault → List (List ℕ) → Type 0
 Reported (Err (build.Child unit fault)) texts = AreReported texts
 Reported (Err (build.Device unit fault)) texts = AreReported texts
@@ -133,13 +134,13 @@ Reported (Err build.Toolchain) texts = AreReported texts
 Reported answer texts = texts ≡ []
 
 -- What is written about a report: a line `note: TEXT` for each text, or one line which says that
--- memory ran out for the report. If there are no texts, nothing is written.
+-- memory ran out. If there are no texts, nothing is written.
 abbrev pub TellsReport : List (List ℕ) → SinkState → SinkState → Type 0
 TellsReport texts old new = TellsOr report_lost (lines_of texts) old new
 
 -- How a build with this answer ends. The build has a status. If reasons are requested, the build
--- writes beside the output why children were started. Then it writes what a failing child printed,
--- the fault's detail, the place's report, the notes, and the reason of a failure.
+-- writes beside the output why children were started. Then the build writes what a failing child
+-- printed, the fault's detail, the place's report, the notes, and the reason of a failure.
 pub record Concludes (explain : Option ℕ) (rendered : Bool) (answer : Result Summary BuildFault) (report notes : List (List ℕ)) (status : ℕ) (old new : SinkState) : Type 0 where
   pub told : status ≡ status_of answer
   pub noted : Noted
@@ -155,15 +156,15 @@ pub record Concludes (explain : Option ℕ) (rendered : Bool) (answer : Result S
   pub again : TellsOr look_lost (lines_of notes) reported told_again
   pub reason : TellsWhy status answer told_again new
 
--- Nothing has changed but the counters of calls and of failures. So no child was started.
+-- Only the counters of calls and of failures have changed. So no child was started.
 pub record Looked (old new : BuildState) : Type 0 where
   pub world : new.world ≡ old.world
   pub starts : new.counts.starts ≡ old.counts.starts
   pub most : new.most ≡ old.most
   pub heard : new.heard ≡ old.heard
 
--- A second look, for notes about a build that was refused or ended without a fault. After any other
--- fault there is no second look.
+-- A second look, for notes about a build that was refused or ended without a fault. After a fault
+-- other than a refusal, there is no second look.
 abbrev pub LooksTwice : Result Summary BuildFault → List (List ℕ) → BuildState → BuildState → Type 0
 LooksTwice (Ok summary) notes old new = Looked old new
 LooksTwice (Err (build.Plan refusal)) notes old new = Looked old new
@@ -175,7 +176,7 @@ folder_of (Ok plan) = Some plan.environment.target
 folder_of (Err fault) = None
 
 -- A build was planned, and this plan was carried out. No further call was made except those of a
--- second look. `moved` is the list that the place has afterwards.
+-- second look. `moved` is the place's list of changed paths after the build.
 pub record BuildsTold (is_modelled : Bool) (child : Answers) (Guards : Option (List ℕ) → Counts → SinkState → SinkState → Type 0) (moved : List Moved) (options : Options) (explain rendered : Bool) (status : ℕ) (old new : BuildState) (said_before said_after : SinkState) : Type 0 where
   -- the plan of the build
   pub plan : Result BuildPlan BuildFault
@@ -197,8 +198,8 @@ pub record BuildsTold (is_modelled : Bool) (child : Answers) (Guards : Option (L
   pub notes_again : List (List ℕ)
   pub are_notes : AreNotes notes_again
   pub looked : LooksTwice answer notes_again built new
-  -- Each path that has changed while a child was at work is reported. Over a modelled place no path
-  -- has changed.
+  -- Each path that has changed while a child was at work is reported. Over a modelled place there
+  -- is no such path.
   pub stood : IsTrue is_modelled → moved ≡ []
   pub marked : SinkState
   pub marks : TellsOr moved_lost (moved_notes moved) held marked

@@ -9,8 +9,8 @@ use Rattle.pb_tool_sentences.specs.Libraries.{notes_of}
 abbrev pub notes_lost : List ℕ
 notes_lost = codes "note: there is no memory to show the packages without a library\n"
 
--- What is written before a build: a note on each package in its plan that lacks a library. If
--- memory runs out for these notes, one line says so. If there are no such packages, or no plan,
+-- What is written before a build: a note on each package in `without_library` of the build's plan.
+-- If memory runs out for these notes, one line says so. If there are no such packages, or no plan,
 -- nothing is written.
 abbrev pub NotesOf : Result BuildPlan BuildFault → SinkState → SinkState → Type 0
 NotesOf (Ok plan) old new = TellsOr notes_lost (notes_of plan.project.workspace.packages plan.project.plan.without_library) old new

@@ -29,8 +29,8 @@ PrintsText text (Err build_fault.Sink) old new = Writes false text old new
 PrintsText text (Err build_fault.OutOfMemory) old new = new ≡ old
 PrintsText text (Err fault) old new = ⊥
 
--- The text of the plan was written. If there is no plan, nothing was written, and the fault is that
--- of the planning.
+-- The text of the plan was written. If there is no plan, nothing was written, and the fault is the
+-- fault of the planning.
 abbrev pub PrintsPlan : PlanForm → Result BuildPlan BuildFault → Result (Unit {0}) BuildFault → SinkState → SinkState → Type 0
 PrintsPlan form (Ok plan) answer old new = PrintsText (plan_text form plan.project.plan) answer old new
 PrintsPlan form (Err fault) answer old new = (answer ≡ Err fault) × (new ≡ old)
@@ -44,8 +44,8 @@ pub record PrintsFrom (is_modelled : Bool) (options : Options) (form : PlanForm)
   pub prints : PrintsPlan form plan answer old.heard heard
   pub rests : new ≡ record planned { heard = heard }
 
--- How the command ends if its plan was refused, failed or could not be written. A second look is
--- made. Then the command writes what `build` writes after such a fault.
+-- How the command ends if its plan was refused, failed or could not be written. After a refusal, a
+-- second look is made. Then the command writes what `build` writes after the same fault.
 pub record PlanFails (fault : BuildFault) (status : ℕ) (old new : BuildState) (said_before said_after : SinkState) : Type 0 where
   pub notes : List (List ℕ)
   pub are_notes : AreNotes notes
@@ -55,13 +55,13 @@ pub record PlanFails (fault : BuildFault) (status : ℕ) (old new : BuildState) 
   pub concluded : Concludes None true (Err fault) report notes status said_before said_after
 
 -- How the command ends. If the plan was written, the status is 0, and nothing else is done or
--- written. If not, the command ends as `PlanFails` says.
+-- written. Otherwise the command ends as `PlanFails` says.
 abbrev pub EndsPlan : Result (Unit {0}) BuildFault → ℕ → BuildState → BuildState → SinkState → SinkState → Type 0
 EndsPlan (Ok done) status old new said_before said_after = (status ≡ 0) × (new ≡ old) × (said_after ≡ said_before)
 EndsPlan (Err fault) status old new said_before said_after = PlanFails fault status old new said_before said_after
 
--- Either a plan of these options was made and written in this form, or the command wrote why this
--- failed. No child was started, and no file was changed.
+-- Either a plan with these options was made and was written in this form, or the command wrote why
+-- there was a failure. No child was started, and no file was changed.
 pub record PlansTold (is_modelled : Bool) (options : Options) (form : PlanForm) (status : ℕ) (old new : BuildState) (said_before said_after : SinkState) : Type 0 where
   pub answer : Result (Unit {0}) BuildFault
   pub printed : BuildState

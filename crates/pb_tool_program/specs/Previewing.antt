@@ -20,24 +20,23 @@ use Rattle.pb_tool_program.specs.Writing.{Tells}
 use Rattle.pb_unit.specs.declared.plan.Planned.{Planned}
 use Rattle.pb_workspace_types.specs.declared.options.Options.{Options}
 
--- the line that is written if memory runs out for the text about what would be started
+-- the line that is written if there is no memory to show what would be started
 abbrev pub fates_lost : List ℕ
 fates_lost = codes "note: there is no memory to show the units that would be started\n"
 
 -- either the lines say what a build would do with these units, or one line says that memory ran out
--- for this
 abbrev pub TellsFates : List Planned → List Fate → SinkState → SinkState → Type 0
 TellsFates units fates old new = Tells (preview_lines units fates) old new ⊎ Tells fates_lost old new
 
--- Either the fates of the units were written, or the look at the units ended with a fault and
+-- Either the fates of the units were written, or the comparison of the units ended with a fault and
 -- nothing was written.
 abbrev pub TellsBy : List Planned → Result (List Fate) BuildFault → Result (Unit {0}) BuildFault → SinkState → SinkState → Type 0
 TellsBy units (Ok fates) answer old new = (answer ≡ Ok tt) × TellsFates units fates old new
 TellsBy units (Err fault) answer old new = (answer ≡ Err fault) × (new ≡ old)
 
--- The prepared units were looked at, and what a build would do with them was written. The fates
--- follow from the records in this world. Nothing changed but counters. If a call failed, no call
--- came after it.
+-- The prepared units were compared with their records, and the program wrote what a build would do
+-- with these units. The fates follow from the records in this world. Nothing changed but counters.
+-- If a call failed, no call came after it.
 pub record Foretells (is_modelled : Bool) (prepared : Prepared) (answer : Result (Unit {0}) BuildFault) (old new : BuildState) (said_before said_after : SinkState) : Type 0 where
   pub fates : Result (List Fate) BuildFault
   pub are : IsTrue is_modelled → IfOk fates (λ found. (done : List (Option (List Directive))) × Foresees prepared.setup prepared.project old.world prepared.project.plan.planned found done)
@@ -49,21 +48,23 @@ pub record Foretells (is_modelled : Bool) (prepared : Prepared) (answer : Result
   pub at : IfErr fates (LooksAtSome prepared.project)
   pub told : TellsBy prepared.project.plan.planned fates answer said_before said_after
 
--- Either the prepared units were looked at, or the preparation failed and nothing more was done.
+-- Either the prepared units were compared with their records, or the preparation failed and nothing
+-- more was done.
 abbrev pub ForetellsIf : Bool → Result Prepared BuildFault → Result (Unit {0}) BuildFault → BuildState → BuildState → SinkState → SinkState → Type 0
 ForetellsIf is_modelled (Ok prepared) answer old new said_before said_after = Foretells is_modelled prepared answer old new said_before said_after
 ForetellsIf is_modelled (Err fault) answer old new said_before said_after = (answer ≡ Err fault) × (new ≡ old) × (said_after ≡ said_before)
 
--- The units of a plan were prepared as for a build. Then they were looked at, unless the
--- preparation failed.
+-- The units of a plan were prepared as for a build. Then the units were compared with their
+-- records, unless the preparation failed.
 pub record LooksAhead (is_modelled : Bool) (child : Answers) (options : Options) (plan : Result BuildPlan BuildFault) (answer : Result (Unit {0}) BuildFault) (old new : BuildState) (said_before said_after : SinkState) : Type 0 where
   pub prepared : Result Prepared BuildFault
   pub readied : BuildState
   pub readies : Readies is_modelled child options plan prepared old readied
   pub foretells : ForetellsIf is_modelled prepared answer readied new said_before said_after
 
--- A build was planned and prepared, and its units were looked at, but none has begun. Nothing was
--- changed, and nothing was output. No child was started except that of the compiler's query.
+-- A build was planned and prepared, and the build's units were compared with their records, but no
+-- unit has begun. Nothing was changed, and nothing was output. No child was started except the one
+-- that reports the compiler's version.
 pub record PreviewsTold (is_modelled : Bool) (child : Answers) (options : Options) (status : ℕ) (old new : BuildState) (said_before said_after : SinkState) : Type 0 where
   -- what is true of the whole preview
   pub unchanged : IsTrue is_modelled → new.world ≡ old.world

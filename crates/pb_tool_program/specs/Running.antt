@@ -29,9 +29,9 @@ use Rattle.pb_tool_program.specs.Writing.{Tells}
 
 -- Sessions.
 
--- The session in these bytes was run. If the status is 0, the session's lines were written as
--- output, and nothing was written beside the output. If the status is 1, the session is reported as
--- bad. Then only the lines from before memory ran out, or before the sink failed, were written.
+-- The session in these bytes was run. If the status is 0, the session's lines were output, and
+-- nothing was written beside the output. If the status is 1, the session is reported as bad; only
+-- the lines from before memory ran out, or before the sink failed, were written.
 pub record RunsSession (bytes : List ℕ) (status : ℕ) (old new said_before said_after : SinkState) : Type 0 where
   pub ends : (status ≡ 0) ⊎ (status ≡ 1)
   pub written : status ≡ 0 → SessionWritten true bytes old new
@@ -71,10 +71,10 @@ Explains OutOfMemory status old new said_before said_after = (status ≡ 101) ×
 
 -- The program.
 
--- What a build shows beside its lines was set before the build. The place knows whether it names
--- its children, and whether it notes units. The sink of the lines knows whether it shows the lines
--- as text. The place and this sink know whether they erase a status line. Both sinks of text know
--- whether levels have colours.
+-- What a build shows beside its message lines was set before the build. The place knows whether it
+-- names its children, and whether it notes units. The sink of the lines knows whether it shows the
+-- lines as text. The place and this sink know whether they erase a status line. Both sinks of text
+-- know whether levels have colours.
 abbrev pub IsShownAs : {P O E : Type 0} → (P → Bool → Bool → P → Type 0) → (P → Bool → P → Type 0) → (O → Bool → Bool → Bool → O → Type 0) → (E → Bool → E → Type 0) → P → O → E → Shown → Type 0
 IsShownAs {P} {O} {E} Speaks Notes Shows Colors place out err shown =
     ((told : P) × Speaks place shown.verbose shown.progress told × ((noting : P) × Notes told shown.explain noting))
@@ -100,7 +100,7 @@ CarriesOut is_modelled child Guards Told page moved (Ok (Explain name)) status o
 CarriesOut is_modelled child Guards Told page moved (Err unasked) status old new said_before said_after = (new ≡ record old { heard = new.heard }) × Explains unasked status old.heard new.heard said_before said_after × Guards None old.counts said_before said_before
 
 -- The program did what these arguments request, with the folder and the processors of `here`.
--- `moved` is the list that the program's place has afterwards.
+-- `moved` is the list of changed paths that the program's place has afterwards.
 abbrev pub Runs : Bool → Answers → (Option (List ℕ) → Counts → SinkState → SinkState → Type 0) → (Shown → Type 0) → Page → List Moved → List (List ℕ) → Here → ℕ → BuildState → BuildState → SinkState → SinkState → Type 0
 Runs is_modelled child Guards Told page moved words here status old new said_before said_after =
     (meant : Result Invocation ArgumentsError) × AsksOrNot words here meant × CarriesOut is_modelled child Guards Told page moved meant status old new said_before said_after

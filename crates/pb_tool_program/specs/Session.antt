@@ -1,4 +1,4 @@
--- What the session program reports about its input, and how it ends.
+-- What the session program reports about its input, and how the program ends.
 use Rattle.std.specs.Prelude.{◌≡◌, ◌⊎◌, ℕ, Bool, codes, List, [], ◌∷◌, ◌++◌, Ok, Result}
 use Rattle.std.specs.Io.KnownBytes.{Appends}
 use Rattle.std.specs.FinMap as map
@@ -18,7 +18,8 @@ use Rattle.pb_tool_program.specs.Writing.{Writes}
 abbrev pub bad_session : List ℕ
 bad_session = codes "error: bad session\n"
 
--- Either the session is reported as bad, or the sink failed and took only a prefix of the report.
+-- Either the report of a bad session was written, or the sink failed and took only a prefix of this
+-- report.
 abbrev pub Refused : SinkState → SinkState → Type 0
 Refused old new = (Appends old.taken new.taken bad_session × (new.faults ≡ old.faults)) ⊎ (TakesPart bad_session old.taken new.taken × (new.faults ≡ up old.faults))
 
@@ -41,17 +42,17 @@ at_first heard = record { moment = record { world = record { files = map.empty; 
 abbrev pub Written : Bool → List SessionStep → SinkState → SinkState → Type 0
 Written whole steps before after = (end : Point) × Course small_compiler steps (at_first before) end × Writes whole (lines_of end.answers) end.moment.heard after
 
--- the bytes are those of a session, and the lines of this session were written
+-- the bytes contain a session, and the lines of this session were written
 abbrev pub SessionWritten : Bool → List ℕ → SinkState → SinkState → Type 0
 SessionWritten whole bytes before after = (steps : List SessionStep) × (session_of bytes ≡ Ok steps) × Written whole steps before after
 
--- Memory ran out. If this happened in a step, the steps before it were taken one by one. If it
--- happened after the last step, no result line was written.
+-- Memory ran out. If memory ran out in a step, the steps before that step were taken one by one. If
+-- memory ran out after the last step, no result line was written.
 abbrev pub Stopped : List SessionStep → SinkState → SinkState → Type 0
 Stopped steps before after =
     ((left : Point) × Breaks small_compiler steps (at_first before) left × (after ≡ left.moment.heard))
     ⊎ ((end : Point) × Course small_compiler steps (at_first before) end × (after ≡ end.moment.heard))
 
--- nothing was written, or the bytes are those of a session that was run until memory ran out
+-- nothing was written, or the bytes contain a session that was run until memory ran out
 abbrev pub SessionStopped : List ℕ → SinkState → SinkState → Type 0
 SessionStopped bytes before after = (after ≡ before) ⊎ ((steps : List SessionStep) × (session_of bytes ≡ Ok steps) × Stopped steps before after)

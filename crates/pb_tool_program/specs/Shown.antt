@@ -15,8 +15,8 @@ use Rattle.pb_tool_program.specs.Building.{status_of}
 use Rattle.pb_tool_program.specs.Running.{CarriesOut}
 use Rattle.pb_workspace_types.specs.declared.options.Options.{Options}
 
--- A build with these options was made. The status is that of the build's answer. After the build,
--- neither the world, nor the starts, nor the output changed.
+-- A build with these options was made. The status is the one for the build's answer. After the
+-- build, neither the world, nor the starts, nor the output changed.
 pub record IsBuilt (is_modelled : Bool) (child : Answers) (options : Options) (status : ℕ) (old new : BuildState) : Type 0 where
   pub answer : Result Summary BuildFault
   pub built : BuildState
@@ -26,8 +26,7 @@ pub record IsBuilt (is_modelled : Bool) (child : Answers) (options : Options) (s
   pub starts : new.counts.starts ≡ built.counts.starts
   pub heard : new.heard ≡ built.heard
 
--- Whatever is shown, the program has done a build as `IsBuilt` says. This is true for all guards,
--- and for all settings of what is shown.
+-- With any guard and any settings of what is shown, the program has done a build as `IsBuilt` says.
 abbrev pub ShownChangesNothing : {G P O E : Type 0} → Bool → Answers → (G → G → Option (List ℕ) → Counts → SinkState → SinkState → Type 0) → (P → O → E → Shown → Type 0) → Type 0
 ShownChangesNothing {G} {P} {O} {E} is_modelled child Guards Told =
     (guard_before guard_after : G) (place : P) (out : O) (err : E) (page : Page) (moved : List Moved)

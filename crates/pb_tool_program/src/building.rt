@@ -35,7 +35,7 @@ use pb_tool_witness::Noting;
 use pb_workspace_types::Options;
 use std::alloc::{AllocError, Global};
 
-/// Returns the status of a build: 0 if all its units are good, else 101.
+/// Returns the status of a build: 0 if all units are good, else 101.
 fn status_of(answer: &Result<Summary, BuildFault>) -> u8
     ensures { result ≡ status_of answer.now }
 {
@@ -66,8 +66,8 @@ fn push_moved(alloc: Global, notes: &mut String, moved: &Moved) -> Result<(), Al
     Ok(())
 }
 
-/// Returns a line for each unit that will be built again because something that its child read was
-/// changed meanwhile.
+/// Returns a line for each unit that will be built again because something that the unit's child
+/// read was changed meanwhile.
 fn moved_notes(alloc: Global, moved: &[Moved]) -> Result<String, AllocError>
     ensures { IfOk result (λ notes. string_bytes notes ≡ moved_notes moved.now) }
 {
@@ -295,7 +295,8 @@ pub(crate) fn conclude<E: Out>(
 ///   dependency names and that has no library. PATH is the package's manifest.
 /// - After the build, a line for each unit whose child read something that was changed meanwhile.
 ///   The next build builds this unit again.
-/// - If requested, why each child was started. After a fault, this is what the place has noted.
+/// - If requested, why each child was started. After a fault, the reasons are those that the place
+///   has noted.
 /// - What the child of a bad unit printed, except what the message lines contain.
 /// - The sentence of the fault. If a compiler failed and its messages were not rendered, a note
 ///   says where these messages are.
@@ -342,7 +343,7 @@ pub fn build_options<P: Noting + Reporting + Remembering, G: Guard<P, E>, O: Out
         units,
         rendered,
         &answer,
-        place.noted(),
+        place.notes(),
         report,
         &notes,
     )

@@ -150,7 +150,7 @@ fn hold_found<P: Place, G: Guard<P, E>, E: Out>(
     }
 }
 
-/// Removes what was chosen. If nothing was chosen, the fault stays.
+/// Removes what was chosen. If nothing was chosen, returns the fault of the choice.
 fn clean_found<P: Place>(
     alloc: Global,
     place: &mut P,
@@ -169,9 +169,9 @@ fn clean_found<P: Place>(
 /// or a removal failed.
 ///
 /// With 101, `err` has notes and `error: ` with a result line. The target folder is listed first.
-/// If it contains nothing to remove, nothing is done. Between this look and the removal, the target
-/// folder is requested from the guard. If a build has the folder, a line on `err` says so, and this
-/// removal waits.
+/// If the folder contains nothing to remove, nothing is done. Between the listing and the removal,
+/// the target folder is requested from the guard. If a build has the folder, a line on `err` says
+/// so, and this removal waits.
 pub fn clean_options<P: Place + Reporting, G: Guard<P, E>, E: Out>(
     alloc: Global,
     place: &mut P,

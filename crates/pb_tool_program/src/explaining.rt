@@ -76,8 +76,8 @@ fn tell_noted<E: Out>(alloc: Global, err: &mut E, units: usize, noted: &Noted)
     }
 }
 
-/// Writes why a build started its children, if this is requested. `explain` is then the number of
-/// the build's units.
+/// Writes why a build started its children, if this is requested. If reasons are requested,
+/// `explain` is the number of the build's units.
 pub(crate) fn explain_to<E: Out>(
     alloc: Global,
     err: &mut E,

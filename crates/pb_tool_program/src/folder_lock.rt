@@ -14,7 +14,7 @@ use std::{fs, io};
 ///
 /// The lock lasts until this value is dropped or the process ends in any way. No child has the
 /// lock. A folder that does not exist is made. A folder that cannot be made or locked is not
-/// guarded: the build goes on, and the build itself reports what is wrong with the folder.
+/// guarded: the build goes on and itself reports what is wrong with the folder.
 ///
 /// The locked folder is the one to which the path leads once the lock is taken. If another folder
 /// has replaced the first folder meanwhile, the new folder is locked.

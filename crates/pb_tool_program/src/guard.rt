@@ -7,10 +7,10 @@ ghost use Rattle.pb_place_types.specs.Sinks.{SinkState};
 use pb_place_types::{Out, PathText, Place};
 
 /// Reserves target folders for one build at a time, if possible. At each call, the contracts see
-/// the counters of the place and what `err` has received. So they can say at which moment of a
-/// build the call comes.
+/// the counters of the place and what `err` has received. So the contracts can say at which moment
+/// of a build the call comes.
 pub trait Guard<P: Place, E: Out> {
-    /// How a folder is requested. This is a relation between these, in order:
+    /// How a folder is requested. The relation is between these values, in order:
     ///
     /// - the guard before;
     /// - the folder;

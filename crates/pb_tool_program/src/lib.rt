@@ -1,5 +1,5 @@
 //! What the program `pb_tool` does, over any place: it builds a workspace, runs a session in
-//! memory, or explains the name of an error. `tool` does the same over the machine.
+//! memory, or explains the name of an error. `tool` is the program over the machine.
 #![tactic(auto)]
 
 mod building;

@@ -1,4 +1,4 @@
-//! Notes on packages that dependencies name and that have no library.
+//! Notes on packages that dependencies name although the packages have no library.
 
 ghost use Rattle.std.specs.Prelude.{◌≡◌, ◌==◌, length, IfOk, string_bytes};
 ghost use Rattle.pb_tool_program.specs.Libraries.{NotesOf};
@@ -17,7 +17,8 @@ fn has_libraries(plan: &BuildPlan) -> bool
     plan.project.without_library().is_empty()
 }
 
-/// Returns a line for each package that a dependency of a plan names and that has no library.
+/// Returns a line for each package that a dependency of a plan names although the package has no
+/// library.
 fn plan_notes(alloc: Global, plan: &BuildPlan) -> Result<String, AllocError>
     ensures { IfOk result (λ notes. string_bytes notes
         ≡ notes_of plan.now.project.workspace.packages plan.now.project.plan.without_library) }
@@ -26,9 +27,10 @@ fn plan_notes(alloc: Global, plan: &BuildPlan) -> Result<String, AllocError>
     notes_of(alloc, packages, plan.project.without_library())
 }
 
-/// Writes a line for each package of a build's plan that a dependency names and that has no
-/// library. If there is no such package, writes nothing. If there is no plan, writes nothing, since
-/// the build reports why. If memory runs out, writes a line that needs no memory instead.
+/// Writes a line for each package that a dependency of a build's plan names although the package
+/// has no library. If there is no such package, writes nothing. If there is no plan, writes
+/// nothing, since the build reports why. If memory runs out, writes a line that needs no memory
+/// instead.
 pub(crate) fn note<E: Out>(alloc: Global, err: &mut E, plan: &Result<BuildPlan, BuildFault>)
     ensures { NotesOf plan.now (E.heard err.old) (E.heard err.new) }
 {

@@ -23,8 +23,8 @@ fn near_told(alloc: Global, near: Option<&str>) -> Result<String, AllocError>
     Ok(text)
 }
 
-/// Returns the line for a name that is not on the page. The line also gives a similar name from the
-/// page, if there is one.
+/// Returns the line for a name that is not on the page. The line also contains a similar name from
+/// the page, if there is one.
 fn no_such_name(alloc: Global, page: &Page, name: &str) -> Result<String, AllocError>
     ensures { IfOk result
         (λ text. string_bytes text ≡ no_such_name (near_in page.now name.now) name.now) }
@@ -39,7 +39,7 @@ fn no_such_name(alloc: Global, page: &Page, name: &str) -> Result<String, AllocE
 }
 
 /// Writes that a page does not have this name, and returns the status. If memory runs out for the
-/// line, writes that instead.
+/// line, writes a line that says so.
 fn miss<E: Out>(alloc: Global, page: &Page, name: &str, err: &mut E) -> u8
     ensures { Unmeant (near_in page.now name.now) name.now result
         (E.heard err.old) (E.heard err.new) }

@@ -48,7 +48,7 @@ fn print<O: Out>(alloc: Global, out: &mut O, plan: &Plan, form: PlanForm) -> Res
     }
 }
 
-/// Prints what was planned. A plan that failed keeps its fault.
+/// Prints the plan. If the planning failed, returns its fault.
 fn print_planned<O: Out>(
     alloc: Global,
     out: &mut O,

@@ -71,8 +71,8 @@ fn carry_out<O: Out>(alloc: Global, bytes: &[u8], out: &mut O) -> Result<bool, B
 }
 
 /// Runs a session, and returns the exit status. The session is read from bytes and run in memory
-/// with the small compiler as its child. All message lines of its builds are written to `out`, and
-/// then one result line for each build, followed by a line feed.
+/// with the small compiler as its child. All message lines of the session's builds are written to
+/// `out`, and then one result line for each build, followed by a line feed.
 ///
 /// The status is 0, or 1 with `error: bad session` and a line feed on `err`. The status is 1 if:
 ///
@@ -80,9 +80,9 @@ fn carry_out<O: Out>(alloc: Global, bytes: &[u8], out: &mut O) -> Result<bool, B
 /// - memory runs out outside a build;
 /// - a result line cannot be written.
 ///
-/// If the status is 1, `out` has the first lines of the session, as far as the session was run and
-/// the sink took the lines. A build that is refused or fails does not make a session bad: its
-/// result line reports it.
+/// If the status is 1, `out` has the session's first lines, as far as the session was run and the
+/// sink took the lines. A build that is refused or fails does not make a session bad: the build's
+/// result line reports how the build ended.
 pub fn run_session<O: Out, E: Out>(alloc: Global, bytes: &[u8], out: &mut O, err: &mut E) -> u8
     ensures status { (result ≡ 0) ⊎ (result ≡ 1) }
     ensures written { result ≡ 0 →

@@ -1,4 +1,4 @@
--- How a watched turn decides: in the same way as the turn inside it.
+-- A watched turn decides in the same way as the turn that it contains.
 use Rattle.std.specs.Prelude.{ℕ, List}
 use Rattle.pb_build.specs.Ending.{PicksFirstOf}
 use Rattle.pb_run_flight.specs.Steps.{TurnsOfJobs}

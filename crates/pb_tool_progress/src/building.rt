@@ -49,8 +49,8 @@ fn note<S: Out>(line: &mut StatusLine<S>, answer: &Result<Summary, BuildFault>) 
     }
 }
 
-/// Builds what was planned, as `build_plan` does. Shows each unit that begins, if its key is among
-/// these keys.
+/// Builds what was planned, as `build_plan` does. Shows each unit that begins, if the unit's key is
+/// among these keys.
 ///
 /// Errors: those of `build_plan`.
 fn build_shown<P: Place, O: Out, S: Out>(

@@ -19,13 +19,14 @@ own_line row = row.key ++ codes ": " ++ row.said ++ codes "\n"
 abbrev pub group_line : ℕ → Row → List ℕ
 group_line count row = decimal count ++ codes " units: " ++ row.said ++ codes "\n"
 
--- The line for a row, given the rows before it. If fewer than five of all rows have the row's text,
--- this is the row's own line. Otherwise the first of these rows has one line for all of them.
+-- The line for a row, given the earlier rows. If fewer than five of all rows have the row's text,
+-- this is the row's own line. Otherwise the first row with this text has one line for all of these
+-- rows, and the others have no line.
 abbrev pub line_in : List Row → List Row → Row → List ℕ
 line_in rows before row =
     if nat_lt (count_in rows row.said) 5 then own_line row else (if is_said before row.said then [] else group_line (count_in rows row.said) row)
 
--- the lines of the rows that are left, given the rows before them
+-- the lines of the remaining rows, given the earlier rows
 abbrev pub lines_from : List Row → List Row → List Row → List ℕ
 lines_from rows before [] = []
 lines_from rows before (row ∷ left) = line_in rows before row ++ lines_from rows (before ++ row ∷ []) left

@@ -28,7 +28,8 @@ reason (Input (Path path)) = path ++ codes " has changed"
 reason (Input (Variable name)) = name ++ codes " has changed"
 reason (Dependency key) = key ++ codes " was built again"
 
--- the reason of a difference, ending in a text that says how the differing part has changed
+-- The reason of a difference. The reason ends in the text `text`, which says how the differing part
+-- has changed.
 abbrev pub changed_reason : Difference → List ℕ → List ℕ
 changed_reason NoRecord text = reason NoRecord
 changed_reason (Command changed) text = part changed ++ codes " " ++ text
@@ -47,8 +48,8 @@ word_reason difference text = reason difference
 abbrev pub is_plain : List ℕ → Bool
 is_plain text = list_all (nat_lt 31) text
 
--- Why a unit's child was started, with the detail of the difference. The detail is left out if it
--- is not known, or if its text has a control character.
+-- Why a unit's child was started, with the detail of the difference. The detail is left out if the
+-- detail is not known, or if the detail's text has a control character.
 abbrev pub reason_with : Difference → Detail → List ℕ
 reason_with difference Nothing = reason difference
 reason_with difference Unseen = codes "something differs from its record"
@@ -56,7 +57,7 @@ reason_with difference BadAnswer = codes "its last child gave no answer that cou
 reason_with difference (Word text) = if is_plain text then word_reason difference text else reason difference
 reason_with difference (Became text) = if is_plain text then changed_reason difference text else reason difference
 
--- a comma, a number and words for what it counts, or no text for 0
+-- a comma, a number, and words for what the number counts; there is no text if the number is 0
 abbrev pub if_some : ℕ → List ℕ → List ℕ
 if_some zero words = []
 if_some (suc n) words = codes ", " ++ decimal (suc n) ++ words

@@ -1,4 +1,4 @@
-//! How something differs, in addition to what differs.
+//! A `Detail` says how something differs. It does not say what differs.
 
 use pb_data::{Text, TryCopy};
 use std::alloc::{AllocError, Global};

@@ -9,15 +9,15 @@ use std::alloc::Global;
 /// What was noted of the units of a build. The notes are known after a fault, too.
 #[derive(Drop)]
 pub struct Noted {
-    /// The keys of the units whose child was started, in order.
+    /// The keys of the units whose child was started, in the order of these starts.
     pub started: Items<Text>,
-    /// The first difference of each of these units.
+    /// The first difference of each started unit.
     pub differences: Items<Difference>,
-    /// How each of these units differs.
+    /// How each started unit differs from its record.
     pub details: Items<Detail>,
     /// How many units began and were kept.
     pub kept: usize,
-    /// Whether memory ran out for a note. In this case each other field may be incomplete.
+    /// Whether memory ran out for a note. If memory ran out, each other field may be incomplete.
     pub lost: bool,
 }
 

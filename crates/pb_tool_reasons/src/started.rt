@@ -86,7 +86,7 @@ fn rows_of(
     Ok(rows)
 }
 
-/// Returns the line with how many units were started and kept, and how many were not reached.
+/// Returns the line that says how many units were started and kept, and how many were not reached.
 fn counts_line(
     alloc: Global,
     started: usize,

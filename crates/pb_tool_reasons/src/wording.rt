@@ -66,7 +66,7 @@ fn is_plain_byte(byte: u8) -> bool
     31 < byte
 }
 
-/// Returns whether all bytes of a text are greater than 31. So the text has no line feed.
+/// Returns whether all bytes of a text are greater than 31. A text of such bytes has no line feed.
 fn is_plain(text: &Text) -> bool
     ensures { result ≡ is_plain text.now }
 {
@@ -87,7 +87,7 @@ fn changed_reason(alloc: Global, difference: &Difference, text: &Text) -> Result
     }
 }
 
-/// Returns why a unit's child was started, with the word of its command that differs.
+/// Returns why a unit's child was started, with the word of the unit's command that differs.
 fn word_reason(alloc: Global, difference: &Difference, text: &Text) -> Result<String, AllocError>
     ensures { IfOk result (λ said. string_bytes said ≡ word_reason difference.now text.now) }
 {

@@ -21,7 +21,8 @@ told level text = level ++ codes ": " ++ text ++ codes "\n"
 abbrev pub told_at : List ℕ → List ℕ → Data → List ℕ
 told_at level text value = told (text_or_none level value) (text_or_none text value)
 
--- the compiler's own text of a diagnostic, or, if there is none, the diagnostic's level and message
+-- The compiler's own text of a diagnostic. If there is no such text, this is a line with the
+-- diagnostic's level and message.
 abbrev pub rendered_or : Option (List ℕ) → Data → List ℕ
 rendered_or (Some rendered) value = rendered
 rendered_or None value = told_at (codes "/message/level") (codes "/message/message") value

@@ -21,7 +21,7 @@ pub trait Coloring: Out {
     /// after. The setting is whether the sink shows colours from then on.
     ghost colors: { Self → Bool → Self → Type 0 };
 
-    /// Sets whether levels have colours from now on. What the sink has received stays.
+    /// Sets whether levels have colours from now on. The sink keeps what it has received.
     fn color(&mut self, on: bool)
         ensures colors { colors self.old on self.new }
         ensures heard { Self.heard self.new ≡ Self.heard self.old };
@@ -80,7 +80,7 @@ fn first_line(bytes: &[u8]) -> (&[u8], &[u8])
     }
 }
 
-/// Writes lines, each with its level in a colour. Returns whether all of them were written.
+/// Writes lines, each with its level in a colour. Returns whether all lines were written.
 fn write_lines<S: Out>(sink: &mut S, lines: &[u8]) -> bool
     ensures whole { IsTrue result → (S.heard sink.new).faults ≡ (S.heard sink.old).faults }
     ensures fault { result ≡ false → (S.heard sink.new).faults ≡ up (S.heard sink.old).faults }
@@ -97,7 +97,7 @@ fn write_lines<S: Out>(sink: &mut S, lines: &[u8]) -> bool
 }
 
 impl<S: Out> Colored<S> {
-    /// Returns a sink over another sink. It shows no colours yet.
+    /// Returns a sink over another sink. The new sink shows no colours yet.
     pub fn new(inside: S) -> Colored<S> {
         Colored { inside, on: false }
     }

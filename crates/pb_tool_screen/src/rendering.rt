@@ -46,7 +46,7 @@ fn told_at(alloc: Global, value: &Value, level: &str, text: &str) -> Result<Stri
     level_line(alloc, text_or_none(value, level), text_or_none(value, text))
 }
 
-/// Returns the text of a diagnostic. This is the compiler's own text or, if there is none, the
+/// Returns the text of a diagnostic. The text is the compiler's own or, if there is none, the
 /// diagnostic's level and message.
 fn diagnostic_shown(alloc: Global, value: &Value) -> Result<String, AllocError>
     ensures { IfOk result (λ text. string_bytes text ≡ diagnostic_shown (view value.now)) }

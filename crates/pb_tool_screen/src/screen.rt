@@ -1,4 +1,4 @@
-//! A sink that shows the message lines that it receives.
+//! A sink that shows received message lines as text.
 
 ghost use Rattle.std.specs.Prelude.{◌≡◌, ◌≤◌, ◌++◌, Bool, false, length, take, MatchOption, OnOk};
 ghost use Rattle.std.specs.Io.KnownBytes.{Keeps, Appends};
@@ -18,14 +18,14 @@ pub trait Screen: Out {
     ghost shows: { Self → Bool → Bool → Bool → Self → Type 0 };
 
     /// Sets whether lines are shown from now on, whether a status line is erased before each write,
-    /// and whether levels have colours. What the sink has received stays.
+    /// and whether levels have colours. The sink keeps what it has received.
     fn show(&mut self, on: bool, erases: bool, colors: bool)
         ensures shows { shows self.old on erases colors self.new }
         ensures heard { Self.heard self.new ≡ Self.heard self.old };
 }
 
-/// A sink that passes on all that it receives to a second sink. If lines are to be shown, the text
-/// of each whole line is also written to a third sink. This happens as soon as the second sink has
+/// A sink that passes everything on to a second sink. If lines are to be shown, the text of each
+/// whole line is also written to a third sink. The text is written as soon as the second sink has
 /// taken the line. If memory runs out for a line, the loss is reported. The third sink may fail in
 /// any way.
 #[derive(Drop)]
@@ -54,7 +54,7 @@ fn show_line<S: Out>(alloc: Global, aside: &mut S, line: &[u8]) {
     };
 }
 
-/// Adds received bytes, and shows each line that they end.
+/// Adds received bytes, and shows each line that these bytes complete.
 fn follow<S: Out>(
     alloc: Global,
     aside: &mut S,
@@ -73,7 +73,7 @@ fn follow<S: Out>(
 }
 
 impl<O: Out, S: Out> Rendered<O, S> {
-    /// Returns a sink over these two sinks. It shows nothing yet.
+    /// Returns a sink over these two sinks. The new sink shows nothing yet.
     pub fn new(alloc: Global, out: O, aside: S) -> Rendered<O, S>
         ensures { ⟦<Rendered<O, S> as Out>⟧.heard result ≡ O.heard out }
     {

@@ -24,7 +24,7 @@ pub trait Speaking: Place + Reporting {
     ghost speaks: { Self → Bool → Bool → Self → Type 0 };
 
     /// Sets whether children are named from now on, and whether a status line is erased before each
-    /// text. Everything else of the place stays.
+    /// text. Nothing else of the place changes.
     fn speak(&mut self, on: bool, erases: bool)
         ensures speaks { speaks self.old on erases self.new }
         ensures at { IsUnchanged (Self.at self.old) (Self.at self.new) };
@@ -32,12 +32,12 @@ pub trait Speaking: Place + Reporting {
 
 /// A place that does what another place does. If children are to be named, a line is written to a
 /// sink before each child is started. The line has the program and its arguments, as a shell takes
-/// them. That sink may fail in any way.
+/// them. The sink for these lines may fail in any way.
 #[derive(Drop)]
 pub struct Spoken<P, S> {
     /// The place that makes the calls.
     inside: P,
-    /// The sink to which children are named.
+    /// The sink that receives the lines about children.
     aside: S,
     /// Whether the children are named.
     on: bool,
@@ -113,7 +113,7 @@ fn weigh<S: Out>(alloc: Global, aside: &mut S, erases: bool, path: &PathText, by
 }
 
 /// Writes the note on a file that was written in pieces, if the file is the long record of a
-/// script. It takes memory for the whole file only if the file may be such a record.
+/// script. The function takes memory for the whole file only if the file may be such a record.
 fn weigh_pieces<S: Out>(
     alloc: Global,
     aside: &mut S,

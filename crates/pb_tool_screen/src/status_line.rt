@@ -55,7 +55,7 @@ impl<S: Out> StatusLine<S> {
     }
 
     /// Shows that one more unit begins: the unit of this key, out of this number of units. If
-    /// memory runs out for the line, it shows nothing.
+    /// memory runs out for the line, nothing is shown.
     pub fn begins(&mut self, units: usize, key: &str) {
         self.begun = self.begun.saturating_add(1);
         if let Ok(line) = status_line(self.alloc, self.begun, units, key) {

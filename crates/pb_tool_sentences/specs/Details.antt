@@ -21,14 +21,14 @@ abbrev pub spaced : List (List ℕ) → List ℕ
 spaced [] = []
 spaced (name ∷ names) = codes " " ++ name ++ spaced names
 
--- What follows the sentence: the names of the packages, if the fault is that packages depend on one
--- another.
+-- What follows the sentence of a fault. If packages depend on one another, the names of these
+-- packages follow.
 abbrev pub with_names : BuildFault → List ℕ
 with_names (build.Plan (refusal.Plan (plan.Cycle names))) = codes ":" ++ spaced names
 with_names fault = []
 
--- The unit is bad because of the status of its compiler. Only the key of a script's run ends in
--- `.run`, and the unit's key does not.
+-- The unit is bad because of the compiler's status. The unit is not a run: its key does not end in
+-- `.run`.
 abbrev pub is_by_compiler : List ℕ → UnitFault → Bool
 is_by_compiler key (unit.Status status) = not (ends_with nat_eq key (codes ".run"))
 is_by_compiler key fault = false
@@ -37,8 +37,8 @@ is_by_compiler key fault = false
 abbrev pub where_messages_are : List ℕ
 where_messages_are = codes "note: the compiler's messages, if there are any, are in the lines on standard output; --render shows them as text\n"
 
--- What is written about a bad unit: the sentence of its fault. If its compiler failed and the lines
--- were not shown as text, the note on the compiler's messages follows.
+-- What is written about a bad unit: the sentence of its fault. If the unit's compiler failed, and
+-- message lines were not shown as text, the note on the compiler's messages follows.
 abbrev pub bad_detail : Bool → List ℕ → UnitFault → List ℕ
 bad_detail rendered key fault = told_of (unit_sentence fault) ++ (if not rendered && is_by_compiler key fault then where_messages_are else [])
 

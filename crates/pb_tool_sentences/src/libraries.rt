@@ -1,4 +1,4 @@
-//! Notes on packages that dependencies name and that have no library.
+//! Notes on packages that dependencies name although the packages have no library.
 
 ghost use Rattle.std.specs.Prelude.{◌≡◌, ◌++◌, IfOk, OnOk, string_bytes, codes};
 ghost use Rattle.pb_tool_sentences.specs.Libraries.{manifest_named, notes_of};

@@ -15,13 +15,14 @@ use std::alloc::{AllocError, Global};
 pub(crate) struct Comparison {
     /// Its key.
     pub(crate) key: Text,
-    /// Its record, if it has one.
+    /// The unit's record, if the unit has one.
     pub(crate) kept: Option<Record>,
     /// The first input whose value differs, and how it differs, if such an input has been seen.
     pub(crate) found: Option<(Difference, Detail)>,
     /// The index of the input that was looked at last.
     pub(crate) at: usize,
-    /// How many files of this input have been read, if this input is a folder that has been listed.
+    /// How many files of the input at index `at` have been read, if that input is a folder that has
+    /// been listed.
     pub(crate) read: Option<usize>,
     /// The key of the needed unit whose folder was listed last, if the record is of format 1.
     pub(crate) listed: Option<Text>,

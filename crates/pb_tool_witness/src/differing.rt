@@ -10,8 +10,8 @@ use pb_tool_reasons::Detail;
 use std::alloc::{AllocError, Global};
 
 /// Returns the first needed unit that does not agree with the record. A record of format 1 contains
-/// the files of needed units. For such a record, the first unit that does not agree is the unit
-/// whose folder was listed last.
+/// the files of needed units. For a record of format 1, the first unit that does not agree is the
+/// unit whose folder was listed last.
 fn first_need(
     alloc: Global,
     numbers: &Table<Option<u64>>,

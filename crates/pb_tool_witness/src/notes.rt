@@ -2,8 +2,8 @@
 //!
 //! A build lists the folder of its records, and reads each record once. Then a unit begins with one
 //! more read of its own record. The next calls are those for the inputs that the record names. In
-//! format 1, they include the calls for the folders of the units that the record names. If the unit
-//! is not kept, the next spawn starts its child.
+//! format 1, these calls include those for the folders of the units that the record names. If the
+//! unit is not kept, the next spawn starts its child.
 //!
 //! Any other call shows that the comparison is over. A record of format 1 is read once more when
 //! its unit answers. This read begins no unit, because a unit never begins twice.
@@ -27,12 +27,12 @@ const RECORD: &str = ".record";
 pub(crate) struct Notes {
     /// Whether it notes anything.
     on: bool,
-    /// Whether it notes the values of all variables.
+    /// Whether the values of all variables are noted.
     values: bool,
-    /// The folder whose direct files were listed last. Once a build has opened its records, this is
-    /// the folder of the records.
+    /// The folder whose direct files were listed last. Once a build has opened its records, this
+    /// folder is the folder of the records.
     folder: Option<PathText>,
-    /// How many records of that folder have not been read since the list.
+    /// How many records of that folder have not been read since the folder was listed.
     unread: usize,
     /// The unit that began last, while it is compared with its record.
     current: Option<Comparison>,
@@ -65,7 +65,7 @@ fn record_in(alloc: Global, key: &str, text: Option<&Bytes>) -> Result<Option<Re
     }
 }
 
-/// Returns the comparison of a unit that begins, with the record that a text contains.
+/// Returns the comparison of a unit that begins, with the record in a text.
 fn comparison_of(alloc: Global, key: Text, text: Option<&Bytes>) -> Result<Comparison, AllocError> {
     match record_in(alloc, key.as_str(), text) {
         Ok(kept) => Ok(Comparison {
@@ -196,8 +196,8 @@ impl Notes {
         }
     }
 
-    /// Notes that the record of a unit was read. If the unit has not begun, the unit begins. It
-    /// then counts as kept until its child is started.
+    /// Notes that the record of a unit was read. If the unit has not begun, the unit begins. The
+    /// unit then counts as kept until its child is started.
     fn begin(&mut self, alloc: Global, key: &str, text: Option<&Bytes>) -> Result<(), AllocError> {
         self.end();
         let key = Text::from_str(alloc, key)?;

@@ -16,7 +16,7 @@ pub trait Noting: Place {
 
     /// Drops what was noted, and sets whether units are noted from now on. If `values` is true, the
     /// notes have the values of all variables. Otherwise the notes have only the values of
-    /// variables that the builder itself sets. Everything else of the place stays.
+    /// variables that the builder itself sets. Nothing else of the place changes.
     fn note_units(&mut self, alloc: Global, on: bool, values: bool)
         ensures notes { notes self.old on self.new }
         ensures at { IsUnchanged (Self.at self.old) (Self.at self.new) };

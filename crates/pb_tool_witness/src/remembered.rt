@@ -10,7 +10,7 @@ use std::alloc::{AllocError, Global};
 use std::collections::BTreeMap;
 
 /// The greatest number of bytes of texts and paths that are remembered. The second look makes calls
-/// for the rest.
+/// for what is not remembered.
 const MOST_BYTES: usize = 4_194_304;
 
 /// What a place remembers of a planning.
@@ -18,7 +18,7 @@ const MOST_BYTES: usize = 4_194_304;
 pub(crate) struct Remembered {
     /// The whole texts of files.
     texts: BTreeMap<PathText, Bytes>,
-    /// The folders that were found in each folder that was listed.
+    /// The folders that were found in each listed folder.
     listed: BTreeMap<PathText, Items<PathText>>,
     /// How many more bytes may be remembered.
     left: usize,
@@ -75,8 +75,9 @@ impl Remembered {
         Ok(())
     }
 
-    /// Remembers the first bytes of a file, at most `most`, if these are all its bytes. What was
-    /// remembered of the file before is dropped. If memory runs out, the text is not remembered.
+    /// Remembers the first bytes of a file, at most `most`, if these are all bytes of the file.
+    /// What was remembered of the file before is dropped. If memory runs out, the text is not
+    /// remembered.
     pub(crate) fn note_text(
         &mut self,
         alloc: Global,

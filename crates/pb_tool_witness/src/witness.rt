@@ -14,9 +14,9 @@ use pb_tool_reasons::Noted;
 use pb_tool_screen::Speaking;
 use std::alloc::{AllocError, Global};
 
-/// A place that does what another place does. If noting is on, it notes how each unit that begins
-/// differs from the unit's record. It learns this from the calls of a build, and makes no call of
-/// its own.
+/// A place that does what another place does. If noting is on, the place notes how each unit that
+/// begins differs from the unit's record. The place learns this from the calls of a build, and
+/// makes no call of its own.
 ///
 /// The place also remembers the manifests that it read and the folders that it listed since notes
 /// were last switched. A planning reads these manifests and lists these folders, and the second

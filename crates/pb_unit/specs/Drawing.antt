@@ -1,6 +1,5 @@
--- Units as the nodes of a graph. Each package has six nodes, which have the first numbers. The
--- binaries that are roots have the numbers after these. Only private functions need these
--- definitions.
+-- Units as the nodes of a graph. The nodes are numbered: first six nodes for each package, and then
+-- the binaries that are roots. Only private functions need these definitions.
 use Rattle.std.specs.Prelude.{◌≡◌, ◌↔◌, ℕ, ◌+◌, ◌*◌, Bool, true, false, not, ◌&&◌, ◌||◌, if◌then◌else◌, List, [], ◌∷◌, ◌++◌, map, Contains, Option, Some, None, slice_get}
 use Rattle.std.specs.List.{list_all}
 use Rattle.std.specs.List.Sorted.{IsStrictlySortedBy}
@@ -53,29 +52,30 @@ slot (Bin name) s = 0
 abbrev pub number : Unit → ℕ
 number u = u.package * 6 + slot u.what u.side
 
--- the unit of package `p` that a unit on side `s` needs, if the need is of this kind
+-- the unit of the package `p` to which a need of this kind leads from a unit on the side `s`
 abbrev pub needed : Need → ℕ → Side → Unit
 needed need.Lib p s = unit p s Lib
 needed need.Tool p s = unit p Host Lib
 needed need.Run p s = unit p s Run
 
--- the entry leads to a unit by this kind of need
+-- for a need of this kind, the entry leads to a unit
 abbrev pub leads : Need → Workspace → Entry → Bool
 leads need.Lib ws e = is_normal e.kind && has_library (slice_get ws.packages e.to)
 leads need.Tool ws e = is_build e.kind && has_library (slice_get ws.packages e.to)
 leads need.Run ws e = is_normal e.kind && hands_on (slice_get ws.packages e.to)
 
--- the number of the unit to which an enabled entry leads by this kind of need, if there is one
+-- The number of the unit to which the entry leads for a need of this kind. There is no number if
+-- the entry is not enabled, or leads to no unit for such a need.
 abbrev pub numbers_by : Need → Workspace → Features → ℕ → Side → ℕ → Entry → List ℕ
 numbers_by w ws features p s n e = if is_enabled features p s n && leads w ws e then number (needed w e.to s) ∷ [] else []
 
--- the numbers of the units to which the entries of a package lead by this kind of need
+-- for a need of this kind, the numbers of the units to which a package's enabled entries lead
 abbrev pub all_numbers : Need → Workspace → Features → ℕ → Side → List ℕ
 all_numbers w ws features p s = placed (numbers_by w ws features p s) 0 (entries_at ws p)
 
 -- Candidates.
 
--- the six units of a package that are not binaries, whether they exist or not
+-- the six units that a package may have besides its binaries; some of the six may not exist
 abbrev pub six : ℕ → Package → List Unit
 six p owner = unit p Target Lib ∷ unit p Host Lib ∷ unit p Target Script ∷ unit p Host Script ∷ unit p Target Run ∷ unit p Host Run ∷ []
 
@@ -86,7 +86,8 @@ abbrev pub binaries_of : Option Package → List Binary
 binaries_of None = []
 binaries_of (Some p) = p.binaries
 
--- a binary of a selected package, if it is requested and all features that it requires are on
+-- a binary of a selected package, if the binary is requested and all features that it requires are
+-- on
 abbrev pub named_by : Selection → List (List ℕ) → ℕ → ℕ → Binary → List Named
 named_by selection names p n b = if asks_binary selection b.name && list_all (is_mentioned names) b.required_features then record { owner = p; name = b.name } ∷ [] else []
 
@@ -116,7 +117,7 @@ abbrev pub is_target : Side → Bool
 is_target Target = true
 is_target Host = false
 
--- a candidate is a root, given marks for the selected packages
+-- a candidate is a root; `marks` says which packages are selected
 abbrev pub root_of : Workspace → Bool → List Bool → ℕ → Side → What → Bool
 root_of ws asked marks p s Lib = asked && is_target s && is_on marks p && has_library (slice_get ws.packages p)
 root_of ws asked marks p s (Bin name) = true
@@ -163,7 +164,7 @@ owner_of (Some u) = u.package
 abbrev pub name_behind : Workspace → List Unit → ℕ → List ℕ
 name_behind ws units n = name_at ws (owner_of (slice_get units n))
 
--- the fault of a plan whose graph has no order for this reason
+-- if the units' graph has no order, for this reason, the plan has this fault
 abbrev pub IsRefusal : Workspace → List Unit → OrderFault → PlanFault → Type 0
 IsRefusal ws units order_fault.OutOfMemory e = e ≡ OutOfMemory
 IsRefusal ws units order_fault.TooMany e = e ≡ TooManyUnits

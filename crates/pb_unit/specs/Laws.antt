@@ -20,8 +20,8 @@ unfoldable pub last_word : List ℕ → List ℕ
 last_word [] = []
 last_word (b ∷ text) = if has_point text then last_word text else (if b == dot then text else b ∷ text)
 
--- The key of a unit is the name of one folder. The key's last word says what the unit is, and so
--- does the last word of the output folder's path.
+-- The key of a unit is the name of one folder. The last word of the key says what the unit is. The
+-- last word of the output folder's path says the same.
 pub record TellsWhat (p : Planned) : Type 0 where
   pub name : is_name p.key ≡ true
   pub flat : list_any (λ b. b == slash) p.key ≡ false

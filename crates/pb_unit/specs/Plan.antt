@@ -1,5 +1,5 @@
--- The plan of a build: the roots and all units that they reach, by level and then by key. These
--- definitions also say why there is no plan (The Cargo Book, cargo build).
+-- The plan of a build: the roots and all units that they reach, by level and then by key. If there
+-- is no plan, these definitions say why (The Cargo Book, cargo build).
 use Rattle.std.specs.Prelude.{◌≡◌, ◌≢◌, ◌⊎◌, ◌↔◌, ℕ, ◌+◌, ◌<◌, ◌≤◌, max, false, true, if◌then◌else◌, List, [], ◌∷◌, map, All, AllPairs, Contains, length, Option, Some, None, Result, Ok, Err, slice_get}
 use Rattle.std.specs.List.Sorted.{IsStrictlyIncreasing}
 use Rattle.std.specs.Ordering.{nat_cmp}
@@ -64,16 +64,17 @@ pub record AreIndices (units : List Planned) (Wanted : Unit → Type 0) (indices
 
 -- Profiles.
 
--- The line of the requested profile. A profile counts as missing if its output folder would have no
--- name. No manifest has such a profile.
+-- The line of the requested profile. A profile whose output folder would have no name counts as
+-- missing. No manifest has such a profile.
 abbrev pub profile_line : Workspace → List ℕ → Result (List Seen) ProfileFault
 profile_line ws profile = checked_line ws.profiles profile >>= (λ line. if is_relative (folder_of profile) then Ok line else Err NoSuchProfile)
 
--- the profile's folder in the target folder, which contains the output folders of all units
+-- the profile's folder, which is in the target folder and contains the output folders of all units
 abbrev pub profile_folder : Workspace → List ℕ → List ℕ
 profile_folder ws profile = below ws.target (folder_of profile)
 
--- the unit's settings are those of its package along the line, in the unit's role
+-- the unit's settings are the settings of the unit's package along the profile's line, in the
+-- unit's role
 pub record HasSettings (ws : Workspace) (line : List Seen) (p : Planned) : Type 0 where
   pub owner : Package
   pub package_at : slice_get ws.packages p.unit.package ≡ Some owner
@@ -81,14 +82,14 @@ pub record HasSettings (ws : Workspace) (line : List Seen) (p : Planned) : Type 
 
 -- The names of packages.
 
--- the names of the packages without a library to which an enabled entry leads, in byte order, each
--- once
+-- the names of the packages that have no library although an enabled entry leads to them, in byte
+-- order, each once
 pub record AreWithoutLibrary (ws : Workspace) (features : Features) (names : List (List ℕ)) : Type 0 where
   pub order : IsAscending names
   pub same : (name : List ℕ) → Contains names name ↔ ((p : ℕ) × (s : Side) × (n : ℕ) × (e : Entry) × (is_enabled features p s n ≡ true) × HasEntry ws p n e × (has_library (slice_get ws.packages e.to) ≡ false) × (name ≡ name_at ws e.to))
 
--- The names of the packages of those units that reach themselves, in byte order, each once. There
--- is at least one.
+-- The names of the packages of those units that reach themselves, in byte order, each once. The
+-- list has at least one name.
 pub record IsCycle (ws : Workspace) (features : Features) (selection : Selection) (names : List (List ℕ)) : Type 0 where
   pub some : 0 < length names
   pub order : IsAscending names
@@ -101,8 +102,8 @@ IsStraight ws features selection = (u : Unit) → IsPlanned ws features selectio
 -- The plan.
 
 -- The plan contains the roots and all units that they reach, each once and in order. No unit
--- reaches itself. Each unit has its key, its folder, its level, its settings, and the indices of
--- what it needs and reaches. There is at least 1 unit, and there are at most 4,096.
+-- reaches itself. Each unit has its key, folder, level and settings, and the indices of the units
+-- that it needs and reaches. There is at least 1 unit, and there are at most 4,096.
 pub record IsPlan (ws : Workspace) (features : Features) (selection : Selection) (profile : List ℕ) (plan : Plan) : Type 0 where
   pub line : List Seen
   pub profile_has : profile_line ws profile ≡ Ok line
@@ -121,8 +122,8 @@ pub record IsPlan (ws : Workspace) (features : Features) (selection : Selection)
 
 -- Refusals.
 
--- the plan would have more than 4,096 units; `units` lists more than 4,096 of them in byte order of
--- their keys
+-- The plan would have more than 4,096 units. The list `units` has more than 4,096 of these units,
+-- in byte order of their keys.
 pub record IsCrowd (ws : Workspace) (features : Features) (selection : Selection) : Type 0 where
   pub units : List Unit
   pub planned : All (IsPlanned ws features selection) units
@@ -141,15 +142,15 @@ pub data LacksPlan (ws : Workspace) (features : Features) (selection : Selection
   by_number : (straight : IsStraight ws features selection) (crowd : IsCrowd ws features selection) → LacksPlan ws features selection TooManyUnits
   by_nothing : (none : (u : Unit) → IsPlanned ws features selection u → ⊥) → LacksPlan ws features selection NothingToBuild
 
--- Why there is no plan. Either the profile has no line, or it has a line but the units have no
--- plan.
+-- Why there is no plan. Either the profile has no line, or the profile has a line but the units
+-- have no plan.
 pub data Refuses (ws : Workspace) (features : Features) (selection : Selection) (profile : List ℕ) : PlanFault → Type 0 where
   by_profile : (fault : ProfileFault) (told : profile_line ws profile ≡ Err fault) → Refuses ws features selection profile (Profile fault)
   by_units : (fault : PlanFault) (usable : IsUsable ws profile) (stops : LacksPlan ws features selection fault) → Refuses ws features selection profile fault
 
 -- Laws.
 
--- two units have different keys, and no path is at or below the folders of both
+-- two units have different keys, and no path is at or below the folders of both units
 pub record LieApart (a b : Planned) : Type 0 where
   pub keys : a.key ≢ b.key
   pub folders : (path : List ℕ) → is_at_or_below a.out path ≡ true → is_at_or_below b.out path ≡ false

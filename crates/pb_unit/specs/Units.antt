@@ -19,7 +19,7 @@ use Rattle.pb_unit.specs.declared.unit.Unit.{Unit}
 use Rattle.pb_unit.specs.declared.unit.What.{What}
 use Rattle.pb_unit.specs.declared.unit.What.TheVariants.{Lib, Bin, Script, Run}
 
--- the unit of this kind that belongs to the package at an index, on a side
+-- the unit of kind `w` of the package at the index `p`, on the side `s`
 abbrev pub unit : ℕ → Side → What → Unit
 unit p s w = record { «package» = p; side = s; what = w }
 
@@ -66,8 +66,8 @@ abbrev pub has_script : Option Package → Bool
 has_script None = false
 has_script (Some p) = is_some p.script
 
--- The package has a library, `links` and a script, so its script passes metadata on. In a workspace
--- that was read, each package with `links` has a script.
+-- The package has a library, `links` and a script. The script of such a package passes metadata on.
+-- In a workspace that was read, each package with `links` has a script.
 abbrev pub hands_on : Option Package → Bool
 hands_on None = false
 hands_on (Some p) = is_some p.library && is_some p.links && is_some p.script
@@ -103,8 +103,8 @@ tool_by ws features p s n e = if is_enabled features p s n && is_build e.kind &&
 abbrev pub run_by : Workspace → Features → ℕ → Side → ℕ → Entry → List Unit
 run_by ws features p s n e = if is_enabled features p s n && is_normal e.kind && hands_on (slice_get ws.packages e.to) then unit e.to s Run ∷ [] else []
 
--- The libraries of all normal entries of a package. The next two definitions are the libraries of
--- its build entries, and the runs of its normal entries.
+-- The libraries of all normal entries of a package. `tools` are the libraries of the package's
+-- build entries, and `runs` are the runs of the package's normal entries.
 abbrev pub libraries : Workspace → Features → ℕ → Side → List Unit
 libraries ws features p s = placed (library_by ws features p s) 0 (entries_at ws p)
 
@@ -114,17 +114,18 @@ tools ws features p s = placed (tool_by ws features p s) 0 (entries_at ws p)
 abbrev pub runs : Workspace → Features → ℕ → Side → List Unit
 runs ws features p s = placed (run_by ws features p s) 0 (entries_at ws p)
 
--- A package's own library, if it has one. `own_run` is its own run, if it has a script.
+-- The package's own library, if the package has a library. `own_run` is the package's own run, if
+-- the package has a script.
 abbrev pub own_library : Workspace → ℕ → Side → List Unit
 own_library ws p s = if has_library (slice_get ws.packages p) then unit p s Lib ∷ [] else []
 
 abbrev pub own_run : Workspace → ℕ → Side → List Unit
 own_run ws p s = if has_script (slice_get ws.packages p) then unit p s Run ∷ [] else []
 
--- What a unit needs. A library needs the libraries of its dependencies, and its package's run. A
--- binary needs the same units, and its package's library. A script needs the host's libraries of
--- its build dependencies. A run needs its script, and the runs of dependencies that have a library,
--- `links` and a script.
+-- What a unit needs. A library needs its dependencies' libraries, and its package's run. A binary
+-- needs the same, and its package's library. A script needs its build dependencies' libraries for
+-- the host. A run needs its script, and the run of each dependency that has a library, `links` and
+-- a script.
 abbrev pub needs_of : Workspace → Features → ℕ → Side → What → List Unit
 needs_of ws features p s Lib = libraries ws features p s ++ own_run ws p s
 needs_of ws features p s (Bin name) = own_library ws p s ++ (libraries ws features p s ++ own_run ws p s)
@@ -134,7 +135,7 @@ needs_of ws features p s Run = unit p s Script ∷ runs ws features p s
 abbrev pub needs : Workspace → Features → Unit → List Unit
 needs ws features u = needs_of ws features u.package u.side u.what
 
--- one or more needs lead from one unit to another
+-- one unit reaches another if one or more needs lead from the first unit to the second
 pub data Reaches (ws : Workspace) (features : Features) : Unit → Unit → Type 0 where
   direct : (u v : Unit) (need : Contains (needs ws features u) v) → Reaches ws features u v
   onward : (u v w : Unit) (need : Contains (needs ws features u) v) (more : Reaches ws features v w) → Reaches ws features u w
@@ -161,6 +162,6 @@ pub data IsRoot (ws : Workspace) (features : Features) (selection : Selection) :
   binary : (p : ℕ) (owner : Package) (made : Binary) (selected : Contains selection.packages p) (package_at : slice_get ws.packages p ≡ Some owner) (there : Contains owner.binaries made) (asked : asks_binary selection made.name ≡ true)
       (on : All (Contains (features_at features p Target)) made.required_features) → IsRoot ws features selection (unit p Target (Bin made.name))
 
--- the plan has the unit: it is a root, or a root reaches it
+-- the plan has the unit: the unit is a root, or a root reaches the unit
 abbrev pub IsPlanned : Workspace → Features → Selection → Unit → Type 0
 IsPlanned ws features selection u = IsRoot ws features selection u ⊎ ((r : Unit) × IsRoot ws features selection r × Reaches ws features r u)

@@ -110,7 +110,7 @@ fn run_number(owner: usize, side: Side) -> usize
     }
 }
 
-/// Returns whether an entry leads to a need of this kind.
+/// Returns whether an entry leads to a unit by this kind of need.
 fn leads(workspace: &SettledWorkspace, need: Need, entry: &Entry) -> bool
     ensures { result ≡ leads need workspace.now entry.now }
 {
@@ -134,8 +134,8 @@ fn needed_number(need: Need, owner: usize, side: Side) -> usize
     }
 }
 
-/// Adds the numbers of the units that the package at an index needs in this way, because its
-/// enabled entries lead to them.
+/// Adds the numbers of the units to which the enabled entries of the package at an index lead by
+/// this kind of need.
 pub(crate) fn add_needed(
     numbers: &mut Vec<usize>,
     workspace: &SettledWorkspace,
@@ -157,7 +157,7 @@ pub(crate) fn add_needed(
     Ok(())
 }
 
-/// Adds the package's own library, if the package has a library.
+/// Adds the number of the package's own library, if the package has a library.
 pub(crate) fn add_own_library(
     numbers: &mut Vec<usize>,
     workspace: &SettledWorkspace,
@@ -174,7 +174,7 @@ pub(crate) fn add_own_library(
     Ok(())
 }
 
-/// Adds the run of the package's own script, if the package has a script.
+/// Adds the number of the run of the package's own script, if the package has a script.
 pub(crate) fn add_own_run(
     numbers: &mut Vec<usize>,
     workspace: &SettledWorkspace,

@@ -83,8 +83,8 @@ fn by_run(
     Ok(numbers)
 }
 
-/// Returns what a unit needs: its own library, other libraries, tools and runs. What the unit makes
-/// determines which of these it needs.
+/// Returns what a unit needs: its own library, other libraries, tools and runs. Which of these a
+/// unit needs depends on what the unit makes.
 pub(crate) fn needed_by(
     alloc: Global,
     workspace: &SettledWorkspace,

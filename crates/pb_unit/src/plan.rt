@@ -35,18 +35,18 @@ pub struct Planned {
     pub unit: Unit,
     /// Its key.
     pub key: Text,
-    /// Its output folder. This folder has the unit's key as its name. It is in the folder of the
-    /// profile, which is in the target folder.
+    /// The unit's output folder. The folder's name is the unit's key. The folder is in the
+    /// profile's folder, which is in the target folder.
     pub out: PathText,
-    /// Its level: 0 if the unit needs nothing, and otherwise one more than the greatest level of
-    /// the units that it needs.
+    /// The unit's level: 0 if the unit needs nothing, and otherwise one more than the greatest
+    /// level of the units that it needs.
     pub level: usize,
-    /// The indices, in the plan, of the units that it needs, ascending, each once.
+    /// The indices, in the plan, of the units that this unit needs, ascending, each once.
     pub needs: Items<usize>,
-    /// The indices, in the plan, of all units that it reaches: the units that it needs, the units
-    /// that those need, and so on. The indices are ascending, each once.
+    /// The indices, in the plan, of all units that this unit reaches: the units that it needs, the
+    /// units that those need, and so on. The indices are ascending, each once.
     pub reaches: Items<usize>,
-    /// The settings of its package in the unit's role.
+    /// The settings of the unit's package in the unit's role.
     pub settings: Settings,
 }
 
@@ -181,7 +181,7 @@ fn out_of(alloc: Global, frame: &ProfileContext<'_>, key: &Text) -> Result<PathT
     Ok(out)
 }
 
-/// Returns the settings of a unit's package in its role.
+/// Returns the settings of a unit's package in the unit's role.
 fn settings_of(workspace: &Workspace, frame: &ProfileContext<'_>, unit: &Unit) -> Settings
     requires { unit.now.package < length workspace.now.packages }
     ensures { (owner : Package) × (slice_get workspace.now.packages unit.now.package ≡ Some owner)
@@ -330,8 +330,8 @@ impl Plan {
     }
 
     /// Returns the level of the unit at this index. The level is 0 if the unit needs nothing or
-    /// does not exist. Otherwise it is one more than the greatest level of the units that this unit
-    /// needs. No memory is used.
+    /// does not exist. Otherwise the level is one more than the greatest level of the units that
+    /// this unit needs. No memory is used.
     pub fn level(&self, index: usize) -> usize
         ensures { result ≡ level_at self.now.planned index }
     {

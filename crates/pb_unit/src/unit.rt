@@ -25,9 +25,9 @@ pub enum What {
 /// choice).
 #[derive(Drop)]
 pub struct Unit {
-    /// The index of its package in the workspace.
+    /// The index of the unit's package in the workspace.
     pub package: usize,
-    /// The side for which it is made.
+    /// The side for which the unit is made.
     pub side: Side,
     /// What is made.
     pub what: What,

@@ -7,8 +7,8 @@ use Rattle.pb_workspace_types.specs.declared.options.Selection.{Selection}
 use Rattle.pb_workspace_types.specs.declared.package.Side.{Side}
 use Rattle.pb_workspace_types.specs.declared.workspace.Workspace.{Workspace}
 
--- if features are resolved twice for the same selection, both results answer each question about
--- features in the same way
+-- if `f` and `g` are both features as resolved for one selection, `f` and `g` answer each question
+-- about features in the same way
 abbrev pub FeaturesAreOne : Type 0
 FeaturesAreOne = (ws : Workspace) (selection : Selection) (f g : Features) → IsResolved ws selection f → IsResolved ws selection g
     → (p : ℕ) (s : Side) → (is_active f p s ≡ is_active g p s) × (features_at f p s ≡ features_at g p s) × ((n : ℕ) → is_enabled f p s n ≡ is_enabled g p s n)

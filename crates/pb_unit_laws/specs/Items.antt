@@ -1,4 +1,4 @@
--- Which fault the items of a package's features have, if they have one (The Cargo Book, Features).
+-- Which items of a package's features have a fault, and which fault (The Cargo Book, Features).
 use Rattle.std.specs.Prelude.{◌≡◌, ℕ, Bool, true, false, ◌&&◌, ◌||◌, not, if◌then◌else◌, List, Option, Some, None, slice_get}
 use Rattle.std.specs.List.{filter_map, flat_map, list_any}
 use Rattle.std.specs.Str.{bytes_eq}
@@ -12,9 +12,9 @@ use Rattle.pb_workspace_types.specs.Workspace.{has_feature_named}
 use Rattle.pb_workspace_types.specs.declared.package.Entry.{Entry}
 use Rattle.pb_workspace_types.specs.declared.package.Package.{Package}
 
--- The fault of a name that must be the name of an entry, or of an optional entry if `optional` is
--- true. If entries have the name, but none of them is optional, the fault is `NotOptional`. If
--- neither an entry nor a key of `[dev-dependencies]` has the name, the fault is `NoSuchDependency`.
+-- Some entry must have the name; if `optional` is true, an optional entry must have it. If only
+-- entries that are not optional have the name, the fault is `NotOptional`. If neither an entry nor
+-- a key of `[dev-dependencies]` has the name, the fault is `NoSuchDependency`.
 abbrev pub name_fault : Package → Bool → List ℕ → Option FeatureFault
 name_fault p optional name =
     if list_any (λ (e : Entry). bytes_eq name e.key && (e.optional || not optional)) p.entries then None

@@ -22,12 +22,12 @@ KindsAreThese = (what : What) → ((is_library what ≡ true) ↔ (what ≡ Lib)
 abbrev pub RolesAreThese : Type 0
 RolesAreThese = (u : OfPlan) → role_of u ≡ (if is_script u.what then Host else u.side)
 
--- The folder of a unit is that of its package, or that of the workspace if there is no such
--- package.
+-- The folder of a unit is the folder of the unit's package, or the workspace's root if there is no
+-- such package.
 abbrev pub FoldersArePackages : Type 0
 FoldersArePackages = (project : Project) (u : Planned) → folder_of project u ≡ option_map_or (λ (p : Package). p.folder) (package_of project u) project.workspace.root
 
--- The directives at an index are those of the run at this index. If no run at this index has ended,
--- there are no directives.
+-- The directives at an index are the directives of the run at this index. If no run at this index
+-- has ended, there are no directives.
 abbrev pub RunsSay : Type 0
 RunsSay = (done : List (Option (List Directive))) (index : ℕ) → said_at done index ≡ unwrap_or (option_flatten (slice_get done index)) []

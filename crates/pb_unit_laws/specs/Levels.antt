@@ -7,8 +7,8 @@ use Rattle.pb_unit.specs.Plan.{above, level_at}
 use Rattle.pb_unit.specs.Units.{has_library, name_at}
 use Rattle.pb_unit.specs.declared.plan.Planned.{Planned}
 
--- For the levels at some indices, `above` is one more than the greatest of these levels, or 0 if
--- there are no indices. An index without a unit has the level 0.
+-- `above` is one more than the greatest of the levels at some indices. If there are no indices,
+-- `above` is 0. An index without a unit has the level 0.
 abbrev pub LevelsAreThese : Type 0
 LevelsAreThese = (units : List Planned) (indices : List ℕ)
     → above (map (level_at units) indices) ≡ fold max 0 (map (λ index. option_map_or (λ (p : Planned). p.level + 1) (slice_get units index) 1) indices)

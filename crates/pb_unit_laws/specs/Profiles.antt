@@ -20,14 +20,15 @@ pub data Inherits (profiles : List Profile) : List ℕ → List ℕ → Type 0 w
   bench : Inherits profiles (codes "bench") (codes "release")
   custom : (name parent : List ℕ) (p : Profile) (other : is_either (codes "dev") (codes "release") name || is_either (codes "test") (codes "bench") name ≡ false) (there : named profiles name ≡ Some p) (written : p.inherits ≡ Some parent) → Inherits profiles name parent
 
--- the ancestor is the profile itself, or the profile inherits from it in one or more steps
+-- the ancestor is the profile itself, or the profile inherits from the ancestor in one or more
+-- steps
 pub data IsAncestor (profiles : List Profile) : List ℕ → List ℕ → Type 0 where
   itself : (name : List ℕ) → IsAncestor profiles name name
   higher : (name parent ancestor : List ℕ) (inherits : Inherits profiles name parent) (more : IsAncestor profiles parent ancestor) → IsAncestor profiles name ancestor
 
--- The line of a profile ends at `dev` or `release`. The line is a fault if an ancestor inherits
--- from itself after some steps. It is also a fault if an ancestor inherits from no profile, but is
--- neither `dev` nor `release`.
+-- The line of a profile ends at `dev` or `release`. There is a fault instead of a line if an
+-- ancestor inherits from itself after some steps. There is also a fault if an ancestor inherits
+-- from no profile, but is neither `dev` nor `release`.
 pub data IsLine (profiles : List Profile) : List ℕ → Result (List Seen) ProfileFault → Type 0 where
   last : (name : List ℕ) (built_in : is_either (codes "dev") (codes "release") name ≡ true) → IsLine profiles name (Ok (seen_at profiles name ∷ []))
   further : (name parent : List ℕ) (line : List Seen) (inherits : Inherits profiles name parent) (rest : IsLine profiles parent (Ok line)) → IsLine profiles name (Ok (seen_at profiles name ∷ line))

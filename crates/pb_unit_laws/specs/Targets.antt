@@ -19,15 +19,15 @@ use Rattle.pb_unit.specs.declared.unit.Unit.{Unit as OfPlan}
 use Rattle.pb_unit.specs.declared.unit.What.{What}
 use Rattle.pb_unit.specs.declared.unit.What.TheVariants.{Lib, Bin, Script, Run}
 
--- The package has a target of this kind. The target has the name of its crate, its crate types, its
--- source, and the name of the compiled file.
+-- The package has a target of this kind. A target has a crate name, crate types, a source, and the
+-- name of the compiled file.
 pub data IsTarget (p : Package) : What → List ℕ → List CrateType → List ℕ → List ℕ → Type 0 where
   library : (l : Library) (has : p.library ≡ Some l) → IsTarget p Lib l.name l.crate_types l.source (codes "lib" ++ l.name ++ codes ".rlib")
   binary : (b : Binary) (has : Contains p.binaries b) → IsTarget p (Bin b.name) (underscored b.name) (crate_type.Bin ∷ []) b.source (underscored b.name)
   script : (source : List ℕ) (has : p.script ≡ Some source) → IsTarget p Script (codes "build_script_build") (crate_type.Bin ∷ []) source (codes "build_script_build")
 
--- The unit compiles the target with these parts. The unit's output folder contains the compiled
--- file, and the file `CRATE.d`, which lists what was read.
+-- The unit compiles the target with these parts. The compiled file is in the unit's output folder.
+-- So is the file `CRATE.d`, which lists what the compiler read.
 pub record Makes (project : Project) (u : Planned) (p : Package) (crate : List ℕ) (types : List CrateType) (source file : List ℕ) : Type 0 where
   pub crate_is : crate_name_of project u ≡ crate
   pub types_are : crate_types p.library u.unit.what ≡ types
@@ -35,8 +35,8 @@ pub record Makes (project : Project) (u : Planned) (p : Package) (crate : List �
   pub file_is : made_file_of project u ≡ file_in u.out file
   pub told : dep_info_of project u ≡ file_in u.out (crate ++ codes ".d")
 
--- Each unit of a package compiles its own target, if the package's binaries are sorted by name.
--- They are sorted in a workspace that was read.
+-- If a package's binaries are sorted by name, each unit of the package compiles its own target. In
+-- a workspace that was read, the binaries are sorted.
 abbrev pub UnitsMakeTargets : Type 0
 UnitsMakeTargets = (project : Project) (u : Planned) (p : Package) (crate : List ℕ) (types : List CrateType) (source file : List ℕ) → package_of project u ≡ Some p → IsAscending (map (λ (b : Binary). b.name) p.binaries)
     → IsTarget p u.unit.what crate types source file → Makes project u p crate types source file

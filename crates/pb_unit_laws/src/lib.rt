@@ -60,13 +60,13 @@ pub fn kinds_are_these()
     ensures said { RunsSay }
 {}
 
-/// A law: for each key, the setting of a package in a role is the first value that counts for the
-/// key.
+/// A law about the settings of a package in a role. A key that is fixed in this role has its fixed
+/// value. Any other key has the first value that counts for the key.
 pub fn settings_are_these()
     ensures { SettingsAreThese }
 {}
 
-/// This law says what `above` is for the levels of units at some indices. It also says what
+/// This law says what `above` is for the levels of units at some indices. The law also says what
 /// `name_at` and `has_library` are for the package at an index.
 pub fn levels_are_these()
     ensures levels { LevelsAreThese }

@@ -11,7 +11,7 @@ use pb_workspace_types::{LoadFault, SelectedWorkspace, SettledWorkspace};
 use std::alloc::Global;
 use std::test::Fail;
 
-/// Puts what is selected: the places, or the refusal.
+/// Puts what is selected: the indices, or the refusal.
 fn put_selected(out: &mut Shown, answer: &Result<SelectedWorkspace<'_>, LoadFault>) {
     match answer {
         Ok(chosen) => put_indices(out, "", chosen.selection().packages.as_slice()),

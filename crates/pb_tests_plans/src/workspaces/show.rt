@@ -32,7 +32,7 @@ fn put_fault(out: &mut Shown, fault: &LoadFault) {
     out.put(&["\n"]);
 }
 
-/// Puts a line of a word and places.
+/// Puts a line of a word and indices.
 pub fn put_indices(out: &mut Shown, word: &str, indices: &[usize]) {
     out.put(&[word]);
     for index in indices {
