@@ -9,7 +9,8 @@ use std::alloc::{AllocError, Global};
 /// The greatest number of folders above a package that are examined.
 const MOST_FOLDERS: usize = 16;
 
-/// Returns whether `members` of a root manifest matches a folder. Here a `*` matches slashes too.
+/// Returns whether `members` of a root manifest matches a folder. In this function a `*` matches
+/// slashes, too.
 fn lists(alloc: Global, page: &Page, folder: &PathText) -> Result<bool, AllocError> {
     let root = page.path.folder(alloc)?;
     for pattern in texts_of(alloc, page, "members")?.as_slice() {

@@ -1,4 +1,4 @@
-//! Notes on a missing manifest: what names it.
+//! Notes on a missing manifest: what names the manifest.
 
 ghost use Rattle.pb_tool_notes_pages.specs.Looks.{LooksAgain};
 

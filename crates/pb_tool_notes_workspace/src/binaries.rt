@@ -137,7 +137,7 @@ fn push_written(alloc: Global, names: &mut Vec<Text>, page: &Page) -> Result<(),
 }
 
 /// Adds the names of the binaries of a package: those that its manifest writes, then those that are
-/// found in its folder. A binary may be among both.
+/// found in its folder. A binary may be in both groups.
 pub(crate) fn push_binaries<P: Place>(
     alloc: Global,
     place: &mut P,

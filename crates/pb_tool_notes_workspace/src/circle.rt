@@ -14,7 +14,7 @@ struct Step<'a> {
     name: &'a str,
     /// The path of its manifest.
     path: &'a str,
-    /// The number of the step before it.
+    /// The number of the step before this step.
     before: usize,
 }
 

@@ -242,7 +242,7 @@ fn entry_of<'a>(page: &'a Page, ask: &Ask) -> Option<&'a Value> {
     }
 }
 
-/// Adds a note on each feature that an entry names and that the entry's package does not have.
+/// Adds a note on each feature that an entry names but the entry's package does not have.
 fn tell_entry(
     alloc: Global,
     notes: &mut Notes,
@@ -274,7 +274,7 @@ fn tell_entry(
     Ok(())
 }
 
-/// Adds a note on each feature that any entry names and that the entry's package does not have.
+/// Adds a note on each feature that any entry names but the entry's package does not have.
 pub fn tell_entries(alloc: Global, notes: &mut Notes, pages: &Pages) -> Result<(), AllocError> {
     for ask in pages.asks.as_slice() {
         if let (Some(page), Some(to)) = (pages.at(ask.by.as_str()), pages.at(ask.path.as_str())) {

@@ -107,6 +107,24 @@ pub fn tell_no_inherited(
     Ok(())
 }
 
+/// Returns what is wrong with the source of the workspace's entry with this key, in words. Returns
+/// none if the entry has a path, and neither `git` nor `registry`.
+fn source_fault(root: &Page, key: &str) -> Option<&'static str> {
+    let Some(shared) = shared_entry(root, key) else {
+        return Some("which has no path");
+    };
+    if shared.get("git").is_some() {
+        return Some("in which git is not supported");
+    }
+    if shared.get("registry").is_some() {
+        return Some("in which registry is not supported");
+    }
+    match shared.get("path") {
+        Some(_) => None,
+        None => Some("which has no path"),
+    }
+}
+
 /// Adds a note on each entry that inherits an entry of the workspace, if the source of the
 /// workspace's entry is not supported.
 pub fn tell_taken_sources(
@@ -123,17 +141,12 @@ pub fn tell_taken_sources(
             continue;
         };
         for (key, value) in entries {
-            let has_path = match shared_entry(root, key.as_str()) {
-                Some(shared) => {
-                    shared.get("path").is_some()
-                        && shared.get("git").is_none()
-                        && shared.get("registry").is_none()
-                }
-                None => false,
-            };
-            if takes(value) && gives_entry(root, key.as_str()) && !has_path {
+            if !takes(value) || !gives_entry(root, key.as_str()) {
+                continue;
+            }
+            if let Some(fault) = source_fault(root, key.as_str()) {
                 let text = format!(in alloc;
-                    "it inherits workspace.dependencies.{} of {}, whose source is not only a path",
+                    "it inherits workspace.dependencies.{} of {}, {fault}",
                     key.as_str(),
                     root.path.as_str()
                 )?;

@@ -216,7 +216,8 @@ pub fn tell_binaries<P: Place>(
     Ok(())
 }
 
-/// Returns whether a pattern matches a member that was read. Here a `*` matches slashes too.
+/// Returns whether a pattern matches a member that was read. In this function a `*` matches
+/// slashes, too.
 fn is_met(
     alloc: Global,
     pages: &Pages,

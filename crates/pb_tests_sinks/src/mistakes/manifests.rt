@@ -154,7 +154,22 @@ name = "m"
 serde = { workspace = true }
 ---
 note: `/w/m/Cargo.toml` is refused: a dependency has a source other than `path`
-note: in /w/m/Cargo.toml, line 4, key dependencies.serde: it inherits workspace.dependencies.serde of /w/Cargo.toml, whose source is not only a path
+note: in /w/m/Cargo.toml, line 4, key dependencies.serde: it inherits workspace.dependencies.serde of /w/Cargo.toml, which has no path
+error: refused UnsupportedSource
+=== [dependencies.shared] an entry that is taken and has a path and git
+@ /w/Cargo.toml
+[workspace]
+members = ["m"]
+[workspace.dependencies]
+web = { path = "web", git = "https://w" }
+@ /w/m/Cargo.toml
+[package]
+name = "m"
+[dependencies]
+web = { workspace = true }
+---
+note: `/w/m/Cargo.toml` is refused: a dependency has a source other than `path`
+note: in /w/m/Cargo.toml, line 4, key dependencies.web: it inherits workspace.dependencies.web of /w/Cargo.toml, in which git is not supported
 error: refused UnsupportedSource
 === [manifest.order] a table for a target
 @ /w/Cargo.toml
