@@ -133,7 +133,7 @@ fn assert_cases<T: Trial>(
 /// Rules: `tool.notes`.
 #[test]
 fn mistakes_in_a_manifest(rt: HostRuntime) -> Result<(), Fail> {
-    assert_cases(&rt, rt.alloc(), manifests::CASES, &MistakeCases {}, 18)?;
+    assert_cases(&rt, rt.alloc(), manifests::CASES, &MistakeCases {}, 19)?;
     Ok(())
 }
 
